@@ -1,0 +1,29 @@
+-- What holds of each element of a list. Assumes nothing.
+use mathlib.Core.Bool.{Bool, true, _&&_}
+use mathlib.Core.List.{List, [], _∷_, _++_}
+
+abbrev pub All : {A : Type 0} → (A → Type 0) → List A → Type 0
+All P [] = Unit {0}
+All P (x ∷ xs) = P x × All P xs
+
+module _ {A : Type 0} (P : A → Type 0) where
+  pub all-append : (xs ys : List A) → All P xs → All P ys → All P (xs ++ ys)
+  all-append [] ys h k = k
+  all-append (x ∷ xs) ys h k = (h .0, all-append xs ys (h .1) k)
+
+  pub all-left : (xs ys : List A) → All P (xs ++ ys) → All P xs
+  all-left [] ys h = tt
+  all-left (x ∷ xs) ys h = (h .0, all-left xs ys (h .1))
+
+  pub all-right : (xs ys : List A) → All P (xs ++ ys) → All P ys
+  all-right [] ys h = h
+  all-right (x ∷ xs) ys h = all-right xs ys (h .1)
+
+  pub all-map : (Q : A → Type 0) → ((x : A) → P x → Q x) → (xs : List A) → All P xs → All Q xs
+  all-map Q f [] h = tt
+  all-map Q f (x ∷ xs) h = (f x (h .0), all-map Q f xs (h .1))
+
+-- whether a test passes at each element
+unfoldable pub every : {A : Type 0} → (A → Bool) → List A → Bool
+every p [] = true
+every p (x ∷ xs) = p x && every p xs

@@ -1,0 +1,4 @@
+pub mod All
+pub mod Refusal
+pub mod RefusalLaws
+pub mod Tests

@@ -1,0 +1,1 @@
+// Words and laws that several crates' contracts and proofs share. There is no code here: see specs/.

@@ -1,0 +1,10 @@
+pub mod Float
+pub mod Zero
+pub mod Bound
+pub mod Order
+pub mod Nan
+pub mod Sign
+pub mod Finite
+pub mod Binary64
+pub mod Exact
+pub mod Whole

@@ -1,0 +1,182 @@
+-- What NaN, a zero and 1 do in sums and products, and signs of sums and products. Assumes nothing.
+use mathlib.Core.Path.{_≡_, refl, sym, _∙_, subst}
+use mathlib.Core.Bool.{Bool, true, false, Bool·beq, cond, true≢false}
+use Prim.Native.Nat.{ℕ, zero, suc, _+_, _-_, _*_, _/_, _%_, _^_, _<_, compare}
+use native.Mathlib.Nat.{mul-one, zero-mul, mul-pos, zero-lt-suc}
+use native.Mathlib.Omega.{arith}
+use borrow.Author.Tests.{lt-ltb, le-ltb}
+use lib.Dec.{T, ltb, eqb, eqb·suc-zero}
+use lib.IntN.{ℤ, pos}
+use lib.Ieee.{Float, nan, inf, fin, Format, binary64, ofBits, up, down, unlike, fits, low, prec, emax, size, nearest, odd, units, round, sum, add, mul, eq}
+use lib.Ieee.Fits.{up-pos, down-pos}
+use lib.Ieee.Scale.{round-same}
+use Rattle.float.specs.Float.{isFinite}
+use Rattle.float.specs.Sign.{plusZero, eq-zero, fits-zero}
+use Rattle.float.specs.Exact.{round-own}
+
+-- ---- NaN
+pub mul-nan : (f : Format) (x : Float) → mul f x nan ≡ nan
+unfolding mul
+mul-nan f nan = refl
+mul-nan f (inf s) = refl
+mul-nan f (fin s m e) = refl
+
+pub add-nan : (f : Format) (x : Float) → add f x nan ≡ nan
+unfolding add
+add-nan f nan = refl
+add-nan f (inf s) = refl
+add-nan f (fin s m e) = refl
+
+-- ---- a finite product's factors and a finite sum's terms are finite
+nan-or-inf : (c : Bool) (s : Bool) → isFinite (cond c nan (inf s)) ≡ false
+unfolding isFinite
+nan-or-inf true s = refl
+nan-or-inf false s = refl
+
+pub finite-factors : (f : Format) (x y : Float) → isFinite (mul f x y) ≡ true → (isFinite x ≡ true) × (isFinite y ≡ true)
+unfolding mul isFinite
+finite-factors f nan y h = absurd (true≢false (sym h))
+finite-factors f (inf s) nan h = absurd (true≢false (sym h))
+finite-factors f (inf s) (inf t) h = absurd (true≢false (sym h))
+finite-factors f (inf s) (fin t n d) h = absurd (true≢false (sym h ∙ nan-or-inf (eqb n 0) (unlike s t)))
+finite-factors f (fin s m e) nan h = absurd (true≢false (sym h))
+finite-factors f (fin s m e) (inf t) h = absurd (true≢false (sym h ∙ nan-or-inf (eqb m 0) (unlike s t)))
+finite-factors f (fin s m e) (fin t n d) h = (refl, refl)
+
+inf-or-nan : (c : Bool) (s : Bool) → isFinite (cond c (inf s) nan) ≡ false
+unfolding isFinite
+inf-or-nan true s = refl
+inf-or-nan false s = refl
+
+pub finite-terms : (f : Format) (x y : Float) → isFinite (add f x y) ≡ true → (isFinite x ≡ true) × (isFinite y ≡ true)
+unfolding add isFinite
+finite-terms f nan y h = absurd (true≢false (sym h))
+finite-terms f (inf s) nan h = absurd (true≢false (sym h))
+finite-terms f (inf s) (inf t) h = absurd (true≢false (sym h ∙ inf-or-nan (Bool·beq s t) s))
+finite-terms f (inf s) (fin t n d) h = absurd (true≢false (sym h))
+finite-terms f (fin s m e) nan h = absurd (true≢false (sym h))
+finite-terms f (fin s m e) (inf t) h = absurd (true≢false (sym h))
+finite-terms f (fin s m e) (fin t n d) h = (refl, refl)
+
+-- ---- a zero
+abbrev pub zeroOf : Bool → Float
+zeroOf s = fin s 0 (pos 0)
+
+round-zero : (s : Bool) (c : ℕ) → 0 < c → round binary64 s 0 c ≡ zeroOf s
+unfolding round
+round-zero true c h = round-same binary64 true 0 c 0 1 h (omega arith) (omega arith)
+round-zero false c h = round-same binary64 false 0 c 0 1 h (omega arith) (omega arith)
+
+pub zero-times : (s t : Bool) (n : ℕ) (d : ℤ) → mul binary64 (zeroOf s) (fin t n d) ≡ zeroOf (unlike s t)
+unfolding mul
+zero-times s t n d =
+    let z : 0 * (n * up d) ≡ 0 = zero-mul (n * up d) in
+    simp z (round-zero (unlike s t) (1 * down d) (omega (arith, down-pos d)))
+
+pub zero-times-other : (s : Bool) (x : Float) → isFinite x ≡ false → mul binary64 (zeroOf s) x ≡ nan
+unfolding mul isFinite
+zero-times-other s nan h = refl
+zero-times-other s (inf t) h = refl
+zero-times-other s (fin t n d) h = absurd (true≢false h)
+
+-- ---- a value plus +0: itself, but −0 becomes +0
+abbrev pub positiveZero : Float → Float
+positiveZero x = cond (eq x plusZero) plusZero x
+
+zero-plus : (s : Bool) (e : ℤ) → e ≡ pos 0 → add binary64 (fin s zero e) plusZero ≡ positiveZero (fin s zero e)
+unfolding add ofBits eq
+zero-plus true e h = rw h
+zero-plus false e h = rw h
+
+number-plus : (s : Bool) (m : ℕ) (e : ℤ) → T (fits binary64 (fin s (suc m) e)) → add binary64 (fin s (suc m) e) plusZero ≡ fin s (suc m) e
+unfolding add ofBits
+number-plus false m e h =
+    let a : suc m * up e * 1 + 0 * down e ≡ suc m * up e = omega arith in
+    let c : down e * 1 ≡ down e = mul-one (down e) in
+    simp (a, c) (round-own binary64 false m e h)
+number-plus true m e h =
+    let p : 0 < suc m * up e = mul-pos (zero-lt-suc m) (up-pos e) in
+    let i : ltb (suc m * up e * 1) (0 * down e) ≡ false = le-ltb (suc m * up e * 1) (0 * down e) (omega arith) in
+    let j : ltb (0 * down e) (suc m * up e * 1) ≡ true = lt-ltb (0 * down e) (suc m * up e * 1) (omega arith) in
+    let a : suc m * up e * 1 - 0 * down e ≡ suc m * up e = omega arith in
+    let c : down e * 1 ≡ down e = mul-one (down e) in
+    simp (i, j, a, c) (round-own binary64 true m e h)
+
+pub add-zero : (x : Float) → T (fits binary64 x) → add binary64 x plusZero ≡ positiveZero x
+unfolding add ofBits
+add-zero nan h = unfold eq in refl
+add-zero (inf s) h = unfold eq in refl
+add-zero (fin s zero e) h = zero-plus s e (fits-zero s e h)
+add-zero (fin s (suc m) e) h = number-plus s m e h ∙ simp (eq-zero s (suc m) e, eqb·suc-zero m)
+
+-- ---- a value times 1
+abbrev pub one₆₄ : Float
+one₆₄ = ofBits binary64 0x3ff0_0000_0000_0000
+
+zero-by-one : (s : Bool) (e : ℤ) → e ≡ pos 0 → mul binary64 (fin s zero e) one₆₄ ≡ fin s zero e
+unfolding mul ofBits
+zero-by-one true e h = rw h
+zero-by-one false e h = rw h
+
+pub mul-one₆₄ : (x : Float) → T (fits binary64 x) → mul binary64 x one₆₄ ≡ x
+unfolding mul ofBits
+mul-one₆₄ nan h = refl
+mul-one₆₄ (inf true) h = refl
+mul-one₆₄ (inf false) h = refl
+mul-one₆₄ (fin s zero e) h = zero-by-one s e (fits-zero s e h)
+mul-one₆₄ (fin true (suc m) e) h = simp (mul-one (suc m * up e), mul-one (down e)) (round-own binary64 true m e h)
+mul-one₆₄ (fin false (suc m) e) h = simp (mul-one (suc m * up e), mul-one (down e)) (round-own binary64 false m e h)
+
+-- ---- signs: what is 0 or more, or NaN
+abbrev pub Signed : Bool → Float → Type 0
+Signed s nan = Unit {0}
+Signed s (inf t) = t ≡ s
+Signed s (fin t m e) = t ≡ s
+
+odd-signed : (d : ℕ) (s : Bool) (q k l : ℕ) → Signed s (odd d s q k l)
+unfolding odd
+odd-signed d s zero k l = refl
+odd-signed d s (suc q) k l = refl
+
+cond-signed : (s c : Bool) (x y : Float) → Signed s x → Signed s y → Signed s (cond c x y)
+cond-signed s true x y h k = h
+cond-signed s false x y h k = k
+
+pub round-signed : (f : Format) (s : Bool) (a c : ℕ) → Signed s (round f s a c)
+unfolding round units
+round-signed f s a c =
+    let k = size (a * 2 ^ low f / c) - prec f in
+    let u = c * 2 ^ k in
+    let q = nearest (a * 2 ^ low f / u) (compare (a * 2 ^ low f % u * 2) u) in
+    cond-signed s (ltb (q * 2 ^ k) (2 ^ (low f + suc (emax f)))) (odd (suc (prec f)) s q k (low f)) (inf s) (odd-signed (suc (prec f)) s q k (low f)) refl
+
+same-sign : (s t : Bool) (x : Float) → s ≡ t → Signed s x → Signed t x
+same-sign s t x h k = subst (λ (u : Bool). Signed u x) h k
+
+sum-signed : (f : Format) (a b c : ℕ) → Signed false (sum f false a false b c)
+unfolding sum
+sum-signed f a b c = round-signed f false (a + b) c
+
+pub mul-signed : (f : Format) (s t : Bool) (x y : Float) → Signed s x → Signed t y → Signed (unlike s t) (mul f x y)
+unfolding mul
+mul-signed f s t nan y h k = tt
+mul-signed f s t (inf u) nan h k = tt
+mul-signed f s t (inf u) (inf v) h k = λ i. unlike (h i) (k i)
+mul-signed f s t (inf u) (fin v n d) h k = cond-signed (unlike s t) (eqb n 0) nan (inf (unlike u v)) tt (λ i. unlike (h i) (k i))
+mul-signed f s t (fin u m e) nan h k = tt
+mul-signed f s t (fin u m e) (inf v) h k = cond-signed (unlike s t) (eqb m 0) nan (inf (unlike u v)) tt (λ i. unlike (h i) (k i))
+mul-signed f s t (fin u m e) (fin v n d) h k = same-sign (unlike u v) (unlike s t) (round f (unlike u v) (m * up e * (n * up d)) (down e * down d)) (λ i. unlike (h i) (k i)) (round-signed f (unlike u v) (m * up e * (n * up d)) (down e * down d))
+
+pub add-signed : (f : Format) (x y : Float) → Signed false x → Signed false y → Signed false (add f x y)
+unfolding add
+add-signed f nan y h k = tt
+add-signed f (inf s) nan h k = tt
+add-signed f (inf true) (inf t) h k = absurd (true≢false h)
+add-signed f (inf false) (inf true) h k = absurd (true≢false k)
+add-signed f (inf false) (inf false) h k = refl
+add-signed f (inf s) (fin t n d) h k = h
+add-signed f (fin s m e) nan h k = tt
+add-signed f (fin s m e) (inf t) h k = k
+add-signed f (fin true m e) (fin t n d) h k = absurd (true≢false h)
+add-signed f (fin false m e) (fin true n d) h k = absurd (true≢false k)
+add-signed f (fin false m e) (fin false n d) h k = sum-signed f (m * up e * down d) (n * up d * down e) (down e * down d)
