@@ -1,0 +1,4 @@
+mod Steps
+mod Rounds
+mod Patterns
+mod Exponents
