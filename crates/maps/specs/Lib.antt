@@ -1,0 +1,3 @@
+pub mod Maps
+pub mod Written
+pub mod Accepted
