@@ -1,0 +1,2 @@
+pub mod Zhang
+pub mod Exact
