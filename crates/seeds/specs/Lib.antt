@@ -1,0 +1,9 @@
+pub mod Layout
+pub mod LayoutLaws
+pub mod Merge
+pub mod MergeLaws
+pub mod Rules
+pub mod RulesLaws
+pub mod Facts
+pub mod Tried
+pub mod Mirror
