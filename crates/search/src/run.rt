@@ -1,0 +1,239 @@
+// The run's record, which the calls of a search hand on. It holds numbers, bools and structs of those.
+
+ghost use mathlib.Core.Path.{_≡_};
+ghost use Prim.Native.Nat.{_<_, _≤_};
+ghost use Rattle.search.specs.Record.{sound, hasPlace, nextStep};
+use best::Best;
+use best::Candidate;
+use models::intrinsics::FxFyCxCy;
+use models::math::Pt2;
+use models::sensor::ScheimpflugParams;
+use score::Outcome;
+use seeds::CandidateSeed;
+
+// What the search was asked for. The names are those of the Rust's options.
+#[repr(C)]
+pub struct Options {
+    pub refine_rounds: usize,
+    pub refine_step: f64,
+    pub max_abs_tilt: f64,
+}
+
+// How far the run has come. `demand` is how many numbers the lent list must have. `step` is the one that the current list was made with,
+// 0 in round 0. Of the list's `len` seeds the first `at` are answered. `number` is the next candidate's, counted over the run.
+pub struct Place {
+    pub demand: usize,
+    pub round: usize,
+    pub step: f64,
+    pub len: usize,
+    pub at: usize,
+    pub number: usize,
+    pub over: bool,
+}
+
+// The seed that was handed out and is not answered yet. Its numbers are 0 where there is none.
+pub struct Waiting {
+    pub is_waiting: bool,
+    pub seed: CandidateSeed,
+}
+
+pub struct Run {
+    pub options: Options,
+    pub center: Pt2,
+    pub place: Place,
+    pub waiting: Waiting,
+    pub round_best: Best,
+    pub run_best: Best,
+}
+
+// An open run has a seed left in its list, and where the run is over, none waits.
+fn has_place(place: Place, waiting: Waiting) -> bool
+    ensures { λ r. ⌜ r ≡ hasPlace place waiting ⌝ }
+{
+    if place.over {
+        return !waiting.is_waiting;
+    }
+    place.at < place.len
+}
+
+// Whether Start or a call can have made this record: all that the calls' sums and indexes need.
+pub fn is_sound(run: Run) -> bool
+    ensures { λ r. ⌜ r ≡ sound run ⌝ }
+{
+    let options = run.options;
+    let place = run.place;
+    let waiting = run.waiting;
+    if 512 < place.len {
+        return false;
+    }
+    (options.refine_rounds <= 16)
+        & (place.round <= options.refine_rounds)
+        & (place.number <= 656)
+        & (6 * place.len <= place.demand)
+        & (54 <= place.demand)
+        & (place.demand <= 3072)
+        & has_place(place, waiting)
+}
+
+// No seed waits.
+pub fn nobody() -> Waiting
+    ensures { λ r. ⌜ r ≡ Rattle.search.specs.Record.nobody ⌝ }
+{
+    Waiting {
+        is_waiting: false,
+        seed: CandidateSeed {
+            reference_k: FxFyCxCy {
+                fx: 0.0,
+                fy: 0.0,
+                cx: 0.0,
+                cy: 0.0,
+            },
+            sensor: ScheimpflugParams {
+                tilt_x: 0.0,
+                tilt_y: 0.0,
+            },
+        },
+    }
+}
+
+// The run with a seed that waits for its answer.
+pub fn awaiting(run: Run, seed: CandidateSeed) -> Run
+    ensures { λ r. ⌜ r ≡ Rattle.search.specs.Record.awaiting run seed ⌝ }
+{
+    let options = run.options;
+    let center = run.center;
+    let place = run.place;
+    let round_best = run.round_best;
+    let run_best = run.run_best;
+    Run {
+        options,
+        center,
+        place,
+        waiting: Waiting {
+            is_waiting: true,
+            seed,
+        },
+        round_best,
+        run_best,
+    }
+}
+
+// A best after the outcome of the candidate with this number and these tilts.
+fn with_outcome(best: Best, number: usize, sensor: ScheimpflugParams, outcome: Outcome) -> Best
+    ensures { λ r. ⌜ r ≡ Rattle.search.specs.Record.withOutcome best number sensor outcome ⌝ }
+{
+    match outcome {
+        Outcome::Skipped(_) => best,
+        Outcome::Scored(scoring) => {
+            let camera = scoring.camera;
+            best::improved(
+                best,
+                Candidate {
+                    number,
+                    camera,
+                    sensor,
+                    mean_reproj_error: scoring.mean,
+                    score: scoring.score,
+                },
+            )
+        }
+    }
+}
+
+// The waiting seed's outcome is entered: nothing waits, and the place moves on by one.
+pub fn entered(run: Run, outcome: Outcome) -> Run
+    requires { ⌜ (run .place .at < 512) × (run .place .number ≤ 656) ⌝ }
+    ensures { λ r. ⌜ r ≡ Rattle.search.specs.Record.entered run outcome ⌝ }
+{
+    let options = run.options;
+    let center = run.center;
+    let place = run.place;
+    let waiting = run.waiting;
+    let seed = waiting.seed;
+    let sensor = seed.sensor;
+    let round_best = run.round_best;
+    let run_best = run.run_best;
+    Run {
+        options,
+        center,
+        place: Place {
+            demand: place.demand,
+            round: place.round,
+            step: place.step,
+            len: place.len,
+            at: place.at + 1,
+            number: place.number + 1,
+            over: place.over,
+        },
+        waiting: nobody(),
+        round_best: with_outcome(round_best, place.number, sensor, outcome),
+        run_best: with_outcome(run_best, place.number, sensor, outcome),
+    }
+}
+
+// The step of the next round's list: refine_step for round 1's, then half of the last one.
+pub fn next_step(run: Run) -> f64
+    ensures { λ r. ⌜ r ≡ nextStep run ⌝ }
+{
+    let options = run.options;
+    let place = run.place;
+    if place.round == 0 {
+        return options.refine_step;
+    }
+    place.step * 0.5
+}
+
+// The run at the start of its next round, whose list has this many seeds.
+pub fn opened(run: Run, len: usize) -> Run
+    requires { ⌜ run .place .round < 16 ⌝ }
+    ensures { λ r. ⌜ r ≡ Rattle.search.specs.Record.opened run len ⌝ }
+{
+    let options = run.options;
+    let center = run.center;
+    let place = run.place;
+    let waiting = run.waiting;
+    let run_best = run.run_best;
+    Run {
+        options,
+        center,
+        place: Place {
+            demand: place.demand,
+            round: place.round + 1,
+            step: next_step(run),
+            len,
+            at: 0,
+            number: place.number,
+            over: place.over,
+        },
+        waiting,
+        round_best: best::no_best(),
+        run_best,
+    }
+}
+
+pub fn ended(run: Run) -> Run
+    ensures { λ r. ⌜ r ≡ Rattle.search.specs.Record.ended run ⌝ }
+{
+    let options = run.options;
+    let center = run.center;
+    let place = run.place;
+    let waiting = run.waiting;
+    let round_best = run.round_best;
+    let run_best = run.run_best;
+    Run {
+        options,
+        center,
+        place: Place {
+            demand: place.demand,
+            round: place.round,
+            step: place.step,
+            len: place.len,
+            at: place.at,
+            number: place.number,
+            over: true,
+        },
+        waiting,
+        round_best,
+        run_best,
+    }
+}
