@@ -1,0 +1,22 @@
+-- Going by cases on a value, with the case as an equation. Assumes nothing.
+use Prim.Native.Nat.{ℕ}
+use mathlib.Core.Path.{_≡_, refl}
+use mathlib.Core.List.{List, [], _∷_}
+use Rattle.seeds.specs.declared.CandidateSeed.{CandidateSeed}
+use Rattle.score.specs.declared.Scoring.{Scoring}
+use Rattle.score.specs.declared.Outcome.{Outcome}
+use Rattle.score.specs.declared.Outcome.the-variants.{Skipped, Scored}
+use Rattle.best.specs.declared.Candidate.{Candidate}
+use Rattle.best.specs.Best.{Chosen, nothing, chosen}
+
+pub case-chosen : (x : Chosen) {P : Type 0} → (x ≡ nothing → P) → ((w : Candidate) → x ≡ chosen w → P) → P
+case-chosen nothing f g = f refl
+case-chosen (chosen w) f g = g w refl
+
+pub case-list : (x : List CandidateSeed) {P : Type 0} → (x ≡ [] → P) → ((s : CandidateSeed) (ss : List CandidateSeed) → x ≡ s ∷ ss → P) → P
+case-list [] f g = f refl
+case-list (s ∷ ss) f g = g s ss refl
+
+pub case-outcome : (x : Outcome) {P : Type 0} → ((n : ℕ) → x ≡ Skipped n → P) → ((s : Scoring) → x ≡ Scored s → P) → P
+case-outcome (Skipped n) f g = f n refl
+case-outcome (Scored s) f g = g s refl

@@ -1,0 +1,13 @@
+pub mod Cases
+pub mod Lists
+pub mod RunOf
+pub mod Simulation
+pub mod Growth
+pub mod Planned
+pub mod Bounds
+pub mod Winner
+pub mod Refusals
+pub mod Starts
+pub mod Walks
+pub mod Opening
+pub mod Theorem

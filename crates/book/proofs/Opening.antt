@@ -1,0 +1,161 @@
+-- An accepted Start opens the book: the run, the list that it wrote, and what holds of them. Assumes nothing.
+use Prim.Native.Nat.{ℕ, zero, suc, _+_, _*_, _/_, _≤_, _<_}
+use native.Mathlib.Nat.{mul-le-mul}
+use native.Mathlib.Omega.{arith}
+use mathlib.Core.Path.{_≡_, refl, sym, ap, _∙_}
+use mathlib.Core.Bool.{Bool, true, false, _&&_, cond, true≢false}
+use mathlib.Core.List.{List, [], _∷_}
+use borrow.Author.Tests.{ltb-true, ltb-false}
+use lib.Dec.{ltb, eqb, eqb·suc-zero}
+use lib.ListN.{length}
+use lib.Ieee.{Float}
+use Rattle.common.specs.Tests.{case, both-true}
+use Rattle.common.specs.All.{All, every}
+use Rattle.float.specs.Float.{isFinite}
+use Rattle.seeds.specs.declared.CandidateSeed.{CandidateSeed}
+use Rattle.seeds.specs.Rules.{inBound}
+use Rattle.seeds.specs.RulesLaws.{initial-length}
+use Rattle.seeds.specs.Layout.{allSeeds, seedAt, written}
+use Rattle.seeds.specs.LayoutLaws.{seeds-layout, read-length}
+use Rattle.seeds.specs.Facts.{initial-in-bound}
+use Rattle.best.specs.Best.{bestOf, firstUnbeaten}
+use Rattle.search.specs.declared.run.Run.{Run}
+use Rattle.search.specs.declared.start.Started.the-variants.{Accepted}
+use Rattle.search.specs.Start.{positive, goodSeed, demandOf, openingOf}
+use Rattle.search.specs.Laws.{Passed, start-passed}
+use Rattle.book.specs.Book.{Inputs, demand, Book, scoredOf, roundBest, runBest, stepOf, firstList, isEmpty, opened}
+use Rattle.book.specs.Theorem.{optionsOf, startOf, startedList}
+use Rattle.book.proofs.Starts.{refusal, openingRun, accepted, list-is}
+use Rattle.book.proofs.Lists.{Front, write-front}
+use Rattle.book.proofs.RunOf.{runOf, Bounded, Fine}
+use Rattle.book.proofs.Planned.{right-opened}
+use Rattle.book.proofs.Bounds.{Within, Good}
+use Rattle.book.proofs.Walks.{State}
+
+empty-is : (ss : List CandidateSeed) → eqb (length ss) 0 ≡ isEmpty ss
+empty-is [] = refl
+empty-is (s ∷ ss) = eqb·suc-zero (length ss)
+
+opening-is : (i : Inputs) → openingOf (optionsOf i) (i .center) (demandOf (length (i .decomposition) / 6) (length (i .xs)) (length (i .ys))) (length (firstList i)) ≡ runOf (opened i)
+unfolding openingOf runOf opened demand demandOf stepOf roundBest runBest scoredOf bestOf firstUnbeaten
+opening-is i = rw (empty-is (firstList i))
+
+-- ---- the demand
+demand-is : (i : Inputs) → demandOf (length (i .decomposition) / 6) (length (i .xs)) (length (i .ys)) ≡ demand i
+unfolding demandOf demand
+demand-is i = refl
+
+least-most : (n : ℕ) → (54 ≤ cond (ltb n 54) 54 n) × (n ≤ cond (ltb n 54) 54 n) × ((m : ℕ) → 54 ≤ m → n ≤ m → cond (ltb n 54) 54 n ≤ m)
+least-most n = case (ltb n 54)
+    (λ e. let p = ltb-true n 54 e in simp e (omega arith, omega arith, λ m a b. a))
+    (λ e. let p = ltb-false n 54 e in simp e (p, omega arith, λ m a b. b))
+
+-- ---- every seed of the decomposition lies within the bound
+every-all : {A : Type 0} (p : A → Bool) (xs : List A) → every p xs ≡ true → All (λ x. p x ≡ true) xs
+unfolding every
+every-all p [] h = tt
+every-all p (x ∷ xs) h = go (p x) refl (every-all p xs) h
+  where
+    go : (c : Bool) → p x ≡ c → (every p xs ≡ true → All (λ y. p y ≡ true) xs) → (c && every p xs) ≡ true → (p x ≡ true) × All (λ y. p y ≡ true) xs
+    go true e f k = (e, f k)
+    go false e f k = absurd (true≢false (sym k))
+
+good-within : (i : Inputs) (ss : List CandidateSeed) → All (λ s. goodSeed (i .max) s ≡ true) ss → All (Within i) ss
+unfolding goodSeed
+good-within i [] h = tt
+good-within i (s ∷ ss) h =
+    let k = s .«reference_k» in
+    let t = s .sensor in (
+      both-true (positive (k .fx) && positive (k .fy) && isFinite (k .cx) && isFinite (k .cy) && isFinite (t .«tilt_x») && isFinite (t .«tilt_y»)) (inBound (i .max) t) (h .0) .1,
+      good-within i ss (h .1),
+    )
+
+module _ (i : Inputs) (l : List Float) (z : refusal i l ≡ 0) where
+  abbrev D : ℕ
+  D = length (i .decomposition) / 6
+
+  abbrev X : ℕ
+  X = length (i .xs)
+
+  abbrev Y : ℕ
+  Y = length (i .ys)
+
+  start-facts : Passed (i .views) (optionsOf i) (i .xs) (i .ys) (i .decomposition) (length l)
+  start-facts = start-passed (i .views) (optionsOf i) (i .xs) (i .ys) (i .decomposition) (length l) z
+
+  list-length : length (firstList i) ≤ D + X * Y
+  unfolding firstList
+  list-length =
+      let e : length (allSeeds (i .decomposition)) ≡ D = read-length (λ m. seedAt m 0) 6 D (i .decomposition) in
+      rw e at (initial-length (allSeeds (i .decomposition)) (i .xs) (i .ys) (i .base) (i .max))
+
+  few-seeds : D + X * Y ≤ 512
+  few-seeds =
+      let s = start-facts .sizes in
+      let d = s .decomposition-max in
+      let p : X * Y ≤ 16 * 16 = mul-le-mul (s .x-max) (s .y-max) in
+      omega arith
+
+  demand-least : (54 ≤ demand i) × (6 * (D + X * Y) ≤ demand i)
+  unfolding demand
+  demand-least = let m = least-most (6 * (D + X * Y)) in (m .0, m .1)
+
+  demand-most : demand i ≤ 3072
+  unfolding demand
+  demand-most = let p = few-seeds in least-most (6 * (D + X * Y)) .2 3072 (omega arith) (omega arith)
+
+  demand-fits : demand i ≤ length l
+  demand-fits = rw demand-is at (start-facts .demand-fits)
+
+  opened-front : Front (demand i) (firstList i) (written (firstList i) l)
+  opened-front = write-front (demand i) (firstList i) l demand-fits (let p = list-length in let q = demand-least .1 in omega arith)
+
+  seeds-within : All (Within i) (firstList i)
+  unfolding firstList
+  seeds-within =
+      initial-in-bound (allSeeds (i .decomposition)) (i .xs) (i .ys) (i .base) (i .max)
+      (good-within i (allSeeds (i .decomposition)) (every-all (goodSeed (i .max)) (allSeeds (i .decomposition)) (start-facts .good-seeds)))
+
+  some-left : (ss : List CandidateSeed) → isEmpty ss ≡ false → 0 < length ss
+  some-left [] h = absurd (true≢false h)
+  some-left (s ∷ ss) h = omega arith
+
+  opened-fine : Fine (opened i) (written (firstList i) l)
+  unfolding opened
+  opened-fine = record {
+    there = opened-front;
+    bounded = opened-bounded;
+    room = λ o. some-left (firstList i) o;
+    calm = λ o. refl;
+  }
+    where
+      opened-bounded : Bounded (opened i)
+      opened-bounded = unfold opened in record {
+        few-rounds = start-facts .sizes .rounds-max;
+        in-rounds = omega arith;
+        least = demand-least .0;
+        most = demand-most;
+        counted = let p = list-length in let q = few-seeds in omega arith;
+        at-most = omega arith;
+      }
+
+  opened-good : Good i (opened i)
+  unfolding opened
+  opened-good = record { inputs-are = refl; seeds = seeds-within; proper = tt }
+
+  pub opened-state : State i (opened i) (written (firstList i) l)
+  unfolding opened
+  opened-state = record { fine = opened-fine; right = right-opened i; good = opened-good; counted = tt }
+
+-- ---- an accepted Start
+pub record Opens (i : Inputs) (l : List Float) (r : Run) : Type 0 where
+  pub run-is : r ≡ runOf (opened i)
+  pub state : State i (opened i) (startedList i l)
+
+pub opens : (i : Inputs) (l : List Float) (r : Run) → startOf i l ≡ Accepted r → Opens i l r
+opens i l r h =
+    let a = accepted i l r h in
+    record { run-is = sym (a .1) ∙ same i; state = rw (list-is i l (a .0)) (opened-state i l (a .0)) }
+  where
+    same : (i : Inputs) → openingRun i l ≡ runOf (opened i)
+    same i = unfold firstList in opening-is i

@@ -1,0 +1,178 @@
+-- The run's best is the earliest of the lowest scores, with the properties of a scored finding. Assumes nothing.
+use Prim.Native.Nat.{ℕ, zero, suc, _+_, _≤_, _<_}
+use native.Mathlib.Omega.{arith}
+use mathlib.Core.Path.{_≡_, refl, sym, ap, _∙_}
+use mathlib.Core.Bool.{Bool, true, false, not, _&&_, _||_, cond, true≢false}
+use mathlib.Core.List.{List, [], _∷_, _++_, List·Memᴰ, List·Memᴰ·head, Memᴰ·append-right}
+use lib.Dec.{ltb, eqb}
+use lib.ListN.{length}
+use lib.Ieee.{Float, lt, le, eq, isNan}
+use Rattle.common.specs.Tests.{case, both-true}
+use Rattle.common.specs.All.{All, all-append, all-left, all-right, all-map}
+use Rattle.float.specs.Order.{lt-asym, lt-irrefl, lt-not-eq, le-of-not-lt}
+use Rattle.seeds.specs.Rules.{within, inBound}
+use Rattle.score.specs.declared.Scoring.{Scoring}
+use Rattle.score.specs.Evaluation.{outcomeOf, findingRefusal}
+use Rattle.score.specs.Facts.{ScoredFacts}
+use Rattle.best.specs.declared.Candidate.{Candidate}
+use Rattle.best.specs.Best.{beats, Chosen, nothing, chosen, bestOf, firstUnbeaten, candidateOf}
+use Rattle.best.specs.Order.{Sound, Leads, best-leads, leader}
+use Rattle.book.specs.Calls.{Call, next, seed, answer, ask}
+use Rattle.book.specs.Book.{Inputs, demand, Entry, Book, entries, current, scoredOf, bookCall, after}
+use Rattle.book.specs.Theorem.{Wins}
+use Rattle.book.proofs.Cases.{case-outcome}
+use Rattle.book.proofs.Simulation.{entry}
+use Rattle.book.proofs.Growth.{enteredBy, grows}
+use Rattle.book.proofs.Bounds.{Proper}
+
+-- ---- the entries are numbered from k on
+abbrev pub Counted : ℕ → List Entry → Type 0
+Counted k [] = Unit {0}
+Counted k (e ∷ es) = (e .number ≡ k) × Counted (suc k) es
+
+counted-append : (k : ℕ) (a b : List Entry) → Counted k a → Counted (k + length a) b → Counted k (a ++ b)
+counted-append k [] b x y = let e : k + 0 ≡ k = omega arith in rw e at y
+counted-append k (c ∷ a) b x y =
+    let e : k + suc (length a) ≡ suc k + length a = omega arith in
+    (x .0, counted-append (suc k) a b (x .1) (rw e at y))
+
+entered-counted : (b : Book) (c : Call) → Counted (length (entries b)) (enteredBy b c)
+unfolding enteredBy
+entered-counted b (next n) = tt
+entered-counted b (seed n) = tt
+entered-counted b (answer n f rows flags) =
+    case (b .waits && (not (ltb n (demand (b .inputs))) && eqb (findingRefusal f rows flags) 0)) (λ t. simp t (refl, tt)) (λ t. simp t tt)
+entered-counted b ask = tt
+
+pub counted-call : (b : Book) (c : Call) → Counted 0 (entries b) → Counted 0 (entries (bookCall b c .book))
+counted-call b c h =
+    let e : length (entries b) ≡ 0 + length (entries b) = omega arith in
+    rw (grows b c) (counted-append 0 (entries b) (enteredBy b c) h (rw e at (entered-counted b c)))
+
+-- the scored ones of entries numbered from k on have numbers from k on, and they rise
+abbrev Rising : List Candidate → Type 0
+Rising [] = Unit {0}
+Rising (w ∷ ws) = All (λ v. w .number < v .number) ws × Rising ws
+
+scored-from : (k j : ℕ) (es : List Entry) → j ≤ k → Counted k es → All (λ v. j ≤ v .number) (scoredOf es)
+unfolding scoredOf
+scored-from k j [] h c = tt
+scored-from k j (e ∷ es) h c =
+    let r : All (λ v. j ≤ v .number) (scoredOf es) = scored-from (suc k) j es (omega arith) (c .1) in
+    case-outcome (e .outcome) (λ m q. simp (scoredOf, q) r) (λ g q. simp (scoredOf, q) (rw (c .0) h, r))
+
+scored-rising : (k : ℕ) (es : List Entry) → Counted k es → Rising (scoredOf es)
+unfolding scoredOf
+scored-rising k [] c = tt
+scored-rising k (e ∷ es) c =
+    let r : Rising (scoredOf es) = scored-rising (suc k) es (c .1) in
+    let f : All (λ v. suc (e .number) ≤ v .number) (scoredOf es) = rw (c .0) (scored-from (suc k) (suc k) es (omega arith) (c .1)) in
+    case-outcome (e .outcome) (λ m q. simp (scoredOf, q) r) (λ g q. simp (scoredOf, q) (f, r))
+
+rising-behind : (a : List Candidate) (w : Candidate) (b : List Candidate) → Rising (a ++ w ∷ b) → All (λ v. w .number < v .number) b
+rising-behind [] w b r = r .0
+rising-behind (v ∷ a) w b r = rising-behind a w b (r .1)
+
+-- ---- the best of a list leads it
+found-leads : (ws : List Candidate) (w : Candidate) → All Sound ws → bestOf ws ≡ chosen w → Leads ws w
+unfolding bestOf firstUnbeaten
+found-leads [] w h e = let z : _≡_ {A = ℕ} 0 1 = cc in absurd (omega arith)
+found-leads (v ∷ vs) w h e = go (leader v vs h)
+  where
+    go : (u : Candidate) × Leads (v ∷ vs) u → Leads (v ∷ vs) w
+    go p = let q : bestOf (v ∷ vs) ≡ chosen (p .0) = best-leads (v ∷ vs) (p .0) (p .1) in let z : p .0 ≡ w = cc in rw z at (p .1)
+
+-- ---- by IEEE's comparisons
+below-le : (x y : Float) → lt x y ≡ true → le x y ≡ true
+unfolding le
+below-le x y h = rw h
+
+module _ (w : Candidate) where
+  AtMost : Candidate → Type 0
+  AtMost v = le (w .score) (v .score) ≡ true
+
+  NoEarlier : Candidate → Type 0
+  NoEarlier v = eq (w .score) (v .score) ≡ true → w .number ≤ v .number
+
+  ahead-most : (v : Candidate) → beats w v ≡ true → AtMost v
+  unfolding beats AtMost
+  ahead-most v h = below-le (w .score) (v .score) h
+
+  ahead-earlier : (v : Candidate) → beats w v ≡ true → NoEarlier v
+  unfolding beats NoEarlier
+  ahead-earlier v h e = absurd (true≢false (sym e ∙ lt-not-eq (w .score) (v .score) h))
+
+  own-most : Sound w → AtMost w
+  unfolding AtMost
+  own-most n = le-of-not-lt (w .score) (w .score) n n (lt-irrefl (w .score))
+
+  behind-most : (vs : List Candidate) → Sound w → All Sound vs → All (λ v. beats v w ≡ false) vs → All AtMost vs
+  unfolding beats AtMost
+  behind-most [] n s h = tt
+  behind-most (v ∷ vs) n s h = (le-of-not-lt (w .score) (v .score) n (s .0) (h .0), behind-most vs n (s .1) (h .1))
+
+  all-most : (ws : List Candidate) → All Sound ws → Leads ws w → All AtMost ws
+  all-most ws s l =
+      let t : All Sound (l .before ++ w ∷ l .behind) = rw (l .split) at s in
+      let r = all-right Sound (l .before) (w ∷ l .behind) t in
+      rw (l .split)
+      (all-append AtMost (l .before) (w ∷ l .behind) (all-map (λ v. beats w v ≡ true) AtMost ahead-most (l .before) (l .ahead))
+      (own-most (r .0), behind-most (l .behind) (r .0) (r .1) (l .unbeaten-by)))
+
+  all-earliest : (ws : List Candidate) → Rising ws → Leads ws w → All NoEarlier ws
+  unfolding NoEarlier
+  all-earliest ws s l =
+      let t : Rising (l .before ++ w ∷ l .behind) = rw (l .split) at s in
+      rw (l .split)
+      (all-append NoEarlier (l .before) (w ∷ l .behind) (all-map (λ v. beats w v ≡ true) NoEarlier ahead-earlier (l .before) (l .ahead))
+      ((λ e. omega arith), all-map (λ v. w .number < v .number) NoEarlier (λ v p e. omega arith) (l .behind) (rising-behind (l .before) w (l .behind) t)))
+
+  leads-mem : (ws : List Candidate) → Leads ws w → List·Memᴰ w ws
+  leads-mem ws l = rw (l .split) (Memᴰ·append-right (l .before) (List·Memᴰ·head refl))
+
+-- ---- the properties of a scored finding
+abbrev scoringOf : Candidate → Scoring
+scoringOf w = record { camera = w .camera; mean = w .«mean_reproj_error»; score = w .score }
+
+abbrev ProperCandidate : Inputs → Candidate → Type 0
+ProperCandidate i w = (inBound (i .max) (w .sensor) ≡ true) × ScoredFacts (w .sensor) (i .center) (scoringOf w)
+
+scored-proper : (i : Inputs) (es : List Entry) → All (Proper i) es → All (ProperCandidate i) (scoredOf es)
+unfolding scoredOf
+scored-proper i [] h = tt
+scored-proper i (e ∷ es) h =
+    let r = scored-proper i es (h .1) in
+    case-outcome (e .outcome) (λ m q. simp (scoredOf, q) r) (λ g q. simp (scoredOf, q) ((h .0 .within, h .0 .facts g q), r))
+
+leads-proper : (i : Inputs) (ws : List Candidate) (w : Candidate) → All (ProperCandidate i) ws → Leads ws w → ProperCandidate i w
+leads-proper i ws w h l = all-right (ProperCandidate i) (l .before) (w ∷ l .behind) (rw (l .split) at h) .0
+
+bound-parts : (i : Inputs) (w : Candidate) → inBound (i .max) (w .sensor) ≡ true → (within (i .max) (w .sensor .«tilt_x») ≡ true) × (within (i .max) (w .sensor .«tilt_y») ≡ true)
+unfolding inBound
+bound-parts i w h = both-true (within (i .max) (w .sensor .«tilt_x»)) (within (i .max) (w .sensor .«tilt_y»)) h
+
+pub winner : (i : Inputs) (es : List Entry) (w : Candidate) → All Sound (scoredOf es) → Counted 0 es → All (Proper i) es → bestOf (scoredOf es) ≡ chosen w → Wins i es w
+unfolding AtMost NoEarlier
+winner i es w s c p e =
+    let l = found-leads (scoredOf es) w s e in
+    let q = leads-proper i (scoredOf es) w (scored-proper i es p) l in
+    let t = bound-parts i w (q .0) in
+    let f = q .1 in
+    record {
+      is-scored = leads-mem w (scoredOf es) l;
+      lowest = all-most w (scoredOf es) s l;
+      earliest = all-earliest w (scoredOf es) (scored-rising 0 es c) l;
+      tilt-x-within = t .0;
+      tilt-y-within = t .1;
+      fx-finite = f .fx-finite;
+      fy-finite = f .fy-finite;
+      fx-positive = f .fx-above;
+      fy-positive = f .fy-above;
+      k1-zero = f .k1-zero;
+      k2-zero = f .k2-zero;
+      k3-zero = f .k3-zero;
+      p1-small = f .p1-within;
+      p2-small = f .p2-within;
+      mean-finite = f .mean-finite;
+      mean-not-negative = f .mean-not-below;
+    }

@@ -1,0 +1,225 @@
+-- The plain book of 01: what can be written down of a search from Start's inputs, the order of the calls and what the host sends to Answer.
+-- It goes by the rules of the seeds, the scores and the best, and knows nothing of the run's record or the lent list. Definitions only.
+use Prim.Native.Nat.{ℕ, zero, suc, _+_, _-_, _*_, _/_}
+use mathlib.Core.Bool.{Bool, true, false, not, _&&_, cond}
+use mathlib.Core.List.{List, [], _∷_, _++_}
+use lib.Dec.{ltb, eqb}
+use lib.ListN.{length, getD}
+use lib.Ieee.{Float, binary64, ofBits}
+use Rattle.common.specs.Refusal.{Check, _when_, firstRefusal}
+use Rattle.float.specs.Binary64.{_*₆₄_}
+use Rattle.float.specs.Sign.{plusZero}
+use Rattle.models.specs.declared.math.Pt2.{Pt2}
+use Rattle.models.specs.declared.intrinsics.FxFyCxCy.{FxFyCxCy}
+use Rattle.seeds.specs.declared.CandidateSeed.{CandidateSeed}
+use Rattle.seeds.specs.Rules.{initialList, offsets, nextList}
+use Rattle.seeds.specs.Layout.{six, allSeeds}
+use Rattle.score.specs.declared.Finding.{Finding}
+use Rattle.score.specs.declared.Outcome.{Outcome}
+use Rattle.score.specs.declared.Outcome.the-variants.{Skipped, Scored}
+use Rattle.score.specs.Evaluation.{outcomeOf, findingRefusal}
+use Rattle.best.specs.declared.Candidate.{Candidate}
+use Rattle.best.specs.Best.{Chosen, nothing, chosen, bestOf, candidateOf}
+use Rattle.book.specs.Calls.{Call, next, seed, answer, ask, Reply, candidate, over, part, scored, skipped, result, refused}
+
+-- ---- what Start is given
+pub record Inputs : Type 0 where
+  pub views : ℕ
+  pub rounds : ℕ
+  pub step : Float
+  pub max : Float
+  pub xs : List Float
+  pub ys : List Float
+  pub decomposition : List Float
+  pub base : FxFyCxCy
+  pub center : Pt2
+
+-- how many numbers the lent list must have: nine seeds, and six for each seed that round 0 can have
+unfoldable pub demand : Inputs → ℕ
+demand i = let n = 6 * (length (i .decomposition) / 6 + length (i .xs) * length (i .ys)) in cond (ltb n 54) 54 n
+
+-- ---- an answered candidate: its number, the round that it was handed out in, its seed, its outcome
+pub record Entry : Type 0 where
+  pub number : ℕ
+  pub round : ℕ
+  pub seed : CandidateSeed
+  pub outcome : Outcome
+
+-- The book (01's term) holds the round, its list, the candidates answered in earlier rounds and in this one, whether the list's next seed was
+-- handed out and waits for its answer, and whether the run is over.
+pub record Book : Type 0 where
+  pub inputs : Inputs
+  pub round : ℕ
+  pub list : List CandidateSeed
+  pub earlier : List Entry
+  pub answered : List Entry
+  pub waits : Bool
+  pub over : Bool
+
+abbrev pub entries : Book → List Entry
+entries b = b .earlier ++ b .answered
+
+-- the next candidate's number: numbers are counted from 0 over the run
+abbrev pub number : Book → ℕ
+number b = length (entries b)
+
+-- no seed: it stands past the end of a list
+abbrev pub noSeed : CandidateSeed
+noSeed = record { «reference_k» = record { fx = plusZero; fy = plusZero; cx = plusZero; cy = plusZero }; sensor = record { «tilt_x» = plusZero; «tilt_y» = plusZero } }
+
+-- the seed that waits, or is handed out next
+abbrev pub current : Book → CandidateSeed
+current b = getD (b .list) (length (b .answered)) noSeed
+
+-- ---- the best
+-- the scored ones of some entries
+unfoldable pub scoredOf : List Entry → List Candidate
+scoredOf [] = []
+scoredOf (e ∷ es) = elim (e .outcome) [ Skipped reason ↦ scoredOf es | Scored s ↦ candidateOf (e .number) (e .seed .sensor) s ∷ scoredOf es ]
+
+-- of the round's and of the run's scored candidates the earliest with the lowest score
+unfoldable pub roundBest : Book → Chosen
+roundBest b = bestOf (scoredOf (b .answered))
+
+unfoldable pub runBest : Book → Chosen
+runBest b = bestOf (scoredOf (entries b))
+
+abbrev pub orElse : Chosen → Chosen → Chosen
+orElse nothing c = c
+orElse (chosen w) c = chosen w
+
+-- ---- the lists
+-- the step that a round's list is made with: refine_step for round 1's, and half of the last one's for each that follows. Round 0's list has none.
+unfoldable pub stepOf : ℕ → Float → Float
+stepOf zero s = plusZero
+stepOf (suc zero) s = s
+stepOf (suc (suc n)) s = stepOf (suc n) s *₆₄ ofBits binary64 0x3fe0_0000_0000_0000
+
+unfoldable pub firstList : Inputs → List CandidateSeed
+firstList i = initialList (allSeeds (i .decomposition)) (i .xs) (i .ys) (i .base) (i .max)
+
+-- the list of round r around a candidate: the nine offsets, with that candidate's camera
+unfoldable pub listAround : Inputs → ℕ → Candidate → List CandidateSeed
+listAround i r w = let d = offsets (stepOf r (i .step)) in nextList d d (w .sensor) (w .camera .k) (i .max)
+
+-- ---- how the book changes
+abbrev pub isEmpty : List CandidateSeed → Bool
+isEmpty [] = true
+isEmpty (s ∷ ss) = false
+
+-- An accepted Start opens it at round 0 with round 0's list; an empty one ends the run.
+unfoldable pub opened : Inputs → Book
+opened i = record { inputs = i; round = 0; list = firstList i; earlier = []; answered = []; waits = false; over = isEmpty (firstList i) }
+
+unfoldable pub withWaiting : Book → Book
+withWaiting b = record { inputs = b .inputs; round = b .round; list = b .list; earlier = b .earlier; answered = b .answered; waits = true; over = b .over }
+
+-- the waiting candidate is answered, with its outcome
+unfoldable pub withEntry : Book → Outcome → Book
+withEntry b o = record {
+  inputs = b .inputs;
+  round = b .round;
+  list = b .list;
+  earlier = b .earlier;
+  answered = b .answered ++ (record { number = number b; round = b .round; seed = current b; outcome = o } ∷ []);
+  waits = false;
+  over = b .over;
+}
+
+unfoldable pub withRound : Book → List CandidateSeed → Book
+withRound b ss = record { inputs = b .inputs; round = suc (b .round); list = ss; earlier = entries b; answered = []; waits = false; over = b .over }
+
+unfoldable pub withEnd : Book → Book
+withEnd b = record { inputs = b .inputs; round = b .round; list = b .list; earlier = b .earlier; answered = b .answered; waits = false; over = true }
+
+-- a list with seeds opens the next round; otherwise what follows is `rest`
+abbrev pub openRound : Book → List CandidateSeed → Book → Book
+openRound b [] rest = rest
+openRound b (s ∷ ss) rest = withRound b (s ∷ ss)
+
+-- The round has ended, and k further ones are asked for. The run is over if nothing is scored yet or no further round is asked for;
+-- otherwise the next list follows, around the round's best or, if it has none, the run's. An empty list ends its round at once.
+unfoldable pub closeRound : ℕ → Book → Book
+closeRound zero b = withEnd b
+closeRound (suc k) b = elim (orElse (roundBest b) (runBest b)) [
+  | nothing ↦ withEnd b
+  | chosen w ↦ openRound b (listAround (b .inputs) (suc (b .round)) w) (closeRound k (withRound b []))
+]
+
+-- an outcome is entered; the answer to the list's last seed ends the round
+unfoldable pub bookEnter : Book → Outcome → Book
+bookEnter b o =
+    let c = withEntry b o in
+    cond (ltb (length (c .answered)) (length (c .list))) c (closeRound (c .inputs .rounds - c .round) c)
+
+-- ---- what the book replies to a call, and what it holds after it
+pub record Kept : Type 0 where
+  pub reply : Reply
+  pub book : Book
+
+abbrev pub kept : Reply → Book → Kept
+kept a b = record { reply = a; book = b }
+
+-- a refusal enters nothing
+abbrev pub unless : ℕ → Book → Kept → Kept
+unless n b k = cond (eqb n 0) k (kept (refused n) b)
+
+abbrev pub isNothing : Chosen → Bool
+isNothing nothing = true
+isNothing (chosen w) = false
+
+-- Next: 9 a seed is waiting, 10 the list is too short, 11 the run ended with nothing scored; Over once it has a result
+unfoldable pub bookNext : Book → ℕ → Kept
+bookNext b n =
+    unless
+    (firstRefusal
+    ((9 when b .waits)
+    ∷ (10 when ltb n (demand (b .inputs)))
+    ∷ (11 when (b .over && isNothing (runBest b)))
+    ∷ []))
+    b
+    (cond (b .over) (kept over b) (kept (candidate (number b)) (withWaiting b)))
+
+-- the call beside it: the waiting seed's six numbers, or nothing
+unfoldable pub bookSeed : Book → ℕ → Kept
+bookSeed b n = kept (part (cond (b .waits && not (ltb n (demand (b .inputs)))) (six (current b)) [])) b
+
+abbrev pub replyTo : Outcome → Reply
+replyTo (Skipped reason) = skipped reason
+replyTo (Scored s) = scored (s .score)
+
+-- Answer: 12 no seed is waiting, 10, and then what the finding itself is refused for
+unfoldable pub bookAnswer : Book → ℕ → Finding → List Float → List ℕ → Kept
+bookAnswer b n f rows flags =
+    let o = outcomeOf f (current b .sensor) (b .inputs .center) rows flags in
+    unless
+    (firstRefusal
+    ((12 when not (b .waits))
+    ∷ (10 when ltb n (demand (b .inputs)))
+    ∷ (findingRefusal f rows flags when not (eqb (findingRefusal f rows flags) 0))
+    ∷ []))
+    b
+    (kept (replyTo o) (bookEnter b o))
+
+-- Result: 14 the run isn't over, 11 it ended with nothing scored, or the run's best
+abbrev pub bestReply : Chosen → Reply
+bestReply nothing = refused 11
+bestReply (chosen w) = result w
+
+unfoldable pub bookResult : Book → Kept
+bookResult b = unless (firstRefusal ((14 when not (b .over)) ∷ [])) b (kept (bestReply (runBest b)) b)
+
+unfoldable pub bookCall : Book → Call → Kept
+bookCall b (next n) = bookNext b n
+bookCall b (seed n) = bookSeed b n
+bookCall b (answer n f rows flags) = bookAnswer b n f rows flags
+bookCall b ask = bookResult b
+
+-- ---- a whole list of calls: the book's replies, and the book after them
+unfoldable pub replies : Book → List Call → List Reply
+replies b [] = []
+replies b (c ∷ cs) = let k = bookCall b c in k .reply ∷ replies (k .book) cs
+
+unfoldable pub after : Book → List Call → Book
+after b [] = b
+after b (c ∷ cs) = after (bookCall b c .book) cs

@@ -1,0 +1,66 @@
+-- What 01 refuses Start for, in its order, as plain facts of the inputs. Definitions only.
+use Prim.Native.Nat.{ℕ, _/_, _%_, _<_}
+use mathlib.Core.Path.{_≡_}
+use mathlib.Core.Logic.{_⊎_}
+use mathlib.Core.Bool.{false}
+use mathlib.Core.List.{List, [], _∷_}
+use lib.ListN.{length}
+use lib.Ieee.{Float, lt}
+use Rattle.float.specs.Float.{isFinite}
+use Rattle.float.specs.Sign.{plusZero}
+use Rattle.seeds.specs.declared.CandidateSeed.{CandidateSeed}
+use Rattle.seeds.specs.Rules.{within}
+use Rattle.seeds.specs.Layout.{allSeeds}
+use Rattle.book.specs.Book.{Inputs, demand}
+
+-- a refusal's number, and where it holds
+pub data Condition : Type 1 where
+  _provided_ : ℕ → Type 0 → Condition
+
+infix 5 _provided_
+-- n is the number of the first that holds; none holds
+abbrev pub FirstHolds : List Condition → ℕ → Type 0
+FirstHolds [] n = ⊥
+FirstHolds ((m provided C) ∷ cs) n = (C × (n ≡ m)) ⊎ ((C → ⊥) × FirstHolds cs n)
+
+abbrev pub NoneHolds : List Condition → Type 0
+NoneHolds [] = Unit {0}
+NoneHolds ((m provided C) ∷ cs) = (C → ⊥) × NoneHolds cs
+
+-- ---- words of the conditions
+abbrev pub Some : {A : Type 0} → (A → Type 0) → List A → Type 0
+Some P [] = ⊥
+Some P (x ∷ xs) = P x ⊎ Some P xs
+
+abbrev pub NotFinite : Float → Type 0
+NotFinite x = isFinite x ≡ false
+
+abbrev pub NotAboveZero : Float → Type 0
+NotAboveZero x = lt plusZero x ≡ false
+
+abbrev pub Beyond : Float → Float → Type 0
+Beyond max t = within max t ≡ false
+
+abbrev pub NotPositive : Float → Type 0
+NotPositive x = NotFinite x ⊎ NotAboveZero x
+
+-- a non-finite number, a focal length not above 0, or a tilt beyond the bound
+abbrev pub BadSeed : Float → CandidateSeed → Type 0
+BadSeed max s =
+    let k = s .«reference_k» in
+    let t = s .sensor in
+    (((((NotPositive (k .fx) ⊎ NotPositive (k .fy)) ⊎ NotFinite (k .cx)) ⊎ NotFinite (k .cy)) ⊎ NotFinite (t .«tilt_x»)) ⊎ NotFinite (t .«tilt_y»))
+    ⊎ (Beyond max (t .«tilt_x») ⊎ Beyond max (t .«tilt_y»))
+
+-- ---- 01, 'Start', where n numbers are lent
+abbrev pub conditions : Inputs → ℕ → List Condition
+conditions i n =
+    (1 provided (i .views < 3))
+    ∷ (2 provided ((i .xs ≡ []) ⊎ (i .ys ≡ [])))
+    ∷ (3 provided (NotPositive (i .max)))
+    ∷ (4 provided ((0 < i .rounds) × NotPositive (i .step)))
+    ∷ (5 provided (((((16 < length (i .xs)) ⊎ (16 < length (i .ys))) ⊎ (256 < length (i .decomposition) / 6)) ⊎ (16 < i .rounds)) ⊎ (length (i .decomposition) % 6 ≡ 0 → ⊥)))
+    ∷ (6 provided (Some (BadSeed (i .max)) (allSeeds (i .decomposition))))
+    ∷ (7 provided (Some NotFinite (i .xs) ⊎ Some NotFinite (i .ys)))
+    ∷ (8 provided (n < demand i))
+    ∷ []

@@ -1,0 +1,104 @@
+-- The theorem about every list of calls, as a type. `book/proofs/Theorem.antt` proves it. Definitions only.
+use Prim.Native.Nat.{ℕ, suc, _≤_, _<_}
+use mathlib.Core.Path.{_≡_}
+use mathlib.Core.Bool.{true, false}
+use mathlib.Core.List.{List, List·Memᴰ}
+use lib.ListN.{length}
+use lib.Ieee.{Float, lt, le, eq, isNan}
+use Rattle.common.specs.All.{All}
+use Rattle.float.specs.Float.{absOf, isFinite}
+use Rattle.float.specs.Sign.{plusZero}
+use Rattle.seeds.specs.Rules.{within}
+use Rattle.score.specs.declared.Finding.{Finding}
+use Rattle.score.specs.declared.PinholeCamera.{PinholeCamera}
+use Rattle.score.specs.Camera.{tangentialBound}
+use Rattle.score.specs.Evaluation.{findingRefusal}
+use Rattle.best.specs.declared.Candidate.{Candidate}
+use Rattle.search.specs.declared.run.Run.{Run}
+use Rattle.search.specs.declared.run.Options.{Options}
+use Rattle.search.specs.declared.start.Started.{Started}
+use Rattle.search.specs.declared.start.Started.the-variants.{Accepted, Refused}
+use Rattle.search.specs.declared.next.Handed.the-variants as handed-as
+use Rattle.search.specs.declared.result.Resulted.the-variants.{Result}
+use Rattle.search.specs.Start.{startReply, startList}
+use Rattle.search.specs.Next.{nextDef}
+use Rattle.search.specs.Answer.{answerRefusal}
+use Rattle.search.specs.Result.{resultDef}
+use Rattle.book.specs.Calls.{Call, Reply}
+use Rattle.book.specs.Book.{Inputs, Entry, Book, entries, scoredOf, opened, replies, after}
+use Rattle.book.specs.Conditions.{FirstHolds, NoneHolds, conditions}
+use Rattle.book.specs.Walk.{walk}
+use Rattle.book.specs.Trace.{handed, answers, runAfter, listAfter}
+use Rattle.book.specs.Named.{outcomesIn, handings}
+
+-- ---- Start, on the book's inputs and a lent list
+abbrev pub optionsOf : Inputs → Options
+optionsOf i = record { «refine_rounds» = i .rounds; «refine_step» = i .step; «max_abs_tilt» = i .max }
+
+abbrev pub startOf : Inputs → List Float → Started
+startOf i l = startReply (i .views) (optionsOf i) (i .xs) (i .ys) (i .decomposition) (i .base) (i .center) l
+
+abbrev pub startedList : Inputs → List Float → List Float
+startedList i l = startList (i .views) (optionsOf i) (i .xs) (i .ys) (i .decomposition) (i .base) (i .center) l
+
+-- ---- the one condition on what the host sends: no score in the book is NaN
+unfoldable pub NoNan : Book → Type 0
+NoNan b = All (λ w. isNan (w .score) ≡ false) (scoredOf (entries b))
+
+-- ---- w is the result that the accepted answers es call for
+pub record Wins (i : Inputs) (es : List Entry) (w : Candidate) : Type 0 where
+  -- it is a scored candidate: its number, camera, tilts, mean and score
+  pub is-scored : List·Memᴰ w (scoredOf es)
+  -- every scored candidate has at least as high a score, and an equal one no lower number
+  pub lowest : All (λ v. le (w .score) (v .score) ≡ true) (scoredOf es)
+  pub earliest : All (λ v. eq (w .score) (v .score) ≡ true → w .number ≤ v .number) (scoredOf es)
+  -- its tilts lie within ±max_abs_tilt
+  pub tilt-x-within : within (i .max) (w .sensor .«tilt_x») ≡ true
+  pub tilt-y-within : within (i .max) (w .sensor .«tilt_y») ≡ true
+  -- its focal lengths are finite and positive
+  pub fx-finite : isFinite (w .camera .k .fx) ≡ true
+  pub fy-finite : isFinite (w .camera .k .fy) ≡ true
+  pub fx-positive : lt plusZero (w .camera .k .fx) ≡ true
+  pub fy-positive : lt plusZero (w .camera .k .fy) ≡ true
+  -- k1, k2, k3 are 0, and p1 and p2 at most 0.05 in size
+  pub k1-zero : w .camera .dist .k1 ≡ plusZero
+  pub k2-zero : w .camera .dist .k2 ≡ plusZero
+  pub k3-zero : w .camera .dist .k3 ≡ plusZero
+  pub p1-small : le (absOf (w .camera .dist .p1)) tangentialBound ≡ true
+  pub p2-small : le (absOf (w .camera .dist .p2)) tangentialBound ≡ true
+  -- its mean error is finite and not negative
+  pub mean-finite : isFinite (w .«mean_reproj_error») ≡ true
+  pub mean-not-negative : lt (w .«mean_reproj_error») plusZero ≡ false
+
+-- ---- what holds of a run that Start opened, and of the list that Start wrote, for a list of calls
+pub record Follows (i : Inputs) (r : Run) (l : List Float) (cs : List Call) : Type 0 where
+  -- every reply is the book's
+  pub same-replies : walk r l cs ≡ replies (opened i) cs
+  -- the accepted answers are those that the book holds
+  pub same-entries : answers r l cs ≡ entries (after (opened i) cs)
+  -- If Result then gives a result: each round handed out the seeds that the rules name from Start's inputs and the outcomes of the rounds
+  -- before, each once, in order, numbered on from 0; and the result is the earliest candidate with the lowest score, within 01's bounds.
+  pub handed-out : (w : Candidate) → resultDef (runAfter r l cs) ≡ Result w → handed r l cs ≡ handings i (outcomesIn (answers r l cs)) (suc (i .rounds))
+  pub wins : (w : Candidate) → resultDef (runAfter r l cs) ≡ Result w → Wins i (answers r l cs) w
+  -- the end: at most 656 answers are accepted, and until the run is over Next or Answer is
+  pub few-answers : length (answers r l cs) ≤ 656
+  pub next-accepted : runAfter r l cs .place .over ≡ false → runAfter r l cs .waiting .«is_waiting» ≡ false
+      → nextDef (runAfter r l cs) (listAfter r l cs) .reply ≡ handed-as.Candidate (runAfter r l cs .place .number)
+  pub answer-accepted : runAfter r l cs .place .over ≡ false → runAfter r l cs .waiting .«is_waiting» ≡ true
+      → (f : Finding) (rows : List Float) (flags : List ℕ) → findingRefusal f rows flags ≡ 0
+      → answerRefusal (runAfter r l cs) (length (listAfter r l cs)) f rows flags ≡ 0
+
+-- ---- Start refuses just where one of 01's conditions holds, with the first one's number, and leaves the list as it was; it accepts all else
+pub record Starts (i : Inputs) (l : List Float) : Type 0 where
+  pub refuses-rightly : (n : ℕ) → startOf i l ≡ Refused n → FirstHolds (conditions i (length l)) n
+  pub refuses-all : (n : ℕ) → FirstHolds (conditions i (length l)) n → startOf i l ≡ Refused n
+  pub leaves-list : (n : ℕ) → startOf i l ≡ Refused n → startedList i l ≡ l
+  pub accepts-others : NoneHolds (conditions i (length l)) → (r : Run) × (startOf i l ≡ Accepted r)
+
+-- ---- the theorem: Start on any inputs and any list, and then any calls, in any order, whatever the host answers
+pub record IsBook (i : Inputs) (l : List Float) : Type 0 where
+  pub starts : Starts i l
+  pub follows : (r : Run) → startOf i l ≡ Accepted r → (cs : List Call) → NoNan (after (opened i) cs) → Follows i r (startedList i l) cs
+
+abbrev pub SearchIsBook : Type 0
+SearchIsBook = (i : Inputs) (l : List Float) → IsBook i l

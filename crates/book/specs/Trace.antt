@@ -1,0 +1,61 @@
+-- What a walk hands out and what it accepts, read off the entry points' definitions alone. Definitions only.
+use Prim.Native.Nat.{ℕ}
+use mathlib.Core.Bool.{cond}
+use mathlib.Core.List.{List, [], _∷_, _++_}
+use lib.Dec.{eqb}
+use lib.ListN.{length, take}
+use lib.Ieee.{Float}
+use Rattle.score.specs.Evaluation.{outcomeOf}
+use Rattle.search.specs.declared.run.Run.{Run}
+use Rattle.search.specs.declared.next.Handed.{Handed}
+use Rattle.search.specs.declared.next.Handed.the-variants.{Candidate, Over, Refused}
+use Rattle.search.specs.Next.{nextDef, seedPart}
+use Rattle.search.specs.Answer.{answerRefusal}
+use Rattle.book.specs.Calls.{Call, next, seed, answer, ask}
+use Rattle.book.specs.Book.{Entry}
+use Rattle.book.specs.Walk.{Step, runCall}
+
+-- ---- a candidate that Next handed out: the round, the number, and the part that a seed call made at that point returns
+pub record Handing : Type 0 where
+  pub round : ℕ
+  pub number : ℕ
+  pub part : List Float
+
+abbrev pub handing : Run → List Float → Handed → List Handing
+handing r l (Candidate n) = record { round = r .place .round; number = n; part = seedPart r l } ∷ []
+handing r l Over = []
+handing r l (Refused n) = []
+
+unfoldable pub handedBy : Run → List Float → Call → List Handing
+handedBy r l (next n) = let a = nextDef r (take n l) in handing (a .run) l (a .reply)
+handedBy r l (seed n) = []
+handedBy r l (answer n f rows flags) = []
+handedBy r l ask = []
+
+-- ---- an answer that was accepted: the candidate's number and round, its seed as the run keeps it, and the rules' outcome
+unfoldable pub answeredBy : Run → List Float → Call → List Entry
+answeredBy r l (next n) = []
+answeredBy r l (seed n) = []
+answeredBy r l (answer n f rows flags) =
+    cond (eqb (answerRefusal r (length (take n l)) f rows flags) 0)
+    (record { number = r .place .number; round = r .place .round; seed = r .waiting .seed; outcome = outcomeOf f (r .waiting .seed .sensor) (r .center) rows flags } ∷ [])
+    []
+answeredBy r l ask = []
+
+-- ---- of a whole list of calls
+unfoldable pub handed : Run → List Float → List Call → List Handing
+handed r l [] = []
+handed r l (c ∷ cs) = let a = runCall r l c in handedBy r l c ++ handed (a .run) (a .list) cs
+
+unfoldable pub answers : Run → List Float → List Call → List Entry
+answers r l [] = []
+answers r l (c ∷ cs) = let a = runCall r l c in answeredBy r l c ++ answers (a .run) (a .list) cs
+
+-- the run after them
+unfoldable pub runAfter : Run → List Float → List Call → Run
+runAfter r l [] = r
+runAfter r l (c ∷ cs) = let a = runCall r l c in runAfter (a .run) (a .list) cs
+
+unfoldable pub listAfter : Run → List Float → List Call → List Float
+listAfter r l [] = l
+listAfter r l (c ∷ cs) = let a = runCall r l c in listAfter (a .run) (a .list) cs

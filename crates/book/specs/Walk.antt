@@ -1,0 +1,50 @@
+-- The run beside the book: a list of calls, each given the run and the seed list as the calls before left them, by the very definitions
+-- that the entry points' contracts name. Definitions only.
+use Prim.Native.Nat.{ℕ}
+use mathlib.Core.List.{List, [], _∷_, _++_}
+use lib.ListN.{take, drop}
+use lib.Ieee.{Float}
+use Rattle.search.specs.declared.run.Run.{Run}
+use Rattle.search.specs.declared.next.Handed.{Handed}
+use Rattle.search.specs.declared.next.Handed.the-variants as handed
+use Rattle.search.specs.declared.answer.Answered.{Answered}
+use Rattle.search.specs.declared.answer.Answered.the-variants as answered
+use Rattle.search.specs.declared.result.Resulted.{Resulted}
+use Rattle.search.specs.declared.result.Resulted.the-variants as resulted
+use Rattle.search.specs.Next.{nextDef, seedPart}
+use Rattle.search.specs.Answer.{answerDef}
+use Rattle.search.specs.Result.{resultDef}
+use Rattle.book.specs.Calls.{Call, next, seed, answer, ask, Reply, candidate, over, part, scored, skipped, result, refused}
+
+-- ---- the entry points' replies, by 01's numbers
+abbrev pub handedReply : Handed → Reply
+handedReply (handed.Candidate n) = candidate n
+handedReply handed.Over = over
+handedReply (handed.Refused n) = refused n
+
+abbrev pub answeredReply : Answered → Reply
+answeredReply (answered.Scored s) = scored s
+answeredReply (answered.Skipped reason) = skipped reason
+answeredReply (answered.Refused n) = refused n
+
+abbrev pub resultedReply : Resulted → Reply
+resultedReply (resulted.Result w) = result w
+resultedReply (resulted.Refused n) = refused n
+
+-- ---- what a call replies, and the run and the whole seed list after it
+pub record Step : Type 0 where
+  pub reply : Reply
+  pub run : Run
+  pub list : List Float
+
+unfoldable pub runCall : Run → List Float → Call → Step
+runCall r l (next n) = let a = nextDef r (take n l) in record { reply = handedReply (a .reply); run = a .run; list = l }
+runCall r l (seed n) = record { reply = part (seedPart r (take n l)); run = r; list = l }
+runCall r l (answer n f rows flags) =
+    let a = answerDef r f rows flags (take n l) in
+    record { reply = answeredReply (a .reply .reply); run = a .reply .run; list = a .list ++ drop n l }
+runCall r l ask = record { reply = resultedReply (resultDef r); run = r; list = l }
+
+unfoldable pub walk : Run → List Float → List Call → List Reply
+walk r l [] = []
+walk r l (c ∷ cs) = let a = runCall r l c in a .reply ∷ walk (a .run) (a .list) cs

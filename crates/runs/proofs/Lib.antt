@@ -1,0 +1,3 @@
+pub mod OnBook
+pub mod OnWalk
+pub mod Follows

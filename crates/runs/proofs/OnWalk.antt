@@ -1,0 +1,35 @@
+-- The worked runs on the walk, from Start on, computed. Assumes nothing.
+use mathlib.Core.Path.{_≡_, refl}
+use lib.Ieee.{add, sub, mul, div, neg, lt, le, eq, isNan, ofBits, ofInt, sum, round, units, odd, size, span, climb}
+use Rattle.common.specs.All.{every}
+use Rattle.float.specs.Float.{absOf, isFinite, minOf, maxOf, clampOf}
+use Rattle.roots.specs.Root.{rootIn, isqrt, rootOf, root}
+use Rattle.models.specs.Matrix.{productOf, firstOther, secondOther, minorOf, cofactorOf, determinantOf, inverseOf}
+use Rattle.models.specs.Sensor.{tiltProjectionMatrix, tiltVerdict, forwardDepth, inverseDepth, applyHomography, applyHomographyInverse}
+use Rattle.models.specs.Distortion.{radialFactor, tangentialX, tangentialY, distorted, jacobianRadial, radialDerivative, jacobianAt}
+use Rattle.seeds.specs.Merge.{keep, hasNear, firstNear, push, mergedInto}
+use Rattle.seeds.specs.Rules.{closer, tiltNear, cameraNear, near, within, inBound, pairs, seedGrid, initialList, offsets, nextList}
+use Rattle.seeds.specs.Layout.{laid, readFrom}
+use Rattle.score.specs.Camera.{damped, finiteIntrinsics, finiteDistortion, validCamera}
+use Rattle.score.specs.Penalties.{distortionPenalty, tiltPenalty, centrePenalty, scoreOf}
+use Rattle.score.specs.Rows.{rowsOf, tiltMatrix, projected, distanceOf, rowError, isCounted, countedErrors, summed, errorSum, meanOf}
+use Rattle.score.specs.Evaluation.{anyAboveOne, solvedRefusal, findingRefusal, meanWith, scoringOf, evaluated, outcomeOf}
+use Rattle.best.specs.Best.{beats, unbeaten, firstUnbeaten, bestOf, noBest, isBetter, improved}
+use Rattle.search.specs.Record.{hasPlace, sound, awaiting, withOutcome, entered, nextStep, opened, ended}
+use Rattle.search.specs.Start.{goodSeed, tooMany, demandOf, openingOf, startReply, startList}
+use Rattle.search.specs.Next.{nextDef, seedLent, seedPart}
+use Rattle.search.specs.Answer.{nextSeeds, closeRound, enterDef, answerDef}
+use Rattle.search.specs.Result.{resultDef}
+use Rattle.book.specs.Walk.{runCall, walk}
+use Rattle.runs.specs.Words.{walkFrom}
+use Rattle.runs.specs.Whole.{wholeInputs, wholeCalls, wholeReplies}
+use Rattle.runs.specs.Ended.{emptyInputs, emptyCalls, emptyReplies, failedInputs, failedCalls, failedReplies}
+
+pub record OnWalk : Type 0 where
+  pub empty : walkFrom emptyInputs emptyCalls ≡ emptyReplies
+  pub failed : walkFrom failedInputs failedCalls ≡ failedReplies
+  pub whole : walkFrom wholeInputs wholeCalls ≡ wholeReplies
+
+pub on-walk : OnWalk
+unfolding every absOf isFinite minOf maxOf clampOf rootIn isqrt rootOf root productOf firstOther secondOther minorOf cofactorOf determinantOf inverseOf tiltProjectionMatrix tiltVerdict forwardDepth inverseDepth applyHomography applyHomographyInverse radialFactor tangentialX tangentialY distorted jacobianRadial radialDerivative jacobianAt keep hasNear firstNear push mergedInto closer tiltNear cameraNear near within inBound pairs seedGrid initialList offsets nextList laid readFrom damped finiteIntrinsics finiteDistortion validCamera distortionPenalty tiltPenalty centrePenalty scoreOf rowsOf tiltMatrix projected distanceOf rowError isCounted countedErrors summed errorSum meanOf anyAboveOne solvedRefusal findingRefusal meanWith scoringOf evaluated outcomeOf beats unbeaten firstUnbeaten bestOf noBest isBetter improved hasPlace sound awaiting withOutcome entered nextStep opened ended goodSeed tooMany demandOf openingOf startReply startList nextDef seedLent seedPart nextSeeds closeRound enterDef answerDef resultDef runCall walk add sub mul div neg lt le eq isNan ofBits ofInt sum round units odd size span climb
+on-walk = record { empty = refl; failed = refl; whole = refl }
