@@ -1,0 +1,2 @@
+mod FloatLaws
+mod WordLaws

@@ -1,0 +1,52 @@
+-- List and output keep their lengths; the turns are counted. Assumes nothing.
+use borrow.Author.Needs.{needs}
+use mathlib.Core.Path.{_≡_}
+use Prim.Native.Nat.{_-_}
+use lib.ListN.{length}
+use Rattle.vectors.proofs.operations_calls.call_all.Statement.{statement}
+use Rattle.vectors.proofs.operations_calls.call_all.Tie as tie
+
+abbrev Inv-loop : tie.InvT-loop
+Inv-loop input numbers list₀ output₀ script₀ i₀ list output script i = (length list ≡ length list₀) × (length output ≡ length output₀)
+
+abbrev μ-loop : tie.MeasureT-loop
+μ-loop input numbers list₀ output₀ script₀ i₀ list output script i = 8192 - i
+
+loop-holds : tie.Need-loop-holds Inv-loop μ-loop
+loop-holds c = search needs
+
+call-requires : tie.Need-call-requires Inv-loop μ-loop
+call-requires c κs = search needs
+
+add-i : tie.Need-add-i Inv-loop μ-loop
+add-i c = search needs
+
+loop-less : tie.Need-loop-less Inv-loop μ-loop
+loop-less c = search needs
+
+loop-again : tie.Need-loop-again Inv-loop μ-loop
+loop-again c = search needs
+
+same-length : tie.Need-same-length Inv-loop μ-loop
+same-length c = search needs
+
+same-length-2 : tie.Need-same-length-2 Inv-loop μ-loop
+same-length-2 c = search needs
+
+returns : tie.Need-returns Inv-loop μ-loop
+returns c = search needs
+
+pub call-all-spec : {M : Type 1} → statement M
+call-all-spec =
+    tie.close
+    (tie.spec
+    Inv-loop
+    μ-loop
+    loop-holds
+    call-requires
+    add-i
+    loop-less
+    loop-again
+    same-length
+    same-length-2
+    returns)
