@@ -1,0 +1,17 @@
+-- `capi::lists::jc_points_are_collinear` meets its contract, by those of `points_are_collinear` and `line_reply`. Assumes nothing.
+use borrow.Author.Needs.{needs}
+use Rattle.capi.proofs.lists.jc_points_are_collinear.Statement.{statement}
+use Rattle.capi.proofs.lists.jc_points_are_collinear.Tie as tie
+
+points-are-collinear-requires : tie.Need-points-are-collinear-requires
+points-are-collinear-requires c κs = search needs
+
+line-reply-requires : tie.Need-line-reply-requires
+line-reply-requires c κs = search needs
+
+returns : tie.Need-returns
+returns c = cc
+
+pub jc-points-are-collinear-spec : {M : Type 1} → statement M
+jc-points-are-collinear-spec =
+    tie.close (tie.spec points-are-collinear-requires line-reply-requires returns)

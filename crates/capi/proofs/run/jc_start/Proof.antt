@@ -1,0 +1,19 @@
+-- `capi::run::jc_start` meets its contract, by those of `start` and `start_flat`. Assumes nothing.
+use borrow.Author.Needs.{needs}
+use Rattle.capi.proofs.run.jc_start.Statement.{statement}
+use Rattle.capi.proofs.run.jc_start.Tie as tie
+
+start-requires : tie.Need-start-requires
+start-requires c κs = search needs
+
+start-flat-requires : tie.Need-start-flat-requires
+start-flat-requires c κs = search needs
+
+same-length : tie.Need-same-length
+same-length c = search needs
+
+returns : tie.Need-returns
+returns c = (cc, cc)
+
+pub jc-start-spec : {M : Type 1} → statement M
+jc-start-spec = tie.close (tie.spec start-requires start-flat-requires same-length returns)

@@ -1,0 +1,213 @@
+// The root, the camera without tilt, the tilted sensor and the distortion.
+ghost use mathlib.Core.Path.{_≡_};
+ghost use lib.Ieee.{binary64};
+ghost use Rattle.roots.specs.Root.{root};
+ghost use Rattle.models.specs.Intrinsics.{pixelToSensor, sensorToPixel};
+ghost use Rattle.models.specs.Matrix.{determinantOf};
+ghost use Rattle.models.specs.Sensor.{tiltProjectionMatrix, applyHomography, applyHomographyInverse};
+ghost use Rattle.models.specs.Distortion.{distorted, distortedWithJacobian};
+ghost use Rattle.models.specs.Undistortion.{undistorted};
+ghost use Rattle.zhang.specs.Zhang.{fromHomographies};
+ghost use Rattle.capi.specs.Camera.{rowsOf, flatMatrix, noMatrix, flatInverse, flatEstimate};
+use models::distortion::BrownConrady5;
+use models::distortion::DistortedPoint;
+use models::intrinsics::FxFyCxCy;
+use models::math::Pt2;
+use score::TiltTrig;
+use zhang::Conic;
+use zhang::Estimate;
+
+// Three rows of three numbers.
+#[repr(C)]
+pub struct Matrix3 {
+    pub m00: f64,
+    pub m01: f64,
+    pub m02: f64,
+    pub m10: f64,
+    pub m11: f64,
+    pub m12: f64,
+    pub m20: f64,
+    pub m21: f64,
+    pub m22: f64,
+}
+
+// 0 and the inverse, or 15.
+#[repr(C)]
+pub struct InverseReply {
+    pub number: u8,
+    pub inverse: Matrix3,
+}
+
+// 0 and the camera, or 16.
+#[repr(C)]
+pub struct CameraReply {
+    pub number: u8,
+    pub camera: FxFyCxCy,
+}
+
+fn rows_of(m: Matrix3) -> [[f64; 3]; 3]
+    ensures { λ r. ⌜ r ≡ rowsOf m ⌝ }
+{
+    [
+        [m.m00, m.m01, m.m02],
+        [m.m10, m.m11, m.m12],
+        [m.m20, m.m21, m.m22],
+    ]
+}
+
+fn matrix_of(h: [[f64; 3]; 3]) -> Matrix3
+    ensures { λ r. ⌜ r ≡ flatMatrix h ⌝ }
+{
+    Matrix3 {
+        m00: h[0][0],
+        m01: h[0][1],
+        m02: h[0][2],
+        m10: h[1][0],
+        m11: h[1][1],
+        m12: h[1][2],
+        m20: h[2][0],
+        m21: h[2][1],
+        m22: h[2][2],
+    }
+}
+
+fn no_matrix() -> Matrix3
+    ensures { λ r. ⌜ r ≡ noMatrix ⌝ }
+{
+    Matrix3 {
+        m00: 0.0,
+        m01: 0.0,
+        m02: 0.0,
+        m10: 0.0,
+        m11: 0.0,
+        m12: 0.0,
+        m20: 0.0,
+        m21: 0.0,
+        m22: 0.0,
+    }
+}
+
+fn inverse_reply(h: [[f64; 3]; 3]) -> InverseReply
+    ensures { λ r. ⌜ r ≡ flatInverse h ⌝ }
+{
+    let number = models::sensor::tilt_number(models::sensor::tilt_verdict(h));
+    if number != 0 {
+        return InverseReply {
+            number,
+            inverse: no_matrix(),
+        };
+    }
+    InverseReply {
+        number: 0,
+        inverse: matrix_of(models::sensor::inverse(h)),
+    }
+}
+
+fn estimate_reply(e: Estimate) -> CameraReply
+    ensures { λ r. ⌜ r ≡ flatEstimate e ⌝ }
+{
+    match e {
+        Estimate::Camera(k) => CameraReply {
+            number: 0,
+            camera: k,
+        },
+        Estimate::Refused(n) => CameraReply {
+            number: n,
+            camera: FxFyCxCy {
+                fx: 0.0,
+                fy: 0.0,
+                cx: 0.0,
+                cy: 0.0,
+            },
+        },
+    }
+}
+
+#[no_mangle]
+pub extern "C" fn jc_sqrt(x: f64) -> f64
+    ensures { λ r. ⌜ r ≡ root binary64 x ⌝ }
+{
+    roots::sqrt(x)
+}
+
+#[no_mangle]
+pub extern "C" fn jc_pixel_to_sensor(k: FxFyCxCy, pixel: Pt2) -> Pt2
+    ensures { λ r. ⌜ r ≡ pixelToSensor k pixel ⌝ }
+{
+    models::intrinsics::pixel_to_sensor(k, pixel)
+}
+
+#[no_mangle]
+pub extern "C" fn jc_sensor_to_pixel(k: FxFyCxCy, sensor: Pt2) -> Pt2
+    ensures { λ r. ⌜ r ≡ sensorToPixel k sensor ⌝ }
+{
+    models::intrinsics::sensor_to_pixel(k, sensor)
+}
+
+#[no_mangle]
+pub extern "C" fn jc_tilt_projection_matrix(trig: TiltTrig) -> Matrix3
+    ensures { λ r. ⌜ r ≡ flatMatrix (tiltProjectionMatrix (trig .«sin_x») (trig .«cos_x») (trig .«sin_y») (trig .«cos_y»)) ⌝ }
+{
+    matrix_of(models::sensor::tilt_projection_matrix(
+        trig.sin_x,
+        trig.cos_x,
+        trig.sin_y,
+        trig.cos_y,
+    ))
+}
+
+#[no_mangle]
+pub extern "C" fn jc_determinant(m: Matrix3) -> f64
+    ensures { λ r. ⌜ r ≡ determinantOf (rowsOf m) ⌝ }
+{
+    models::sensor::determinant(rows_of(m))
+}
+
+#[no_mangle]
+pub extern "C" fn jc_inverse(m: Matrix3) -> InverseReply
+    ensures { λ r. ⌜ r ≡ flatInverse (rowsOf m) ⌝ }
+{
+    inverse_reply(rows_of(m))
+}
+
+#[no_mangle]
+pub extern "C" fn jc_apply_homography(h: Matrix3, p: Pt2) -> Pt2
+    ensures { λ r. ⌜ r ≡ applyHomography (rowsOf h) p ⌝ }
+{
+    models::sensor::apply_homography(rows_of(h), p)
+}
+
+#[no_mangle]
+pub extern "C" fn jc_apply_homography_inverse(h_inv: Matrix3, p: Pt2) -> Pt2
+    ensures { λ r. ⌜ r ≡ applyHomographyInverse (rowsOf «h_inv») p ⌝ }
+{
+    models::sensor::apply_homography_inverse(rows_of(h_inv), p)
+}
+
+#[no_mangle]
+pub extern "C" fn jc_distort(b: BrownConrady5, p: Pt2) -> Pt2
+    ensures { λ r. ⌜ r ≡ distorted b p ⌝ }
+{
+    models::distortion::distort(b, p)
+}
+
+#[no_mangle]
+pub extern "C" fn jc_distort_with_jacobian(b: BrownConrady5, p: Pt2) -> DistortedPoint
+    ensures { λ r. ⌜ r ≡ distortedWithJacobian b p ⌝ }
+{
+    models::distortion::distort_with_jacobian(b, p)
+}
+
+#[no_mangle]
+pub extern "C" fn jc_undistort(b: BrownConrady5, iters: u32, p: Pt2) -> Pt2
+    ensures { λ r. ⌜ r ≡ undistorted b iters p ⌝ }
+{
+    models::distortion::undistort(b, iters, p)
+}
+
+#[no_mangle]
+pub extern "C" fn jc_conic_to_camera(b: Conic) -> CameraReply
+    ensures { λ r. ⌜ r ≡ flatEstimate (fromHomographies b) ⌝ }
+{
+    estimate_reply(zhang::from_homographies(b))
+}

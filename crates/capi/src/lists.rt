@@ -1,0 +1,191 @@
+// Operations on lists of points: the point maps, normalising, the line test, the design rows and the centre.
+ghost use mathlib.Core.Path.{_≡_};
+ghost use lib.ListN.{length};
+ghost use Rattle.models.specs.Sensor.{tiltProjectionMatrix};
+ghost use Rattle.maps.specs.declared.Lens.{Lens};
+ghost use Rattle.maps.specs.Maps.{mapReply, mapDestination};
+ghost use Rattle.points.specs.Linalg.{normalizeReply, normalizeInto};
+ghost use Rattle.points.specs.Line.{lineReply};
+ghost use Rattle.points.specs.Rows.{rowsReply, rowsInto};
+ghost use Rattle.points.specs.Centre.{centerReply};
+ghost use Rattle.capi.specs.Lists.{mappedNumber, rowsNumber, flatNormalized, flatLineTest, flatCenter};
+use maps::Mapped;
+use models::intrinsics::FxFyCxCy;
+use models::math::Pt2;
+use points::centre::Center;
+use points::homography::LineTest;
+use points::homography::Rows;
+use points::linalg::Normalized;
+use score::PinholeCamera;
+use score::TiltTrig;
+
+// 0 and the transform's numbers that are neither 0 nor 1, or 17, 18 or 19.
+#[repr(C)]
+pub struct NormalizeReply {
+    pub number: u8,
+    pub t00: f64,
+    pub t02: f64,
+    pub t12: f64,
+}
+
+// 0 and 1 where the points are collinear, or 17.
+#[repr(C)]
+pub struct LineReply {
+    pub number: u8,
+    pub collinear: u8,
+}
+
+// 0 and the centre, or 17.
+#[repr(C)]
+pub struct CenterReply {
+    pub number: u8,
+    pub center: Pt2,
+}
+
+fn mapped_number(m: Mapped) -> u8
+    ensures { λ r. ⌜ r ≡ mappedNumber m ⌝ }
+{
+    match m {
+        Mapped::Done => 0,
+        Mapped::Refused(n) => n,
+    }
+}
+
+fn rows_number(w: Rows) -> u8
+    ensures { λ r. ⌜ r ≡ rowsNumber w ⌝ }
+{
+    match w {
+        Rows::Written => 0,
+        Rows::Refused(n) => n,
+    }
+}
+
+fn normalize_reply(t: Normalized) -> NormalizeReply
+    ensures { λ r. ⌜ r ≡ flatNormalized t ⌝ }
+{
+    match t {
+        Normalized::Transform { t00, t02, t12 } => NormalizeReply {
+            number: 0,
+            t00,
+            t02,
+            t12,
+        },
+        Normalized::Refused(n) => NormalizeReply {
+            number: n,
+            t00: 0.0,
+            t02: 0.0,
+            t12: 0.0,
+        },
+    }
+}
+
+fn line_reply(t: LineTest) -> LineReply
+    ensures { λ r. ⌜ r ≡ flatLineTest t ⌝ }
+{
+    match t {
+        LineTest::Collinear(yes) => LineReply {
+            number: 0,
+            collinear: crate::record::flag(yes),
+        },
+        LineTest::Refused(n) => LineReply {
+            number: n,
+            collinear: 0,
+        },
+    }
+}
+
+fn center_reply(c: Center) -> CenterReply
+    ensures { λ r. ⌜ r ≡ flatCenter c ⌝ }
+{
+    match c {
+        Center::At(p) => CenterReply {
+            number: 0,
+            center: p,
+        },
+        Center::Refused(n) => CenterReply {
+            number: n,
+            center: Pt2 { x: 0.0, y: 0.0 },
+        },
+    }
+}
+
+// The pixels of a sensor that is not tilted, at the front of `to`; 0, or 17, 18 or 15.
+#[no_mangle]
+pub extern "C" fn jc_untilt_points(
+    k: FxFyCxCy,
+    trig: TiltTrig,
+    points: &[f64],
+    to: &mut [f64],
+) -> u8
+    ensures number { λ r. ⌜ r ≡ mappedNumber (mapReply (tiltProjectionMatrix (trig .«sin_x») (trig .«cos_x») (trig .«sin_y») (trig .«cos_y»)) (now (points .entry)) (now (to .entry))) ⌝ }
+    ensures destination { λ _. ⌜ now (to .exit) ≡ mapDestination k Lens.Kept (tiltProjectionMatrix (trig .«sin_x») (trig .«cos_x») (trig .«sin_y») (trig .«cos_y»)) (now (points .entry)) (now (to .entry)) ⌝ }
+{
+    mapped_number(maps::untilt_points(
+        k,
+        trig.sin_x,
+        trig.cos_x,
+        trig.sin_y,
+        trig.cos_y,
+        points,
+        to,
+    ))
+}
+
+// The pixels of a camera with neither tilt nor distortion, at the front of `to`; 0, or 17, 18 or 15.
+#[no_mangle]
+pub extern "C" fn jc_ideal_points(
+    camera: PinholeCamera,
+    iters: u32,
+    trig: TiltTrig,
+    points: &[f64],
+    to: &mut [f64],
+) -> u8
+    ensures number { λ r. ⌜ r ≡ mappedNumber (mapReply (tiltProjectionMatrix (trig .«sin_x») (trig .«cos_x») (trig .«sin_y») (trig .«cos_y»)) (now (points .entry)) (now (to .entry))) ⌝ }
+    ensures destination { λ _. ⌜ now (to .exit) ≡ mapDestination (camera .k) (Lens.Removed (camera .dist) iters) (tiltProjectionMatrix (trig .«sin_x») (trig .«cos_x») (trig .«sin_y») (trig .«cos_y»)) (now (points .entry)) (now (to .entry)) ⌝ }
+{
+    let k = camera.k;
+    let dist = camera.dist;
+    mapped_number(maps::ideal_points(
+        k,
+        dist,
+        iters,
+        trig.sin_x,
+        trig.cos_x,
+        trig.sin_y,
+        trig.cos_y,
+        points,
+        to,
+    ))
+}
+
+// The normalised points at the front of `to`, and the transform.
+#[no_mangle]
+pub extern "C" fn jc_normalize_points_2d(points: &[f64], to: &mut [f64]) -> NormalizeReply
+    ensures reply { λ r. ⌜ r ≡ flatNormalized (normalizeReply (now (points .entry)) (length (now (to .entry)))) ⌝ }
+    ensures written { λ _. ⌜ now (to .exit) ≡ normalizeInto (now (points .entry)) (now (to .entry)) ⌝ }
+{
+    normalize_reply(points::linalg::normalize_points_2d(points, to))
+}
+
+#[no_mangle]
+pub extern "C" fn jc_points_are_collinear(points: &[f64]) -> LineReply
+    ensures { λ r. ⌜ r ≡ flatLineTest (lineReply (now (points .entry))) ⌝ }
+{
+    line_reply(points::homography::points_are_collinear(points))
+}
+
+// The design rows at the front of `to`, 18 numbers a point; 0, or 17, 18 or 20 to 26.
+#[no_mangle]
+pub extern "C" fn jc_design_rows(source: &[f64], destination: &[f64], to: &mut [f64]) -> u8
+    ensures number { λ r. ⌜ r ≡ rowsNumber (rowsReply (now (source .entry)) (now (destination .entry)) (length (now (to .entry)))) ⌝ }
+    ensures written { λ _. ⌜ now (to .exit) ≡ rowsInto (now (source .entry)) (now (destination .entry)) (now (to .entry)) ⌝ }
+{
+    rows_number(points::homography::design_rows(source, destination, to))
+}
+
+#[no_mangle]
+pub extern "C" fn jc_observed_pixel_center(pixels: &[f64]) -> CenterReply
+    ensures { λ r. ⌜ r ≡ flatCenter (centerReply (now (pixels .entry))) ⌝ }
+{
+    center_reply(points::centre::observed_pixel_center(pixels))
+}

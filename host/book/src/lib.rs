@@ -1,0 +1,11 @@
+//! The search of 01 as a plain book, written from 01 alone: vectors, no lent memory but the list,
+//! and every best looked up among the entries. It is slow and easy to check, and the differential
+//! runs hold the proved library to it, calls in wrong orders and changed lists included.
+
+mod outcome;
+mod pages;
+mod seeds;
+
+pub use outcome::{Camera, Finding, Outcome, Rows, Scored, Trig};
+pub use pages::{Answered, Book, Entry, Handed, Winner};
+pub use seeds::{Inputs, Seed};

@@ -1,0 +1,170 @@
+//! The outcome of a finding: damping, the camera check, the mean error of the rows and the score.
+
+use crate::Seed;
+
+/// A camera without tilt.
+#[derive(Clone, Copy, Debug, PartialEq)]
+pub struct Camera {
+    /// fx, fy, cx, cy in pixels.
+    pub k: [f64; 4],
+    /// k1, k2, k3.
+    pub radial: [f64; 3],
+    /// p1, p2.
+    pub tangential: [f64; 2],
+}
+
+/// Sine and cosine of the tilt about x, then of the tilt about y.
+#[derive(Clone, Copy, Debug, PartialEq)]
+pub struct Trig {
+    /// Sine and cosine of the tilt about x.
+    pub x: [f64; 2],
+    /// Sine and cosine of the tilt about y.
+    pub y: [f64; 2],
+}
+
+/// What the host sends to Answer.
+#[derive(Clone, Copy, Debug)]
+pub enum Finding {
+    /// The host found no camera.
+    Failed,
+    /// The host's camera and the sines and cosines of its seed's tilts.
+    Solved(Camera, Trig),
+}
+
+/// The rows beside a finding: x, y, u, v each, and a flag each.
+#[derive(Clone, Copy, Debug)]
+pub struct Rows<'a> {
+    /// Four numbers a row: the ideal point, then the seen pixel.
+    pub numbers: &'a [f64],
+    /// 1 where the point is in front of the camera, 0 where it isn't.
+    pub flags: &'a [u8],
+}
+
+/// The numbers of a scored candidate.
+#[derive(Clone, Copy, Debug, PartialEq)]
+pub struct Scored {
+    /// The damped camera.
+    pub camera: Camera,
+    /// The mean error of the counted rows, in pixels.
+    pub mean: f64,
+    /// The mean and the penalties.
+    pub score: f64,
+}
+
+/// What became of a candidate.
+#[derive(Clone, Copy, Debug, PartialEq)]
+pub enum Outcome {
+    /// Left out: 1 the host failed, 2 no camera, 3 no finite mean.
+    Skipped(u8),
+    /// Compared by its score.
+    Scored(Scored),
+}
+
+type Matrix = [[f64; 3]; 3];
+
+fn product(a: Matrix, b: Matrix) -> Matrix {
+    let entry = |i: usize, j: usize| a[i][0] * b[0][j] + a[i][1] * b[1][j] + a[i][2] * b[2][j];
+    std::array::from_fn(|i| std::array::from_fn(|j| entry(i, j)))
+}
+
+fn determinant(m: Matrix) -> f64 {
+    let minor = |a: usize, b: usize| m[1][a] * m[2][b] - m[1][b] * m[2][a];
+    m[0][0] * minor(1, 2) - m[0][1] * minor(0, 2) + m[0][2] * minor(0, 1)
+}
+
+/// P × R with R = rot_y × rot_x.
+fn tilt_matrix(trig: Trig) -> Matrix {
+    let ([sx, cx], [sy, cy]) = (trig.x, trig.y);
+    let rot_x = [[1.0, 0.0, 0.0], [0.0, cx, sx], [0.0, -sx, cx]];
+    let rot_y = [[cy, 0.0, -sy], [0.0, 1.0, 0.0], [sy, 0.0, cy]];
+    let r = product(rot_y, rot_x);
+    let p = [[r[2][2], 0.0, -r[0][2]], [0.0, r[2][2], -r[1][2]], [0.0, 0.0, 1.0]];
+    product(p, r)
+}
+
+impl Camera {
+    fn damped(self) -> Self {
+        // A NaN stays, and so does −0.
+        let limited = |p: f64| p.clamp(-0.05, 0.05);
+        Self { k: self.k, radial: [0.0; 3], tangential: self.tangential.map(limited) }
+    }
+
+    fn is_camera(&self) -> bool {
+        let mut numbers = self.k.iter().chain(&self.radial).chain(&self.tangential);
+        numbers.all(|number| number.is_finite()) && self.k[0] > 0.0 && self.k[1] > 0.0
+    }
+
+    fn distorted(&self, [x, y]: [f64; 2]) -> [f64; 2] {
+        let ([k1, k2, k3], [p1, p2]) = (self.radial, self.tangential);
+        let r2 = x * x + y * y;
+        let r4 = r2 * r2;
+        let r6 = r4 * r2;
+        let radial = 1.0 + k1 * r2 + k2 * r4 + k3 * r6;
+        let x_tangential = 2.0 * p1 * x * y + p2 * (r2 + 2.0 * x * x);
+        let y_tangential = p1 * (r2 + 2.0 * y * y) + 2.0 * p2 * x * y;
+        [x * radial + x_tangential, y * radial + y_tangential]
+    }
+
+    fn projected(&self, tilt: Matrix, ideal: [f64; 2]) -> [f64; 2] {
+        let [x, y] = self.distorted(ideal);
+        let [qx, qy, qz] = tilt.map(|row| row[0] * x + row[1] * y + row[2] * 1.0);
+        let z = if qz > 1e-12 { qz } else { 1e-12 };
+        let [fx, fy, cx, cy] = self.k;
+        [fx * (qx / z) + cx, fy * (qy / z) + cy]
+    }
+
+    /// Infinity where no row is counted.
+    fn mean_error(&self, tilt: Matrix, rows: Rows) -> f64 {
+        let (mut sum, mut count) = (0.0, 0_u32);
+        for (row, &flag) in rows.numbers.chunks_exact(4).zip(rows.flags) {
+            let [u, v] = self.projected(tilt, [row[0], row[1]]);
+            let (dx, dy) = (u - row[2], v - row[3]);
+            let error = (dx * dx + dy * dy).sqrt();
+            if flag == 1 && error.is_finite() {
+                sum += error;
+                count += 1;
+            }
+        }
+        if count == 0 { f64::INFINITY } else { sum / f64::from(count) }
+    }
+
+    fn score(&self, mean: f64, tilts: [f64; 2], centre: [f64; 2]) -> f64 {
+        let ([k1, k2, k3], [p1, p2]) = (self.radial, self.tangential);
+        let radial = k1 * k1 + k2 * k2 + 0.25 * k3 * k3;
+        let distortion = 0.25 * (radial + (p1 * p1 + p2 * p2));
+        let tilt = 0.25 * (tilts[0] * tilts[0] + tilts[1] * tilts[1]);
+        // Weight 0, kept since it is NaN where the square overflows.
+        let [dx, dy] = [0, 1].map(|i| (self.k[2 + i] - centre[i]) / self.k[i].max(1.0));
+        mean + distortion + tilt + 0.0 * (dx * dx + dy * dy)
+    }
+}
+
+impl Finding {
+    /// The number with which Answer refuses this finding, if it does; 12 and 10 come before.
+    pub(crate) fn refusal(&self, rows: Rows) -> Option<u8> {
+        let Self::Solved(_, trig) = self else { return None };
+        let points = rows.flags.len();
+        if points > 1024
+            || rows.numbers.len() != 4 * points
+            || rows.flags.iter().any(|&flag| flag > 1)
+        {
+            return Some(13);
+        }
+        (determinant(tilt_matrix(*trig)) == 0.0).then_some(15)
+    }
+
+    /// The outcome of a finding that isn't refused.
+    pub(crate) fn outcome(&self, seed: Seed, centre: [f64; 2], rows: Rows) -> Outcome {
+        let Self::Solved(solved, trig) = self else { return Outcome::Skipped(1) };
+        let camera = solved.damped();
+        if !camera.is_camera() {
+            return Outcome::Skipped(2);
+        }
+        let mean = camera.mean_error(tilt_matrix(*trig), rows);
+        if !mean.is_finite() {
+            return Outcome::Skipped(3);
+        }
+        let score = camera.score(mean, seed.tilts, centre);
+        Outcome::Scored(Scored { camera, mean, score })
+    }
+}

@@ -1,0 +1,131 @@
+//! 01's own values, and runs of a few calls that can be followed by hand.
+#![allow(missing_docs)]
+
+use book::{Answered, Book, Camera, Finding, Handed, Inputs, Outcome, Rows, Trig};
+
+const NO_ROWS: Rows = Rows { numbers: &[], flags: &[] };
+const LEVEL: Trig = Trig { x: [0.0, 1.0], y: [0.0, 1.0] };
+
+fn inputs(x: &[f64], y: &[f64]) -> Inputs {
+    Inputs {
+        views: 3,
+        tilt_x_seeds: x.to_vec(),
+        tilt_y_seeds: y.to_vec(),
+        rounds: 1,
+        refine_step: 0.125,
+        max_abs_tilt: 0.25,
+        decomposition: Vec::new(),
+        base: [2.0, 2.0, 0.0, 0.0],
+        centre: [0.0, 0.0],
+    }
+}
+
+fn camera() -> Camera {
+    Camera { k: [2.0, 2.0, 0.0, 0.0], radial: [9.0; 3], tangential: [f64::INFINITY, -0.0] }
+}
+
+/// A camera whose only row is the given number of pixels off.
+fn row(error: f64) -> [f64; 4] {
+    [0.0, 0.0, error, 0.0]
+}
+
+fn solved() -> Finding {
+    Finding::Solved(Camera { tangential: [0.0; 2], ..camera() }, LEVEL)
+}
+
+fn answer(book: &mut Book, lent: &mut [f64], error: f64) -> Answered {
+    book.answer(&solved(), Rows { numbers: &row(error), flags: &[1] }, lent)
+}
+
+#[test]
+fn grid_seeds_beyond_the_bound_are_skipped_and_equal_ones_merged() {
+    assert_eq!(inputs(&[0.25, 0.5], &[0.0]).first_list().len(), 1);
+    let list = inputs(&[0.0, -0.0], &[0.0]).first_list();
+    assert_eq!(list.len(), 1);
+    assert!(list[0].tilts[0].is_sign_positive());
+}
+
+#[test]
+fn next_list_keeps_six_at_the_bound() {
+    let list = inputs(&[0.0], &[0.0]).next_list(1, [1.0; 4], [0.25, 0.0]);
+    let tilts: Vec<_> = list.iter().map(|seed| seed.tilts).collect();
+    let expected =
+        [[0.125, -0.125], [0.125, 0.0], [0.125, 0.125], [0.25, -0.125], [0.25, 0.0], [0.25, 0.125]];
+    assert_eq!(tilts, expected);
+}
+
+#[test]
+fn start_refuses_by_the_first_number() {
+    let refusal = |change: fn(&mut Inputs), len: usize| {
+        let mut inputs = inputs(&[0.0], &[0.0]);
+        change(&mut inputs);
+        inputs.refusal(len)
+    };
+    assert_eq!(refusal(|_| (), 54), None);
+    assert_eq!(refusal(|i| (i.views, i.tilt_x_seeds) = (2, vec![]), 54), Some(1));
+    assert_eq!(refusal(|i| i.tilt_y_seeds.clear(), 54), Some(2));
+    assert_eq!(refusal(|i| i.max_abs_tilt = f64::NAN, 54), Some(3));
+    assert_eq!(refusal(|i| i.refine_step = 0.0, 54), Some(4));
+    assert_eq!(refusal(|i| (i.refine_step, i.rounds) = (0.0, 0), 54), None);
+    assert_eq!(refusal(|i| i.decomposition = vec![1.0; 5], 54), Some(5));
+    assert_eq!(refusal(|i| i.decomposition = vec![1.0; 6], 54), Some(6));
+    assert_eq!(refusal(|i| i.tilt_x_seeds = vec![f64::INFINITY], 54), Some(7));
+    assert_eq!(refusal(|_| (), 53), Some(8));
+}
+
+#[test]
+fn run_without_seeds_is_over_at_once() {
+    let mut lent = [7.0; 54];
+    let mut book = Book::start(inputs(&[0.5], &[0.0]), &mut lent).unwrap();
+    assert_eq!(book.next(&lent), Handed::Refused(11));
+    assert_eq!(book.result(), Err(11));
+    assert_eq!(lent, [7.0; 54]);
+}
+
+#[test]
+fn calls_out_of_order_are_refused() {
+    let mut lent = [0.0; 54];
+    let mut book = Book::start(inputs(&[0.0], &[0.0]), &mut lent).unwrap();
+    assert!(book.seed(&lent).is_empty());
+    assert_eq!(answer(&mut book, &mut lent, 1.0), Answered::Refused(12));
+    assert_eq!(book.next(&lent[..53]), Handed::Refused(10));
+    assert_eq!(book.next(&lent), Handed::Candidate(0));
+    assert_eq!(book.seed(&lent), [2.0, 2.0, 0.0, 0.0, 0.0, 0.0]);
+    assert_eq!(book.next(&lent), Handed::Refused(9));
+    assert_eq!(book.result(), Err(14));
+    let singular = Finding::Solved(camera(), Trig { x: [1.0, 0.0], y: [0.0, 1.0] });
+    assert_eq!(book.answer(&singular, NO_ROWS, &mut lent), Answered::Refused(15));
+    let shapeless = Rows { numbers: &[], flags: &[1] };
+    assert_eq!(book.answer(&solved(), shapeless, &mut lent), Answered::Refused(13));
+    assert!(matches!(answer(&mut book, &mut lent, 1.0), Answered::Entered(Outcome::Scored(_))));
+}
+
+#[test]
+fn damping_keeps_the_sign_of_zero_and_limits_infinity() {
+    let mut lent = [0.0; 54];
+    let mut book = Book::start(inputs(&[0.0], &[0.0]), &mut lent).unwrap();
+    book.next(&lent);
+    let rows = Rows { numbers: &row(3.0), flags: &[1] };
+    let reply = book.answer(&Finding::Solved(camera(), LEVEL), rows, &mut lent);
+    let Answered::Entered(Outcome::Scored(scored)) = reply else { panic!("{reply:?}") };
+    assert_eq!(scored.camera.radial, [0.0; 3]);
+    assert_eq!(scored.camera.tangential, [0.05, 0.0]);
+    assert!(scored.camera.tangential[1].is_sign_negative());
+    assert_eq!(scored.mean, 3.0);
+}
+
+#[test]
+fn earliest_of_equal_scores_wins_and_rounds_end_the_run() {
+    let mut lent = [0.0; 54];
+    let mut book = Book::start(inputs(&[0.0], &[0.0]), &mut lent).unwrap();
+    for number in 0..10 {
+        assert_eq!(book.next(&lent), Handed::Candidate(number));
+        // Two opposite tilts get the same score, the lowest.
+        let error = if number == 2 || number == 8 { 1.0 } else { 2.0 };
+        answer(&mut book, &mut lent, error);
+    }
+    let scores: Vec<_> = book.entries().iter().map(|entry| entry.outcome).collect();
+    assert_eq!(scores[2], scores[8]);
+    assert_eq!(book.next(&lent), Handed::Over);
+    assert_eq!(book.result().unwrap().number, 2);
+}

@@ -1,0 +1,235 @@
+//! Times the library beside the published Rust (the oracle's build of it): same inputs, same process, release builds.
+//! Prints a table of medians. No buffer is cleared between two turns; both sides run on warm memory.
+
+use jinnychair::record::{self, answer, next, seed, start};
+use jinnychair::{
+    BrownConrady5, Finding as LibraryFinding, FxFyCxCy, Handed, PinholeCamera, Pt2, Rows,
+    ScheimpflugParams, TiltTrig, geometry,
+};
+use oracle::operations::search::{Inputs, run};
+use random::Random;
+use std::hint::black_box;
+use std::time::Instant;
+use vision_calibration_core::given_tilt::{self, GivenTilt};
+use vision_calibration_core::{
+    BrownConrady5 as PublishedDistortion, DistortionModel, Pt2 as PublishedPoint,
+    ScheimpflugParams as PublishedTilts,
+};
+use vision_calibration_linear::scheimpflug_init::access as published;
+use vision_calibration_linear::script::{
+    Finding, Row, SeedNumbers, dataset_of_rows, identity_poses, pinhole_camera, play,
+};
+
+/// How often each side is timed; the median counts.
+const TURNS: usize = 31;
+/// Nanoseconds that make a time worth reading.
+const LONG_ENOUGH: f64 = 5e6;
+const ROWS: usize = 900;
+
+/// Nanoseconds that this thread has been on a processor, where Linux says so: other programs then don't count.
+fn time_on_processor() -> Option<u64> {
+    let times = std::fs::read_to_string("/proc/thread-self/schedstat").ok()?;
+    times.split(' ').next()?.parse().ok()
+}
+
+/// Nanoseconds for one of `repeats` turns.
+fn timed(repeats: usize, turn: &mut impl FnMut()) -> f64 {
+    let (start, on_processor) = (Instant::now(), time_on_processor());
+    (0..repeats).for_each(|_| turn());
+    let nanoseconds = match (on_processor, time_on_processor()) {
+        (Some(before), Some(after)) if after > before => (after - before) as f64,
+        _ => start.elapsed().as_nanos() as f64,
+    };
+    nanoseconds / repeats as f64
+}
+
+/// Median nanoseconds for one of `count` operations that `turn` does.
+fn median(count: usize, mut turn: impl FnMut()) -> f64 {
+    // A turn is repeated so often that reading the clock doesn't count.
+    let repeats = (LONG_ENOUGH / timed(1, &mut turn)).ceil() as usize;
+    let mut times: Vec<f64> = (0..TURNS).map(|_| timed(repeats, &mut turn)).collect();
+    times.sort_by(f64::total_cmp);
+    times[TURNS / 2] / count as f64
+}
+
+/// Uses a value as far as the compiler can tell.
+fn keep<T>(value: T) {
+    black_box(value);
+}
+
+fn report(name: &str, library: f64, rust: f64) {
+    let time = |ns: f64| match ns {
+        ns if ns < 1e4 => format!("{ns:.1} ns"),
+        ns if ns < 1e7 => format!("{:.1} µs", ns / 1e3),
+        ns => format!("{:.1} ms", ns / 1e6),
+    };
+    println!("| {name} | {} | {} | {:.2} |", time(library), time(rust), library / rust);
+}
+
+fn main() {
+    println!("| what | library | Rust | ratio |\n|---|---|---|---|");
+    let mut random = Random::named("bench");
+    roots(&mut random);
+    distortions(&mut random);
+    scoring(&mut random);
+    first_list();
+    whole_run(&mut random);
+}
+
+fn roots(random: &mut Random) {
+    let numbers: Vec<f64> = (0..4096).map(|_| random.unit() * 1e6).collect();
+    let independent = |root: fn(f64) -> f64| {
+        median(numbers.len(), || numbers.iter().for_each(|&x| keep(root(black_box(x)))))
+    };
+    report(
+        "root (the Rust's is one instruction)",
+        independent(geometry::sqrt),
+        independent(f64::sqrt),
+    );
+    // Each root waits for the one before.
+    let in_turn = |root: fn(f64) -> f64| {
+        median(numbers.len(), || keep(numbers.iter().fold(1.5, |last, x| x + 1e-3 * root(last))))
+    };
+    report("root, each waiting for the last", in_turn(geometry::sqrt), in_turn(f64::sqrt));
+}
+
+fn distortions(random: &mut Random) {
+    let b = BrownConrady5 { k1: -0.21, k2: 0.043, k3: -0.002, p1: 0.001, p2: -0.0007 };
+    let p = PublishedDistortion { k1: b.k1, k2: b.k2, k3: b.k3, p1: b.p1, p2: b.p2, iters: 0 };
+    let points: Vec<[f64; 2]> =
+        (0..1024).map(|_| [random.within(0.5), random.within(0.4)]).collect();
+    let each = |f: &dyn Fn([f64; 2])| median(points.len(), || points.iter().for_each(|&q| f(q)));
+    report(
+        "distort",
+        each(&|[x, y]| keep(b.distort(black_box(Pt2 { x, y })))),
+        each(&|[x, y]| keep(p.distort(&black_box(PublishedPoint::new(x, y))))),
+    );
+    report(
+        "undistort",
+        each(&|[x, y]| keep(b.undistort(0, black_box(Pt2 { x, y })))),
+        each(&|[x, y]| keep(p.undistort(&black_box(PublishedPoint::new(x, y))))),
+    );
+}
+
+const CAMERA: [f64; 9] = [800.0, 790.0, 320.5, 239.25, 0.0, 0.0, 0.0, 0.01, -0.02];
+
+fn rows(random: &mut Random) -> Vec<Row> {
+    let row = |_| {
+        let ideal = [random.within(0.4), random.within(0.3)];
+        let seen = [800.0 * ideal[0] + 320.5 + random.within(1.0), 790.0 * ideal[1] + 239.25];
+        Row { ideal, seen, in_front: true }
+    };
+    (0..ROWS).map(row).collect()
+}
+
+/// The same rows as the library takes them.
+fn flat(rows: &[Row]) -> (Vec<f64>, Vec<u8>) {
+    let numbers = rows.iter().flat_map(|row| [row.ideal, row.seen].concat()).collect();
+    (numbers, rows.iter().map(|row| u8::from(row.in_front)).collect())
+}
+
+fn library_camera() -> PinholeCamera {
+    let [fx, fy, cx, cy, k1, k2, k3, p1, p2] = CAMERA;
+    PinholeCamera { k: FxFyCxCy { fx, fy, cx, cy }, dist: BrownConrady5 { k1, k2, k3, p1, p2 } }
+}
+
+fn given(trig: TiltTrig) -> GivenTilt {
+    GivenTilt { sin_x: trig.sin_x, cos_x: trig.cos_x, sin_y: trig.sin_y, cos_y: trig.cos_y }
+}
+
+fn scoring(random: &mut Random) {
+    let rows = rows(random);
+    let (numbers, flags) = flat(&rows);
+    let trig = TiltTrig::from(ScheimpflugParams { tilt_x: 0.05, tilt_y: -0.02 });
+    let camera = library_camera();
+    let library = median(1, || {
+        let rows = Rows { numbers: black_box(&numbers), flags: &flags };
+        black_box(geometry::mean_reproj_error(camera, trig, rows));
+    });
+    let (dataset, poses, camera) =
+        (dataset_of_rows(&rows), identity_poses(), pinhole_camera(CAMERA));
+    let rust = median(1, || {
+        given_tilt::give(given(trig));
+        let tilts = PublishedTilts::default();
+        black_box(published::mean_reproj_error(black_box(&dataset), &camera, tilts, &poses));
+    });
+    report("projecting and scoring 900 rows", library, rust);
+}
+
+/// 256 decomposition seeds and a grid of 16 by 16, none of them near another.
+fn most_seeds() -> Inputs {
+    let tilts: Vec<f64> = (0..16).map(|i| 0.015625 * f64::from(i) - 0.125).collect();
+    let decomposition = |i: usize| {
+        let (column, row) = ((i % 16) as f64, (i / 16) as f64);
+        [750.0 + column, 800.0, 320.0, 240.0, 0.0078125 * row, 0.0625]
+    };
+    Inputs {
+        views: 3,
+        tilt_x_seeds: tilts.clone(),
+        tilt_y_seeds: tilts,
+        rounds: 16,
+        refine_step: 0.0625,
+        max_abs_tilt: 0.25,
+        decomposition: (0..256).flat_map(decomposition).collect(),
+        base: [800.0, 790.0, 320.5, 239.25],
+        center: [320.0, 240.0],
+    }
+}
+
+fn first_list() {
+    let inputs = most_seeds();
+    let for_library = compare::library::library_inputs(&inputs);
+    let mut list = vec![0.0; 6 * 512];
+    let library = median(1, || {
+        let run = start(black_box(&for_library), &mut list).expect("good inputs");
+        assert_eq!(black_box(run).place.len, 512);
+    });
+    let (dataset, options) = (inputs.dataset(), inputs.options());
+    let base = pinhole_camera(CAMERA).k;
+    let never_asked = |_: &SeedNumbers| Finding::Failed;
+    let rust = median(1, || {
+        let (seeds, _) = play(inputs.given(), never_asked, || {
+            published::validate_options(&dataset, &options)?;
+            published::initial_seed_grid(&dataset, &base, &options)
+        });
+        assert_eq!(black_box(seeds).expect("good inputs").len(), 512);
+    });
+    report("building a round-0 list of 512 seeds", library, rust);
+}
+
+fn whole_run(random: &mut Random) {
+    let inputs = most_seeds();
+    let rows = rows(random);
+    let (numbers, flags) = flat(&rows);
+    let camera = library_camera();
+    let library = median(1, || {
+        let mut list = vec![0.0; 6 * 512];
+        let for_library = compare::library::library_inputs(&inputs);
+        let mut run = start(&for_library, &mut list).expect("good inputs");
+        while let Ok(Handed::Candidate(_)) = next(&mut run, &list) {
+            let [.., tilt_x, tilt_y] = seed(&run, &list).expect("a seed waits");
+            let trig = TiltTrig::from(ScheimpflugParams { tilt_x, tilt_y });
+            let rows = Rows { numbers: &numbers, flags: &flags };
+            let finding = LibraryFinding::Solved { camera, trig, rows };
+            answer(&mut run, &finding, &mut list).expect("a good answer");
+        }
+        assert_eq!(run.place.number, 656);
+        black_box(record::result(&run)).expect("a winner");
+    });
+    // The script of the oracle copies each answer's rows into a dataset; that copying is timed alone and taken off.
+    let scripted = median(1, || {
+        let rows = rows.clone();
+        let host = move |seed: &SeedNumbers| {
+            let [.., tilt_x, tilt_y] = *seed;
+            let trig = TiltTrig::from(ScheimpflugParams { tilt_x, tilt_y });
+            Finding::Solved { camera: CAMERA, tilt: given(trig), rows: rows.clone() }
+        };
+        black_box(run(&inputs, host)).expect("a winner");
+    });
+    let copying = median(1, || {
+        for _ in 0..656 {
+            black_box(dataset_of_rows(&black_box(rows.clone())));
+        }
+    });
+    report("a whole run of 656 answers with 900 rows", library, scripted - copying);
+}

@@ -1,0 +1,123 @@
+//! What a host sends to Answer, good and bad, for both sides.
+
+use jinnychair::{
+    BrownConrady5, Finding, FxFyCxCy, PinholeCamera, Rows, ScheimpflugParams, TiltTrig,
+};
+use random::Random;
+
+/// A host's answer.
+#[derive(Clone, Debug)]
+pub enum Sent {
+    /// No camera.
+    Failed,
+    /// A camera, the sines and cosines, and rows with their flags, which may have any shape.
+    Solved { camera: [f64; 9], trig: [f64; 4], rows: Vec<f64>, flags: Vec<u8> },
+}
+
+impl Sent {
+    /// For the library.
+    pub fn finding(&self) -> Finding<'_> {
+        match self {
+            Self::Failed => Finding::Failed,
+            Self::Solved { camera, trig, rows, flags } => {
+                let [fx, fy, cx, cy, k1, k2, k3, p1, p2] = *camera;
+                let [sin_x, cos_x, sin_y, cos_y] = *trig;
+                Finding::Solved {
+                    camera: PinholeCamera {
+                        k: FxFyCxCy { fx, fy, cx, cy },
+                        dist: BrownConrady5 { k1, k2, k3, p1, p2 },
+                    },
+                    trig: TiltTrig { sin_x, cos_x, sin_y, cos_y },
+                    rows: Rows { numbers: rows, flags },
+                }
+            }
+        }
+    }
+
+    /// For the book.
+    pub fn for_book(&self) -> (book::Finding, book::Rows<'_>) {
+        match self {
+            Self::Failed => (book::Finding::Failed, book::Rows { numbers: &[], flags: &[] }),
+            Self::Solved { camera, trig, rows, flags } => {
+                let [fx, fy, cx, cy, k1, k2, k3, p1, p2] = *camera;
+                let camera = book::Camera {
+                    k: [fx, fy, cx, cy],
+                    radial: [k1, k2, k3],
+                    tangential: [p1, p2],
+                };
+                let trig = book::Trig { x: [trig[0], trig[1]], y: [trig[2], trig[3]] };
+                (book::Finding::Solved(camera, trig), book::Rows { numbers: rows, flags })
+            }
+        }
+    }
+
+    /// An answer to a seed: mostly a good one, with few rows. A host whose answers tie sends the same exact one most times.
+    pub fn draw(seed: &[f64; 6], ties: bool, random: &mut Random) -> Self {
+        if random.once_in(12) {
+            return Self::Failed;
+        }
+        if ties && !random.once_in(6) {
+            return Self::exact(random.pick(&[1.0, 1.0, 1.0, 2.0]));
+        }
+        let [fx, fy, cx, cy, tilt_x, tilt_y] = *seed;
+        let mut camera = [fx, fy, cx, cy, 0.1, -0.2, 0.3, 0.0, 0.0];
+        for number in &mut camera[..4] {
+            *number += random.within(2.0);
+        }
+        camera[7] = random.pick(&[0.0, -0.0, 0.01, 0.05, 0.07, -0.3]);
+        camera[8] = random.pick(&[0.0, -0.0, -0.002, -0.05, 0.3]);
+        if random.once_in(10) {
+            camera[random.below(9)] = random.pick(&ODD);
+        }
+        let sensor = ScheimpflugParams { tilt_x, tilt_y };
+        let TiltTrig { sin_x, cos_x, sin_y, cos_y } = TiltTrig::from(sensor);
+        let mut trig = [sin_x, cos_x, sin_y, cos_y];
+        if random.once_in(20) {
+            // A determinant of 0, of either sign.
+            trig = random.pick(&[[1.0, 0.0, 0.0, 1.0], [0.0, 1.0, -1.0, 0.0], [0.0; 4]]);
+        }
+        let (rows, flags) = rows(&camera, [tilt_x, tilt_y], random);
+        Self::Solved { camera, trig, rows, flags }
+    }
+}
+
+impl Sent {
+    /// No tilt and exact numbers: the row's error is 5, times the factor.
+    fn exact(times: f64) -> Self {
+        Self::Solved {
+            camera: [512.0, 512.0, 256.0, 192.0, 0.0, 0.0, 0.0, 0.0, 0.0],
+            trig: [0.0, 1.0, 0.0, 1.0],
+            rows: vec![0.25, -0.5, 384.0 + 3.0 * times, -64.0 - 4.0 * times],
+            flags: vec![1],
+        }
+    }
+}
+
+const ODD: [f64; 9] =
+    [f64::NAN, f64::INFINITY, f64::NEG_INFINITY, 0.0, -0.0, -800.0, 1e200, 1e-310, f64::MAX];
+
+fn rows(camera: &[f64; 9], tilts: [f64; 2], random: &mut Random) -> (Vec<f64>, Vec<u8>) {
+    let count = random.pick(&[0, 1, 1, 2, 3, 3, 4, 5]);
+    let error = 40.0 * (tilts[0] - 0.03).abs() + 40.0 * (tilts[1] + 0.02).abs() + 0.25;
+    let (mut rows, mut flags) = (Vec::new(), Vec::new());
+    for _ in 0..count {
+        let [x, y] = [random.within(0.5), random.within(0.4)];
+        let mut row = [x, y, camera[0] * x + camera[2], camera[1] * y + camera[3]];
+        row[2] += if random.once_in(2) { random.within(error) } else { 3.0 };
+        if random.once_in(15) {
+            row[random.below(4)] = random.pick(&ODD);
+        }
+        rows.extend(row);
+        flags.push(u8::from(!random.once_in(5)));
+    }
+    // Shapes that 13 refuses.
+    match random.below(60) {
+        0 => rows.push(0.0),
+        1 => flags.push(1),
+        2 if !flags.is_empty() => flags[0] = random.pick(&[2, 255]),
+        3 => (rows, flags) = (vec![0.5; 4 * 1025], vec![1; 1025]),
+        4 => (rows, flags) = (vec![0.5; 4 * 1024], vec![1; 1024]),
+        _ => {}
+    }
+    (rows, flags)
+}

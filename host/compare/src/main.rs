@@ -1,0 +1,102 @@
+//! Compares the library with the oracle and with the book, and prints what was compared and every difference with its input.
+//!
+//!     compare [LEAF CASES] [SEARCHES] [SEED]
+
+use compare::calls::{Tally, play};
+use compare::library::answer_words;
+use oracle::generate::{Endless, endless};
+use oracle::operations::search::Inputs;
+use random::Random;
+use std::process::ExitCode;
+use words::{Reader, line, word};
+
+/// Beyond this many, differences are counted and not printed.
+const MOST_PRINTED: usize = 20;
+
+struct Differences {
+    count: usize,
+}
+
+impl Differences {
+    fn add(&mut self, text: &str) {
+        self.count += 1;
+        if self.count <= MOST_PRINTED {
+            println!("difference: {text}");
+        }
+    }
+}
+
+fn main() -> ExitCode {
+    let words: Vec<String> = std::env::args().skip(1).collect();
+    let number = |i: usize, default: usize| {
+        words.get(i).map_or(default, |word| word.parse().expect("a whole number"))
+    };
+    let (leaves, searches) = (number(0, 1_000_000), number(1, 10_000));
+    let seed = words.get(2).map_or("1", String::as_str);
+    println!("seed {seed}");
+
+    let mut differences = Differences { count: 0 };
+    let families = endless(seed);
+    let operations = families.iter().filter(|family| family.operation != "search").count() + 1;
+    let each = leaves.div_ceil(operations);
+    compare_roots(each, seed, &mut differences);
+    for family in families {
+        let count = if family.operation == "search" { searches } else { each };
+        compare_with_oracle(family, count, &mut differences);
+    }
+    compare_with_book(searches, seed, &mut differences);
+    println!("{} differences", differences.count);
+    if differences.count == 0 { ExitCode::SUCCESS } else { ExitCode::FAILURE }
+}
+
+/// The machine's root is IEEE's.
+fn compare_roots(count: usize, seed: &str, differences: &mut Differences) {
+    let mut random = Random::named(&format!("roots, {seed}"));
+    for _ in 0..count {
+        let x = f64::from_bits(random.bits());
+        let (library, machine) = (word(jinnychair::geometry::sqrt(x)), word(x.sqrt()));
+        if library != machine {
+            differences.add(&format!("sqrt {}: {library:016x}, {machine:016x}", line(&[word(x)])));
+        }
+    }
+    println!("{:28}{count} cases", "sqrt (the machine's)");
+}
+
+fn compare_with_oracle(family: Endless, count: usize, differences: &mut Differences) {
+    let operation = family.operation;
+    for (input, output) in family.cases.take(count) {
+        match answer_words(operation, &input) {
+            Ok(words) if words == output => {}
+            Ok(words) => differences.add(&format!(
+                "{operation} {}: the library gives {}, the oracle {}",
+                line(&input),
+                line(&words),
+                line(&output)
+            )),
+            Err(fault) => differences.add(&format!("{operation} {}: {fault}", line(&input))),
+        }
+    }
+    println!("{operation:28}{count} cases");
+}
+
+fn compare_with_book(count: usize, seed: &str, differences: &mut Differences) {
+    let lists = endless(&format!("{seed}, calls")).into_iter();
+    let lists = lists.filter(|family| family.operation == "seed_lists").flat_map(|f| f.cases);
+    let mut random = Random::named(&format!("calls, {seed}"));
+    let mut tally = Tally::default();
+    for (i, (input, _)) in lists.take(count).enumerate() {
+        let inputs = Inputs::read(&mut Reader::new(&input)).expect("the oracle answered them");
+        if let Err(fault) = play(inputs, &mut random.fork(), &mut tally) {
+            differences.add(&format!("list of calls {i}, {}: {fault}", line(&input)));
+        }
+    }
+    println!("lists of calls              {count} cases");
+    println!("  {} accepted Starts, {} calls in all", tally.runs, tally.calls);
+    let [scored, skipped @ ..] = tally.entered;
+    println!("  {scored} answers scored, skipped by reasons 1 to 3: {skipped:?}");
+    let refused = tally.refused.iter().enumerate().filter(|(_, times)| **times > 0);
+    let refused: Vec<String> = refused.map(|(n, times)| format!("{n}: {times}")).collect();
+    println!("  refused, by number: {}", refused.join(", "));
+    println!("  {} runs with a result, {} that ended without", tally.results[0], tally.results[1]);
+    println!("  {} calls on records that no search can have made", tally.unsound);
+}

@@ -1,0 +1,56 @@
+//! A run's record as words, from the library and as the book says that it must be.
+
+use book::{Book, Seed as BookSeed, Winner as BookWinner};
+use jinnychair::record::{Best, Run};
+use words::{float_words, word};
+
+/// Every number of a record.
+pub fn of_run(run: &Run) -> Vec<u64> {
+    let (o, p, w) = (run.options, run.place, run.waiting);
+    let mut words = vec![o.refine_rounds as u64];
+    words.extend(float_words(&[o.refine_step, o.max_abs_tilt, run.center.x, run.center.y]));
+    words.extend([p.demand as u64, p.round as u64, word(p.step)]);
+    words.extend([p.len as u64, p.at as u64, p.number as u64, p.over.into()]);
+    words.push(w.is_waiting.into());
+    words.extend(float_words(&w.seed.numbers()));
+    words.extend(of_best(&run.round_best));
+    words.extend(of_best(&run.run_best));
+    words
+}
+
+fn of_best(best: &Best) -> Vec<u64> {
+    let c = best.candidate;
+    let (k, d) = (c.camera.k, c.camera.dist);
+    let mut words = vec![best.found.into(), c.number as u64];
+    words.extend(float_words(&[k.fx, k.fy, k.cx, k.cy, d.k1, d.k2, d.k3, d.p1, d.p2]));
+    let sensor = c.sensor;
+    words.extend(float_words(&[sensor.tilt_x, sensor.tilt_y, c.mean_reproj_error, c.score]));
+    words
+}
+
+/// The record that a run with this book must have.
+pub fn of_book(book: &Book) -> Vec<u64> {
+    let inputs = book.inputs();
+    let mut words = vec![inputs.rounds as u64];
+    words.extend(float_words(&[inputs.refine_step, inputs.max_abs_tilt]));
+    words.extend(float_words(&inputs.centre));
+    words.extend([inputs.demand() as u64, book.round() as u64, word(inputs.step(book.round()))]);
+    words.extend([book.list_len() as u64, book.position() as u64]);
+    words.extend([book.entries().len() as u64, book.is_over().into()]);
+    words.push(book.waiting().is_some().into());
+    words.extend(book.waiting().map_or(vec![0; 6], |seed: BookSeed| float_words(&seed.numbers())));
+    words.extend(of_winner(book.round_best()));
+    words.extend(of_winner(book.run_best()));
+    words
+}
+
+/// Zeros where there is no best.
+fn of_winner(winner: Option<BookWinner>) -> Vec<u64> {
+    let Some(w) = winner else { return vec![0; 15] };
+    let camera = w.scored.camera;
+    let mut words = vec![1, w.number as u64];
+    words.extend(float_words(&[&camera.k[..], &camera.radial, &camera.tangential].concat()));
+    words.extend(float_words(&w.tilts));
+    words.extend(float_words(&[w.scored.mean, w.scored.score]));
+    words
+}

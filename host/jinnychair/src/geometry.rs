@@ -1,0 +1,264 @@
+//! The operations beside the search: root, camera, tilt, distortion, lists of points, and the parts of a score.
+//!
+//! Points of a list stand x then y in one slice. Where a list is written, it goes to the front of the destination, and the rest of
+//! the destination is unchanged; after a refusal all of it is.
+
+use crate::raw;
+use crate::{
+    BrownConrady5, ConicError, FxFyCxCy, NormalizeError, PinholeCamera, PointListError,
+    PointMapError, Pt2, Rows, RowsError, ScheimpflugParams, TiltError, TiltTrig,
+};
+
+/// Three rows of three numbers.
+pub type Matrix3 = [[f64; 3]; 3];
+
+/// The derivatives of a distorted point.
+#[derive(Clone, Copy, Debug, PartialEq)]
+#[repr(C)]
+pub struct Jacobian {
+    /// Of x by x.
+    pub xx: f64,
+    /// Of x by y.
+    pub xy: f64,
+    /// Of y by x.
+    pub yx: f64,
+    /// Of y by y.
+    pub yy: f64,
+}
+
+/// A distorted point and its derivatives.
+#[derive(Clone, Copy, Debug, PartialEq)]
+#[repr(C)]
+pub struct DistortedPoint {
+    /// The point.
+    pub point: Pt2,
+    /// Its derivatives.
+    pub jacobian: Jacobian,
+}
+
+/// A conic B ∝ K⁻ᵀ·K⁻¹, in the order of Zhang's equations.
+#[derive(Clone, Copy, Debug, PartialEq)]
+#[repr(C)]
+pub struct Conic {
+    /// Row 1, column 1.
+    pub b11: f64,
+    /// Row 1, column 2.
+    pub b12: f64,
+    /// Row 2, column 2.
+    pub b22: f64,
+    /// Row 1, column 3.
+    pub b13: f64,
+    /// Row 2, column 3.
+    pub b23: f64,
+    /// Row 3, column 3.
+    pub b33: f64,
+}
+
+/// Hartley's normalisation: points are scaled, then shifted.
+#[derive(Clone, Copy, Debug, PartialEq)]
+pub struct Normalization {
+    /// The scale along both axes.
+    pub scale: f64,
+    /// The shift along x, after scaling.
+    pub offset_x: f64,
+    /// The shift along y, after scaling.
+    pub offset_y: f64,
+}
+
+/// The correctly rounded square root.
+///
+/// ```
+/// assert_eq!(jinnychair::geometry::sqrt(2.0).to_bits(), 0x3ff6_a09e_667f_3bcd);
+/// assert!(jinnychair::geometry::sqrt(-1.0).is_nan());
+/// ```
+pub fn sqrt(x: f64) -> f64 {
+    raw::jc_sqrt(x)
+}
+
+impl FxFyCxCy {
+    /// From a pixel to the sensor, in focal lengths.
+    pub fn pixel_to_sensor(self, pixel: Pt2) -> Pt2 {
+        raw::jc_pixel_to_sensor(self, pixel)
+    }
+
+    /// From the sensor, in focal lengths, to a pixel.
+    pub fn sensor_to_pixel(self, sensor: Pt2) -> Pt2 {
+        raw::jc_sensor_to_pixel(self, sensor)
+    }
+}
+
+/// The homography of a tilted sensor, from the sine and cosine of each tilt.
+///
+/// ```
+/// use jinnychair::{ScheimpflugParams, geometry::tilt_projection_matrix};
+/// let level = tilt_projection_matrix(ScheimpflugParams::default().into());
+/// assert_eq!(level, [[1.0, 0.0, 0.0], [0.0, 1.0, 0.0], [0.0, 0.0, 1.0]]);
+/// ```
+pub fn tilt_projection_matrix(trig: TiltTrig) -> Matrix3 {
+    raw::jc_tilt_projection_matrix(trig).into()
+}
+
+/// The determinant, expanded along the first row.
+pub fn determinant(m: Matrix3) -> f64 {
+    raw::jc_determinant(m.into())
+}
+
+/// The inverse of a tilt's matrix.
+///
+/// # Errors
+///
+/// The determinant is 0.
+pub fn inverse(m: Matrix3) -> Result<Matrix3, TiltError> {
+    let reply = raw::jc_inverse(m.into());
+    TiltError::check(reply.number).map(|()| reply.inverse.into())
+}
+
+/// A point under a homography; a depth that isn't above 1e-12 counts as 1e-12.
+pub fn apply_homography(h: Matrix3, p: Pt2) -> Pt2 {
+    raw::jc_apply_homography(h.into(), p)
+}
+
+/// A point under the inverse of a homography; a depth whose magnitude isn't above 1e-12 counts as 1e-12.
+pub fn apply_homography_inverse(h_inv: Matrix3, p: Pt2) -> Pt2 {
+    raw::jc_apply_homography_inverse(h_inv.into(), p)
+}
+
+impl BrownConrady5 {
+    /// The distorted point.
+    pub fn distort(self, p: Pt2) -> Pt2 {
+        raw::jc_distort(self, p)
+    }
+
+    /// The distorted point and its derivatives.
+    pub fn distort_with_jacobian(self, p: Pt2) -> DistortedPoint {
+        raw::jc_distort_with_jacobian(self, p)
+    }
+
+    /// The point that is distorted to this one, by Newton's method with at most `iters` steps; 0 means 20.
+    pub fn undistort(self, iters: u32, p: Pt2) -> Pt2 {
+        raw::jc_undistort(self, iters, p)
+    }
+
+    /// The distortion as it is scored: no radial part, the tangential one within ±0.05.
+    pub fn damped(self) -> Self {
+        raw::jc_damp_seed_distortion(self)
+    }
+
+    /// The penalty on distortion.
+    pub fn complexity(self) -> f64 {
+        raw::jc_distortion_complexity(self)
+    }
+}
+
+/// The penalty on tilts.
+pub fn tilt_complexity(sensor: ScheimpflugParams) -> f64 {
+    raw::jc_tilt_complexity(sensor)
+}
+
+/// The penalty on a centre that isn't the observed one; its weight is 0.
+pub fn principal_point_complexity(k: FxFyCxCy, center: Pt2) -> f64 {
+    raw::jc_principal_point_complexity(k, center)
+}
+
+/// The mean error of the counted rows, in pixels, with the camera as given; infinity where none is counted.
+pub fn mean_reproj_error(camera: PinholeCamera, trig: TiltTrig, rows: Rows) -> f64 {
+    raw::mean_reproj_error(camera, trig, rows)
+}
+
+/// The pixels that a sensor without tilt would show.
+///
+/// # Errors
+///
+/// Nothing is written.
+pub fn untilt_points(
+    k: FxFyCxCy,
+    trig: TiltTrig,
+    points: &[f64],
+    to: &mut [f64],
+) -> Result<(), PointMapError> {
+    PointMapError::check(raw::untilt_points(k, trig, points, to))
+}
+
+/// The pixels that a camera with neither tilt nor distortion would show. `iters` is that of
+/// [`BrownConrady5::undistort`].
+///
+/// # Errors
+///
+/// Nothing is written.
+pub fn ideal_points(
+    camera: PinholeCamera,
+    iters: u32,
+    trig: TiltTrig,
+    points: &[f64],
+    to: &mut [f64],
+) -> Result<(), PointMapError> {
+    PointMapError::check(raw::ideal_points(camera, iters, trig, points, to))
+}
+
+/// The points moved and scaled so that their centroid is the origin and their mean distance from it is √2.
+///
+/// # Errors
+///
+/// Nothing is written.
+pub fn normalize_points_2d(
+    points: &[f64],
+    to: &mut [f64],
+) -> Result<Normalization, NormalizeError> {
+    let reply = raw::normalize_points_2d(points, to);
+    NormalizeError::check(reply.number)?;
+    Ok(Normalization { scale: reply.t00, offset_x: reply.t02, offset_y: reply.t12 })
+}
+
+/// Whether all points lie on a line, as nearly as the test sees.
+///
+/// # Errors
+///
+/// An odd number of coordinates.
+///
+/// ```
+/// use jinnychair::geometry::points_are_collinear;
+/// assert_eq!(points_are_collinear(&[0.0, 0.0, 1.0, 1.0, 2.0, 2.0]), Ok(true));
+/// assert_eq!(points_are_collinear(&[0.0, 0.0, 1.0, 1.0, 2.0, 3.0]), Ok(false));
+/// ```
+pub fn points_are_collinear(points: &[f64]) -> Result<bool, PointListError> {
+    let reply = raw::points_are_collinear(points);
+    PointListError::check(reply.number).map(|()| reply.collinear != 0)
+}
+
+/// The rows of the homography's design matrix from source to destination points, both normalised: two rows of nine
+/// numbers a point.
+///
+/// # Errors
+///
+/// Nothing is written.
+pub fn design_rows(source: &[f64], destination: &[f64], to: &mut [f64]) -> Result<(), RowsError> {
+    RowsError::check(raw::design_rows(source, destination, to))
+}
+
+/// The camera of a conic, by Zhang's closed form.
+///
+/// # Errors
+///
+/// No camera has this conic.
+///
+/// ```
+/// use jinnychair::geometry::{Conic, conic_to_camera};
+/// let b = Conic { b11: 1.0, b12: 0.0, b22: 1.0, b13: -3.0, b23: -1.0, b33: 14.0 };
+/// let k = conic_to_camera(b)?;
+/// assert_eq!((k.fx, k.fy, k.cx, k.cy), (2.0, 2.0, 3.0, 1.0));
+/// # Ok::<(), jinnychair::ConicError>(())
+/// ```
+pub fn conic_to_camera(b: Conic) -> Result<FxFyCxCy, ConicError> {
+    let reply = raw::jc_conic_to_camera(b);
+    ConicError::check(reply.number).map(|()| reply.camera)
+}
+
+/// The centre of the pixels that are seen: half the greatest coordinates, or, where one is negative, the middle of their range.
+///
+/// # Errors
+///
+/// An odd number of coordinates.
+pub fn observed_pixel_center(pixels: &[f64]) -> Result<Pt2, PointListError> {
+    let reply = raw::observed_pixel_center(pixels);
+    PointListError::check(reply.number).map(|()| reply.center)
+}

@@ -1,0 +1,577 @@
+//! The static library's functions. This is the only module with unsafe code: the declarations, which nothing compares with the
+//! library but the tests below, and the calls that pass slices.
+//!
+//! Every function takes any numbers whatsoever. Those without a pointer are therefore safe to call; those with one get it from a
+//! slice, which is valid for its length, and a `&mut` slice overlaps no other.
+#![allow(unsafe_code)]
+
+use crate::geometry::{Conic, DistortedPoint, Jacobian};
+use crate::record::{Best, Inputs, Options, Place, Run, Waiting};
+use crate::{
+    BrownConrady5, Finding, FxFyCxCy, PinholeCamera, Pt2, Rows, ScheimpflugParams, Seed, TiltTrig,
+    Winner,
+};
+use std::mem::{offset_of, size_of};
+
+/// A matrix, row by row.
+#[derive(Clone, Copy, Debug, PartialEq)]
+#[repr(C)]
+pub(crate) struct FlatMatrix {
+    rows: [[f64; 3]; 3],
+}
+
+impl From<[[f64; 3]; 3]> for FlatMatrix {
+    fn from(rows: [[f64; 3]; 3]) -> Self {
+        Self { rows }
+    }
+}
+
+impl From<FlatMatrix> for [[f64; 3]; 3] {
+    fn from(matrix: FlatMatrix) -> Self {
+        matrix.rows
+    }
+}
+
+#[derive(Clone, Copy, Debug, PartialEq)]
+#[repr(C)]
+pub(crate) struct InverseReply {
+    pub number: u8,
+    pub inverse: FlatMatrix,
+}
+
+#[derive(Clone, Copy, Debug, PartialEq)]
+#[repr(C)]
+pub(crate) struct CameraReply {
+    pub number: u8,
+    pub camera: FxFyCxCy,
+}
+
+#[derive(Clone, Copy, Debug, PartialEq)]
+#[repr(C)]
+pub(crate) struct NormalizeReply {
+    pub number: u8,
+    pub t00: f64,
+    pub t02: f64,
+    pub t12: f64,
+}
+
+#[derive(Clone, Copy, Debug, PartialEq)]
+#[repr(C)]
+pub(crate) struct LineReply {
+    pub number: u8,
+    pub collinear: u8,
+}
+
+#[derive(Clone, Copy, Debug, PartialEq)]
+#[repr(C)]
+pub(crate) struct CenterReply {
+    pub number: u8,
+    pub center: Pt2,
+}
+
+#[derive(Clone, Copy, Debug, PartialEq)]
+#[repr(C)]
+pub(crate) struct SolvedCamera {
+    pub camera: PinholeCamera,
+    pub trig: TiltTrig,
+}
+
+#[derive(Clone, Copy, Debug, PartialEq)]
+#[repr(C)]
+pub(crate) struct StartReply {
+    pub number: u8,
+    pub run: Run,
+}
+
+#[derive(Clone, Copy, Debug, PartialEq)]
+#[repr(C)]
+pub(crate) struct NextReply {
+    pub number: u8,
+    pub over: u8,
+    pub candidate: usize,
+    pub run: Run,
+}
+
+#[derive(Clone, Copy, Debug, PartialEq)]
+#[repr(C)]
+pub(crate) struct AnswerReply {
+    pub number: u8,
+    pub skipped: u8,
+    pub score: f64,
+    pub run: Run,
+}
+
+#[derive(Clone, Copy, Debug, PartialEq)]
+#[repr(C)]
+pub(crate) struct ResultReply {
+    pub number: u8,
+    pub candidate: Winner,
+}
+
+/// Stops the build where a struct isn't laid out as the header says.
+macro_rules! laid_out {
+    ($($name:ident: $size:literal { $($field:ident: $offset:literal),+ $(,)? })+) => {
+        $(const _: () = {
+            assert!(size_of::<$name>() == $size);
+            $(assert!(offset_of!($name, $field) == $offset);)+
+        };)+
+    };
+}
+
+laid_out! {
+    Pt2: 16 { x: 0, y: 8 }
+    FxFyCxCy: 32 { fx: 0, fy: 8, cx: 16, cy: 24 }
+    BrownConrady5: 40 { k1: 0, k2: 8, k3: 16, p1: 24, p2: 32 }
+    Jacobian: 32 { xx: 0, xy: 8, yx: 16, yy: 24 }
+    DistortedPoint: 48 { point: 0, jacobian: 16 }
+    ScheimpflugParams: 16 { tilt_x: 0, tilt_y: 8 }
+    TiltTrig: 32 { sin_x: 0, cos_x: 8, sin_y: 16, cos_y: 24 }
+    PinholeCamera: 72 { k: 0, dist: 32 }
+    SolvedCamera: 104 { camera: 0, trig: 72 }
+    Conic: 48 { b11: 0, b12: 8, b22: 16, b13: 24, b23: 32, b33: 40 }
+    Seed: 48 { reference_k: 0, sensor: 32 }
+    Winner: 112 { number: 0, camera: 8, sensor: 80, mean_reproj_error: 96, score: 104 }
+    Options: 24 { refine_rounds: 0, refine_step: 8, max_abs_tilt: 16 }
+    FlatMatrix: 72 { rows: 0 }
+    InverseReply: 80 { number: 0, inverse: 8 }
+    CameraReply: 40 { number: 0, camera: 8 }
+    NormalizeReply: 32 { number: 0, t00: 8, t02: 16, t12: 24 }
+    LineReply: 2 { number: 0, collinear: 1 }
+    CenterReply: 24 { number: 0, center: 8 }
+    Place: 56 { demand: 0, round: 8, step: 16, len: 24, at: 32, number: 40, over: 48 }
+    Waiting: 56 { is_waiting: 0, seed: 8 }
+    Best: 120 { found: 0, candidate: 8 }
+    Run: 392 { options: 0, center: 24, place: 40, waiting: 96, round_best: 152, run_best: 272 }
+    StartReply: 400 { number: 0, run: 8 }
+    NextReply: 408 { number: 0, over: 1, candidate: 8, run: 16 }
+    AnswerReply: 408 { number: 0, skipped: 1, score: 8, run: 16 }
+    ResultReply: 120 { number: 0, candidate: 8 }
+}
+
+unsafe extern "C" {
+    pub(crate) safe fn jc_sqrt(x: f64) -> f64;
+    pub(crate) safe fn jc_pixel_to_sensor(k: FxFyCxCy, pixel: Pt2) -> Pt2;
+    pub(crate) safe fn jc_sensor_to_pixel(k: FxFyCxCy, sensor: Pt2) -> Pt2;
+    pub(crate) safe fn jc_tilt_projection_matrix(trig: TiltTrig) -> FlatMatrix;
+    pub(crate) safe fn jc_determinant(m: FlatMatrix) -> f64;
+    pub(crate) safe fn jc_inverse(m: FlatMatrix) -> InverseReply;
+    pub(crate) safe fn jc_apply_homography(h: FlatMatrix, p: Pt2) -> Pt2;
+    pub(crate) safe fn jc_apply_homography_inverse(h_inv: FlatMatrix, p: Pt2) -> Pt2;
+    pub(crate) safe fn jc_distort(b: BrownConrady5, p: Pt2) -> Pt2;
+    pub(crate) safe fn jc_distort_with_jacobian(b: BrownConrady5, p: Pt2) -> DistortedPoint;
+    pub(crate) safe fn jc_undistort(b: BrownConrady5, iters: u32, p: Pt2) -> Pt2;
+    pub(crate) safe fn jc_conic_to_camera(b: Conic) -> CameraReply;
+    pub(crate) safe fn jc_damp_seed_distortion(distortion: BrownConrady5) -> BrownConrady5;
+    pub(crate) safe fn jc_distortion_complexity(distortion: BrownConrady5) -> f64;
+    pub(crate) safe fn jc_tilt_complexity(sensor: ScheimpflugParams) -> f64;
+    pub(crate) safe fn jc_principal_point_complexity(k: FxFyCxCy, center: Pt2) -> f64;
+
+    fn jc_mean_reproj_error(
+        camera: PinholeCamera,
+        trig: TiltTrig,
+        rows: *const f64,
+        rows_len: usize,
+        flags: *const u8,
+        flags_len: usize,
+    ) -> f64;
+    fn jc_untilt_points(
+        k: FxFyCxCy,
+        trig: TiltTrig,
+        points: *const f64,
+        points_len: usize,
+        to: *mut f64,
+        to_len: usize,
+    ) -> u8;
+    fn jc_ideal_points(
+        camera: PinholeCamera,
+        iters: u32,
+        trig: TiltTrig,
+        points: *const f64,
+        points_len: usize,
+        to: *mut f64,
+        to_len: usize,
+    ) -> u8;
+    fn jc_normalize_points_2d(
+        points: *const f64,
+        points_len: usize,
+        to: *mut f64,
+        to_len: usize,
+    ) -> NormalizeReply;
+    fn jc_points_are_collinear(points: *const f64, points_len: usize) -> LineReply;
+    fn jc_design_rows(
+        source: *const f64,
+        source_len: usize,
+        destination: *const f64,
+        destination_len: usize,
+        to: *mut f64,
+        to_len: usize,
+    ) -> u8;
+    fn jc_observed_pixel_center(pixels: *const f64, pixels_len: usize) -> CenterReply;
+
+    fn jc_start(
+        views: usize,
+        options: Options,
+        tilt_x_seeds: *const f64,
+        tilt_x_seeds_len: usize,
+        tilt_y_seeds: *const f64,
+        tilt_y_seeds_len: usize,
+        decomposition: *const f64,
+        decomposition_len: usize,
+        base: FxFyCxCy,
+        center: Pt2,
+        list: *mut f64,
+        list_len: usize,
+    ) -> StartReply;
+    fn jc_next(run: Run, list: *const f64, list_len: usize) -> NextReply;
+    fn jc_seed(run: Run, list: *const f64, list_len: usize, to: *mut f64, to_len: usize) -> usize;
+    fn jc_answer(
+        run: Run,
+        is_solved: u8,
+        solved: SolvedCamera,
+        rows: *const f64,
+        rows_len: usize,
+        flags: *const u8,
+        flags_len: usize,
+        list: *mut f64,
+        list_len: usize,
+    ) -> AnswerReply;
+    safe fn jc_result(run: Run) -> ResultReply;
+}
+
+pub(crate) fn mean_reproj_error(camera: PinholeCamera, trig: TiltTrig, rows: Rows) -> f64 {
+    let (numbers, flags) = (rows.numbers, rows.flags);
+    // SAFETY: both slices are valid for their lengths.
+    unsafe {
+        jc_mean_reproj_error(
+            camera,
+            trig,
+            numbers.as_ptr(),
+            numbers.len(),
+            flags.as_ptr(),
+            flags.len(),
+        )
+    }
+}
+
+pub(crate) fn untilt_points(k: FxFyCxCy, trig: TiltTrig, points: &[f64], to: &mut [f64]) -> u8 {
+    // SAFETY: both slices are valid for their lengths, and `to` overlaps nothing.
+    unsafe { jc_untilt_points(k, trig, points.as_ptr(), points.len(), to.as_mut_ptr(), to.len()) }
+}
+
+pub(crate) fn ideal_points(
+    camera: PinholeCamera,
+    iters: u32,
+    trig: TiltTrig,
+    points: &[f64],
+    to: &mut [f64],
+) -> u8 {
+    let (from, from_len) = (points.as_ptr(), points.len());
+    // SAFETY: both slices are valid for their lengths, and `to` overlaps nothing.
+    unsafe { jc_ideal_points(camera, iters, trig, from, from_len, to.as_mut_ptr(), to.len()) }
+}
+
+pub(crate) fn normalize_points_2d(points: &[f64], to: &mut [f64]) -> NormalizeReply {
+    // SAFETY: both slices are valid for their lengths, and `to` overlaps nothing.
+    unsafe { jc_normalize_points_2d(points.as_ptr(), points.len(), to.as_mut_ptr(), to.len()) }
+}
+
+pub(crate) fn points_are_collinear(points: &[f64]) -> LineReply {
+    // SAFETY: the slice is valid for its length.
+    unsafe { jc_points_are_collinear(points.as_ptr(), points.len()) }
+}
+
+pub(crate) fn design_rows(source: &[f64], destination: &[f64], to: &mut [f64]) -> u8 {
+    // SAFETY: all three slices are valid for their lengths, and `to` overlaps nothing.
+    unsafe {
+        jc_design_rows(
+            source.as_ptr(),
+            source.len(),
+            destination.as_ptr(),
+            destination.len(),
+            to.as_mut_ptr(),
+            to.len(),
+        )
+    }
+}
+
+pub(crate) fn observed_pixel_center(pixels: &[f64]) -> CenterReply {
+    // SAFETY: the slice is valid for its length.
+    unsafe { jc_observed_pixel_center(pixels.as_ptr(), pixels.len()) }
+}
+
+pub(crate) fn start(inputs: &Inputs, list: &mut [f64]) -> StartReply {
+    let Inputs { tilt_x_seeds, tilt_y_seeds, decomposition, .. } = *inputs;
+    // SAFETY: all four slices are valid for their lengths, and `list` overlaps nothing.
+    unsafe {
+        jc_start(
+            inputs.views,
+            inputs.options,
+            tilt_x_seeds.as_ptr(),
+            tilt_x_seeds.len(),
+            tilt_y_seeds.as_ptr(),
+            tilt_y_seeds.len(),
+            decomposition.as_ptr(),
+            decomposition.len(),
+            inputs.base,
+            inputs.center,
+            list.as_mut_ptr(),
+            list.len(),
+        )
+    }
+}
+
+pub(crate) fn next(run: Run, list: &[f64]) -> NextReply {
+    // SAFETY: the slice is valid for its length.
+    unsafe { jc_next(run, list.as_ptr(), list.len()) }
+}
+
+pub(crate) fn seed(run: Run, list: &[f64], to: &mut [f64]) -> usize {
+    // SAFETY: both slices are valid for their lengths, and `to` overlaps nothing.
+    unsafe { jc_seed(run, list.as_ptr(), list.len(), to.as_mut_ptr(), to.len()) }
+}
+
+pub(crate) fn answer(run: Run, finding: &Finding, list: &mut [f64]) -> AnswerReply {
+    let (is_solved, solved, rows) = match *finding {
+        Finding::Failed => (0, NOT_SOLVED, Rows { numbers: &[], flags: &[] }),
+        Finding::Solved { camera, trig, rows } => (1, SolvedCamera { camera, trig }, rows),
+    };
+    // SAFETY: all three slices are valid for their lengths, and `list` overlaps nothing.
+    unsafe {
+        jc_answer(
+            run,
+            is_solved,
+            solved,
+            rows.numbers.as_ptr(),
+            rows.numbers.len(),
+            rows.flags.as_ptr(),
+            rows.flags.len(),
+            list.as_mut_ptr(),
+            list.len(),
+        )
+    }
+}
+
+/// What is passed beside Failed; it isn't read.
+const NOT_SOLVED: SolvedCamera = SolvedCamera {
+    camera: PinholeCamera {
+        k: FxFyCxCy { fx: 0.0, fy: 0.0, cx: 0.0, cy: 0.0 },
+        dist: BrownConrady5 { k1: 0.0, k2: 0.0, k3: 0.0, p1: 0.0, p2: 0.0 },
+    },
+    trig: TiltTrig { sin_x: 0.0, cos_x: 0.0, sin_y: 0.0, cos_y: 0.0 },
+};
+
+pub(crate) fn result(run: Run) -> ResultReply {
+    jc_result(run)
+}
+
+#[cfg(test)]
+mod tests {
+    use super::*;
+
+    unsafe extern "C" {
+        safe fn jc_echo_pt2(x: Pt2) -> Pt2;
+        safe fn jc_echo_intrinsics(x: FxFyCxCy) -> FxFyCxCy;
+        safe fn jc_echo_distortion(x: BrownConrady5) -> BrownConrady5;
+        safe fn jc_echo_jacobian(x: Jacobian) -> Jacobian;
+        safe fn jc_echo_distorted_point(x: DistortedPoint) -> DistortedPoint;
+        safe fn jc_echo_scheimpflug_params(x: ScheimpflugParams) -> ScheimpflugParams;
+        safe fn jc_echo_trig(x: TiltTrig) -> TiltTrig;
+        safe fn jc_echo_pinhole_camera(x: PinholeCamera) -> PinholeCamera;
+        safe fn jc_echo_solved_camera(x: SolvedCamera) -> SolvedCamera;
+        safe fn jc_echo_conic(x: Conic) -> Conic;
+        safe fn jc_echo_candidate_seed(x: Seed) -> Seed;
+        safe fn jc_echo_candidate(x: Winner) -> Winner;
+        safe fn jc_echo_options(x: Options) -> Options;
+        safe fn jc_echo_matrix(x: FlatMatrix) -> FlatMatrix;
+        safe fn jc_echo_inverse_reply(x: InverseReply) -> InverseReply;
+        safe fn jc_echo_camera_reply(x: CameraReply) -> CameraReply;
+        safe fn jc_echo_normalize_reply(x: NormalizeReply) -> NormalizeReply;
+        safe fn jc_echo_line_reply(x: LineReply) -> LineReply;
+        safe fn jc_echo_center_reply(x: CenterReply) -> CenterReply;
+        safe fn jc_echo_place_record(x: Place) -> Place;
+        safe fn jc_echo_waiting_record(x: Waiting) -> Waiting;
+        safe fn jc_echo_best_record(x: Best) -> Best;
+        safe fn jc_echo_run_record(x: Run) -> Run;
+        safe fn jc_echo_start_flat(x: StartReply) -> StartReply;
+        safe fn jc_echo_next_flat(x: NextReply) -> NextReply;
+        safe fn jc_echo_answer_flat(x: AnswerReply) -> AnswerReply;
+        safe fn jc_echo_result_flat(x: ResultReply) -> ResultReply;
+    }
+
+    /// Distinct numbers: no field can stand for another.
+    struct Count(u8);
+
+    impl Count {
+        fn byte(&mut self) -> u8 {
+            self.0 += 1;
+            self.0
+        }
+
+        fn float(&mut self) -> f64 {
+            f64::from(self.byte()) + 0.5
+        }
+
+        fn whole(&mut self) -> usize {
+            // Above 32 bits, so that a cut shows.
+            usize::from(self.byte()) << 40 | 1
+        }
+
+        fn pt2(&mut self) -> Pt2 {
+            Pt2 { x: self.float(), y: self.float() }
+        }
+
+        fn k(&mut self) -> FxFyCxCy {
+            FxFyCxCy { fx: self.float(), fy: self.float(), cx: self.float(), cy: self.float() }
+        }
+
+        fn dist(&mut self) -> BrownConrady5 {
+            let [k1, k2, k3, p1, p2] = std::array::from_fn(|_| self.float());
+            BrownConrady5 { k1, k2, k3, p1, p2 }
+        }
+
+        fn jacobian(&mut self) -> Jacobian {
+            Jacobian { xx: self.float(), xy: self.float(), yx: self.float(), yy: self.float() }
+        }
+
+        fn sensor(&mut self) -> ScheimpflugParams {
+            ScheimpflugParams { tilt_x: self.float(), tilt_y: self.float() }
+        }
+
+        fn trig(&mut self) -> TiltTrig {
+            let [sin_x, cos_x, sin_y, cos_y] = std::array::from_fn(|_| self.float());
+            TiltTrig { sin_x, cos_x, sin_y, cos_y }
+        }
+
+        fn camera(&mut self) -> PinholeCamera {
+            PinholeCamera { k: self.k(), dist: self.dist() }
+        }
+
+        fn matrix(&mut self) -> FlatMatrix {
+            FlatMatrix { rows: std::array::from_fn(|_| std::array::from_fn(|_| self.float())) }
+        }
+
+        fn winner(&mut self) -> Winner {
+            Winner {
+                number: self.whole(),
+                camera: self.camera(),
+                sensor: self.sensor(),
+                mean_reproj_error: self.float(),
+                score: self.float(),
+            }
+        }
+
+        fn options(&mut self) -> Options {
+            Options {
+                refine_rounds: self.whole(),
+                refine_step: self.float(),
+                max_abs_tilt: self.float(),
+            }
+        }
+
+        fn place(&mut self) -> Place {
+            Place {
+                demand: self.whole(),
+                round: self.whole(),
+                step: self.float(),
+                len: self.whole(),
+                at: self.whole(),
+                number: self.whole(),
+                over: self.byte(),
+            }
+        }
+
+        fn waiting(&mut self) -> Waiting {
+            let is_waiting = self.byte();
+            Waiting { is_waiting, seed: Seed { reference_k: self.k(), sensor: self.sensor() } }
+        }
+
+        fn best(&mut self) -> Best {
+            Best { found: self.byte(), candidate: self.winner() }
+        }
+
+        fn run(&mut self) -> Run {
+            Run {
+                options: self.options(),
+                center: self.pt2(),
+                place: self.place(),
+                waiting: self.waiting(),
+                round_best: self.best(),
+                run_best: self.best(),
+            }
+        }
+    }
+
+    #[test]
+    fn structs_of_numbers_come_back_as_they_were() {
+        let n = &mut Count(0);
+        let x = n.pt2();
+        assert_eq!(jc_echo_pt2(x), x);
+        let x = n.k();
+        assert_eq!(jc_echo_intrinsics(x), x);
+        let x = n.dist();
+        assert_eq!(jc_echo_distortion(x), x);
+        let x = n.jacobian();
+        assert_eq!(jc_echo_jacobian(x), x);
+        let x = DistortedPoint { point: n.pt2(), jacobian: n.jacobian() };
+        assert_eq!(jc_echo_distorted_point(x), x);
+        let x = n.sensor();
+        assert_eq!(jc_echo_scheimpflug_params(x), x);
+        let x = n.trig();
+        assert_eq!(jc_echo_trig(x), x);
+        let x = n.camera();
+        assert_eq!(jc_echo_pinhole_camera(x), x);
+        let x = SolvedCamera { camera: n.camera(), trig: n.trig() };
+        assert_eq!(jc_echo_solved_camera(x), x);
+        let [b11, b12, b22, b13, b23, b33] = std::array::from_fn(|_| n.float());
+        let x = Conic { b11, b12, b22, b13, b23, b33 };
+        assert_eq!(jc_echo_conic(x), x);
+        let x = n.matrix();
+        assert_eq!(jc_echo_matrix(x), x);
+    }
+
+    #[test]
+    fn records_come_back_as_they_were() {
+        let n = &mut Count(0);
+        let x = n.waiting().seed;
+        assert_eq!(jc_echo_candidate_seed(x), x);
+        let x = n.winner();
+        assert_eq!(jc_echo_candidate(x), x);
+        let x = n.options();
+        assert_eq!(jc_echo_options(x), x);
+        let x = n.place();
+        assert_eq!(jc_echo_place_record(x), x);
+        let x = n.waiting();
+        assert_eq!(jc_echo_waiting_record(x), x);
+        let x = n.best();
+        assert_eq!(jc_echo_best_record(x), x);
+        let x = n.run();
+        assert_eq!(jc_echo_run_record(x), x);
+    }
+
+    #[test]
+    fn replies_come_back_as_they_were() {
+        let n = &mut Count(0);
+        let x = InverseReply { number: n.byte(), inverse: n.matrix() };
+        assert_eq!(jc_echo_inverse_reply(x), x);
+        let x = CameraReply { number: n.byte(), camera: n.k() };
+        assert_eq!(jc_echo_camera_reply(x), x);
+        let number = n.byte();
+        let x = NormalizeReply { number, t00: n.float(), t02: n.float(), t12: n.float() };
+        assert_eq!(jc_echo_normalize_reply(x), x);
+        let x = LineReply { number: n.byte(), collinear: n.byte() };
+        assert_eq!(jc_echo_line_reply(x), x);
+        let x = CenterReply { number: n.byte(), center: n.pt2() };
+        assert_eq!(jc_echo_center_reply(x), x);
+        let x = ResultReply { number: n.byte(), candidate: n.winner() };
+        assert_eq!(jc_echo_result_flat(x), x);
+        let x = StartReply { number: n.byte(), run: n.run() };
+        assert_eq!(jc_echo_start_flat(x), x);
+        let n = &mut Count(0);
+        let (number, over) = (n.byte(), n.byte());
+        let x = NextReply { number, over, candidate: n.whole(), run: n.run() };
+        assert_eq!(jc_echo_next_flat(x), x);
+        let (number, skipped) = (n.byte(), n.byte());
+        let x = AnswerReply { number, skipped, score: n.float(), run: n.run() };
+        assert_eq!(jc_echo_answer_flat(x), x);
+    }
+}

@@ -1,0 +1,153 @@
+//! The search over a record that the caller keeps: each call takes the record and the seed list, and gives the record back.
+//!
+//! Any record and any list are answered: a record that no search can have made is answered as a run that ended with nothing
+//! scored. But the theorem about whole runs speaks of a record and a list that are handed on as the calls before left them.
+//! [`crate::Search`] keeps both where nothing else reaches them.
+
+use crate::raw;
+use crate::{
+    AnswerError, Finding, FxFyCxCy, Handed, NextError, Outcome, Pt2, ResultError, Seed, SkipReason,
+    StartError, Winner,
+};
+
+/// The numbers of a search's options; the tilts of its grid stand beside them.
+#[derive(Clone, Copy, Debug, PartialEq)]
+#[repr(C)]
+pub struct Options {
+    /// How many rounds follow round 0.
+    pub refine_rounds: usize,
+    /// The first of these rounds' step, in radians.
+    pub refine_step: f64,
+    /// The bound on either tilt, in radians.
+    pub max_abs_tilt: f64,
+}
+
+/// How far a run has come.
+#[derive(Clone, Copy, Debug, PartialEq)]
+#[repr(C)]
+pub struct Place {
+    /// How many numbers the seed list must have.
+    pub demand: usize,
+    /// The current round.
+    pub round: usize,
+    /// The step that the current list was made with; 0 in round 0.
+    pub step: f64,
+    /// How many seeds the current list has.
+    pub len: usize,
+    /// How many of them are answered.
+    pub at: usize,
+    /// The next candidate's number.
+    pub number: usize,
+    /// Not 0 once the run is over.
+    pub over: u8,
+}
+
+/// The seed that was handed out and isn't answered yet.
+#[derive(Clone, Copy, Debug, PartialEq)]
+#[repr(C)]
+pub struct Waiting {
+    /// Not 0 while a seed waits.
+    pub is_waiting: u8,
+    /// The seed as it was handed out.
+    pub seed: Seed,
+}
+
+/// The best of a round or run so far.
+#[derive(Clone, Copy, Debug, PartialEq)]
+#[repr(C)]
+pub struct Best {
+    /// Not 0 once there is one.
+    pub found: u8,
+    /// The candidate.
+    pub candidate: Winner,
+}
+
+/// A run.
+#[derive(Clone, Copy, Debug, PartialEq)]
+#[repr(C)]
+pub struct Run {
+    /// What was asked for.
+    pub options: Options,
+    /// The observed centre.
+    pub center: Pt2,
+    /// How far the run has come.
+    pub place: Place,
+    /// The seed that waits.
+    pub waiting: Waiting,
+    /// The current round's best.
+    pub round_best: Best,
+    /// The run's best.
+    pub run_best: Best,
+}
+
+/// What a run starts from.
+#[derive(Clone, Copy, Debug)]
+pub struct Inputs<'a> {
+    /// How many views of the plate there are.
+    pub views: usize,
+    /// The options' numbers.
+    pub options: Options,
+    /// The tilts about x of round 0's grid, in radians.
+    pub tilt_x_seeds: &'a [f64],
+    /// The tilts about y of round 0's grid, in radians.
+    pub tilt_y_seeds: &'a [f64],
+    /// The host's decomposition seeds, six numbers each.
+    pub decomposition: &'a [f64],
+    /// The camera of the grid's seeds.
+    pub base: FxFyCxCy,
+    /// The observed centre.
+    pub center: Pt2,
+}
+
+/// Starts a run; round 0's list is written to the front of `list`.
+///
+/// # Errors
+///
+/// The inputs are refused, and the list is as it was.
+pub fn start(inputs: &Inputs, list: &mut [f64]) -> Result<Run, StartError> {
+    let reply = raw::start(inputs, list);
+    StartError::check(reply.number).map(|()| reply.run)
+}
+
+/// Hands out the list's next seed.
+///
+/// # Errors
+///
+/// No seed is handed out, and the run is as it was.
+pub fn next(run: &mut Run, list: &[f64]) -> Result<Handed, NextError> {
+    let reply = raw::next(*run, list);
+    *run = reply.run;
+    NextError::check(reply.number)?;
+    Ok(if reply.over == 0 { Handed::Candidate(reply.candidate) } else { Handed::Over })
+}
+
+/// The waiting seed's six numbers as they stand in the list; nothing where no seed waits or the list is too short.
+pub fn seed(run: &Run, list: &[f64]) -> Option<[f64; 6]> {
+    let mut numbers = [0.0; 6];
+    (raw::seed(*run, list, &mut numbers) == 6).then_some(numbers)
+}
+
+/// Takes the host's finding for the waiting seed. The last answer of a round writes the next list to the front of `list`.
+///
+/// # Errors
+///
+/// The answer isn't taken; the run and the list are as they were.
+pub fn answer(run: &mut Run, finding: &Finding, list: &mut [f64]) -> Result<Outcome, AnswerError> {
+    let reply = raw::answer(*run, finding, list);
+    *run = reply.run;
+    AnswerError::check(reply.number)?;
+    Ok(match reply.skipped {
+        0 => Outcome::Scored(reply.score),
+        reason => Outcome::Skipped(SkipReason::from_number(reason)),
+    })
+}
+
+/// The run's best, once it is over.
+///
+/// # Errors
+///
+/// The run isn't over, or nothing was scored.
+pub fn result(run: &Run) -> Result<Winner, ResultError> {
+    let reply = raw::result(*run);
+    ResultError::check(reply.number).map(|()| reply.candidate)
+}

@@ -1,0 +1,145 @@
+//! What the search asks of its host: a base camera, decomposition seeds, and for each seed a solved
+//! camera with its rows.
+//!
+//! The optical centre is held. Without distortion a tilted sensor is exactly an untilted one with
+//! another centre and other poses: with R the tilt's rotation, the tilt matrix is P × R, and
+//! K × P is the upper triangular matrix of a camera without tilt,
+//!
+//! ```text
+//! fx' = fx·r22    cx' = cx − fx·r02 = cx + fx·sin(tilt_y)·cos(tilt_x)
+//! fy' = fy·r22    cy' = cy − fy·r12 = cy − fy·sin(tilt_x)
+//! ```
+//!
+//! while R turns the poses. A free centre would take up every tilt, and all tilts would score alike.
+
+use crate::homography::homography;
+use crate::linear::Matrix3;
+use crate::pose::Pose;
+use crate::views::{Plate, View};
+use crate::zhang::{Frame, camera, camera_with_held_centre};
+use jinnychair::{
+    BrownConrady5, FxFyCxCy, PinholeCamera, Pt2, ScheimpflugParams, Seed, TiltTrig, geometry,
+};
+
+/// How often the focal lengths are solved again with the tilt taken off by the last ones.
+const UNTILT_ITERATIONS: usize = 4;
+
+/// A plate, and where its host takes the optical centre to be.
+#[derive(Clone, Debug)]
+pub struct Host {
+    plate: Plate,
+    held: [f64; 2],
+    observed: Pt2,
+    homographies: Vec<Matrix3>,
+}
+
+/// A camera that the host solved for, and the rows that it is scored by.
+#[derive(Clone, Debug)]
+pub struct Solved {
+    /// The camera.
+    pub camera: PinholeCamera,
+    /// x, y, u, v of each dot.
+    pub rows: Vec<f64>,
+    /// 1 for each dot in front of the camera, 0 for the others.
+    pub flags: Vec<u8>,
+}
+
+impl Host {
+    /// Prepares the views. The plate's centre is held where it states one, else the observed one.
+    ///
+    /// # Errors
+    ///
+    /// Names the view whose dots determine no homography.
+    pub fn new(plate: Plate) -> Result<Self, String> {
+        let observed =
+            geometry::observed_pixel_center(&plate.pixels()).map_err(|e| e.to_string())?;
+        let held = plate.centre.unwrap_or([observed.x, observed.y]);
+        let homographies = plate.views.iter().enumerate().map(|(i, view)| {
+            homography(&view.board, &view.pixels)
+                .ok_or_else(|| format!("the dots of view {} determine no homography", i + 1))
+        });
+        let homographies = homographies.collect::<Result<_, _>>()?;
+        Ok(Self { plate, held, observed, homographies })
+    }
+
+    /// The plate.
+    pub fn plate(&self) -> &Plate {
+        &self.plate
+    }
+
+    /// The held optical centre, in pixels.
+    pub fn held_centre(&self) -> [f64; 2] {
+        self.held
+    }
+
+    /// The centre of what is seen, which the search is given.
+    pub fn observed_centre(&self) -> Pt2 {
+        self.observed
+    }
+
+    fn frame(&self) -> Frame {
+        Frame::new(self.held, self.observed.x.abs().max(self.observed.y.abs()).max(1.0))
+    }
+
+    /// The camera of an untilted sensor.
+    pub fn base(&self) -> Option<FxFyCxCy> {
+        camera_with_held_centre(&self.homographies, self.frame())
+    }
+
+    /// The tilts that explain why a camera with a free centre isn't centred where it should be;
+    /// nothing where no camera is found or a tilt is beyond the bound.
+    pub fn decomposition(&self, max_abs_tilt: f64) -> Option<Seed> {
+        let seen = camera(&self.homographies, self.frame())?;
+        let [cx, cy] = self.held;
+        let tilt_y = ((seen.cx - cx) / seen.fx).atan();
+        let tilt_x = ((cy - seen.cy) / seen.fy * tilt_y.cos()).atan();
+        let shortening = tilt_x.cos() * tilt_y.cos();
+        let is_within = tilt_x.abs() <= max_abs_tilt && tilt_y.abs() <= max_abs_tilt;
+        is_within.then_some(Seed {
+            reference_k: FxFyCxCy { fx: seen.fx / shortening, fy: seen.fy / shortening, cx, cy },
+            sensor: ScheimpflugParams { tilt_x, tilt_y },
+        })
+    }
+
+    /// The best camera with a seed's tilts, or nothing where the equations have no camera.
+    pub fn solve(&self, seed: &Seed) -> Option<Solved> {
+        let trig = TiltTrig::from(seed.sensor);
+        let [cx, cy] = self.held;
+        let mut k = FxFyCxCy { cx, cy, ..seed.reference_k };
+        for _ in 0..UNTILT_ITERATIONS {
+            let untilted = self.homographies_of(|pixels, out| {
+                geometry::untilt_points(k, trig, pixels, out).is_ok()
+            })?;
+            k = camera_with_held_centre(&untilted, self.frame())?;
+        }
+        let camera = PinholeCamera { k, dist: BrownConrady5::default() };
+        let ideal = self.homographies_of(|pixels, out| {
+            geometry::ideal_points(camera, 0, trig, pixels, out).is_ok()
+        })?;
+        let (mut rows, mut flags) = (Vec::new(), Vec::new());
+        for (view, h) in self.plate.views.iter().zip(&ideal) {
+            push_rows(view, &Pose::from_homography(&k, h)?, &mut rows, &mut flags);
+        }
+        Some(Solved { camera, rows, flags })
+    }
+
+    /// Each view's homography to its pixels as `map` changes them.
+    fn homographies_of(&self, map: impl Fn(&[f64], &mut [f64]) -> bool) -> Option<Vec<Matrix3>> {
+        let views = self.plate.views.iter().map(|view| {
+            let mut mapped = vec![0.0; view.pixels.len()];
+            if !map(&view.pixels, &mut mapped) {
+                return None;
+            }
+            homography(&view.board, &mapped)
+        });
+        views.collect()
+    }
+}
+
+fn push_rows(view: &View, pose: &Pose, rows: &mut Vec<f64>, flags: &mut Vec<u8>) {
+    for (place, pixel) in view.board.chunks_exact(2).zip(view.pixels.chunks_exact(2)) {
+        let [x, y, z] = pose.place(place[0], place[1]);
+        rows.extend([x / z, y / z, pixel[0], pixel[1]]);
+        flags.push(u8::from(z > 0.0));
+    }
+}
