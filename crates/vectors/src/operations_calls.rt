@@ -1,4 +1,4 @@
-// Script of a run one by one, each with as much of the list as the case lends: what it replies, and whether it changed the run or the list.
+// Calls of a run one by one, each with as much of the list as the case lends: what it replies, and whether it changed the run or the list.
 use crate::fields::at_most;
 use crate::fields::copy_numbers;
 use crate::fields::list_at;
