@@ -2,10 +2,10 @@
 
 ghost use mathlib.Core.Path.{_≡_};
 ghost use Rattle.best.specs.Best.{isBetter, improved, noBest};
-use models::distortion::BrownConrady5;
+use distortion::BrownConrady5;
 use models::intrinsics::FxFyCxCy;
-use models::sensor::ScheimpflugParams;
-use score::PinholeCamera;
+use pinhole::PinholeCamera;
+use sensor::ScheimpflugParams;
 
 // A scored candidate: its number, counted from 0 over the run, its solved camera, its seed's tilts, its mean error and its score.
 #[repr(C)]

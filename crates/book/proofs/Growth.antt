@@ -16,7 +16,7 @@ use Rattle.score.specs.declared.Finding.{Finding}
 use Rattle.score.specs.declared.Outcome.{Outcome}
 use Rattle.score.specs.Evaluation.{outcomeOf, findingRefusal}
 use Rattle.best.specs.Order.{Sound}
-use Rattle.search.specs.Next.{nextDef, seedLent, seedPart}
+use Rattle.search_next.specs.Next.{nextDef, seedLent, seedPart}
 use Rattle.book.specs.Calls.{Call, next, seed, answer, ask, Reply, candidate, over, part, scored, skipped, result, refused}
 use Rattle.book.specs.Book.{demand, Entry, Book, entries, number, current, scoredOf, roundBest, runBest, orElse, listAround, withWaiting, withEntry, withRound, withEnd, closeRound, bookEnter, Kept, kept, replyTo, bookNext, bookSeed, bookAnswer, bookResult, bookCall, after}
 use Rattle.book.specs.Trace.{Handing, handedBy, answeredBy}

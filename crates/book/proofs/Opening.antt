@@ -20,9 +20,9 @@ use Rattle.seeds.specs.LayoutLaws.{seeds-layout, read-length}
 use Rattle.seeds.specs.Facts.{initial-in-bound}
 use Rattle.best.specs.Best.{bestOf, firstUnbeaten}
 use Rattle.search.specs.declared.run.Run.{Run}
-use Rattle.search.specs.declared.start.Started.the-variants.{Accepted}
-use Rattle.search.specs.Start.{positive, goodSeed, demandOf, openingOf}
-use Rattle.search.specs.Laws.{Passed, start-passed}
+use Rattle.search_start.specs.declared.Started.the-variants.{Accepted}
+use Rattle.search_start.specs.Start.{positive, goodSeed, demandOf, openingOf}
+use Rattle.search_start.specs.StartLaws.{Passed, start-passed}
 use Rattle.book.specs.Book.{Inputs, demand, Book, scoredOf, roundBest, runBest, stepOf, firstList, isEmpty, opened}
 use Rattle.book.specs.Theorem.{optionsOf, startOf, startedList}
 use Rattle.book.proofs.Starts.{refusal, openingRun, accepted, list-is}

@@ -16,7 +16,7 @@ use Rattle.float.specs.Sign.{plusZero}
 use Rattle.seeds.specs.declared.CandidateSeed.{CandidateSeed}
 use Rattle.seeds.specs.Rules.{within, inBound}
 use Rattle.seeds.specs.Layout.{allSeeds}
-use Rattle.search.specs.Start.{positive, goodSeed, tooMany, demandOf, startChecks}
+use Rattle.search_start.specs.Start.{positive, goodSeed, tooMany, demandOf, startChecks}
 use Rattle.book.specs.Book.{Inputs, demand}
 use Rattle.book.specs.Conditions.{Condition, _provided_, FirstHolds, NoneHolds, Some, NotFinite, NotAboveZero, NotPositive, Beyond, BadSeed, conditions}
 use Rattle.book.specs.Theorem.{optionsOf}

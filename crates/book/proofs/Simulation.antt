@@ -29,9 +29,9 @@ use Rattle.best.specs.Order.{Sound, best-snoc}
 use Rattle.search.specs.declared.run.Run.{Run}
 use Rattle.search.specs.declared.run.Waiting.{Waiting}
 use Rattle.search.specs.Record as rec
-use Rattle.search.specs.Next.{nextDef, seedLent, seedPart}
-use Rattle.search.specs.Answer as ans
-use Rattle.search.specs.Result.{resultDef}
+use Rattle.search_next.specs.Next.{nextDef, seedLent, seedPart}
+use Rattle.search_answer.specs.Answer as ans
+use Rattle.search_result.specs.Result.{resultDef}
 use Rattle.book.specs.Calls.{Call, next, seed, answer, ask, Reply, candidate, over, part, scored, skipped, result, refused}
 use Rattle.book.specs.Book.{Inputs, demand, Entry, Book, entries, number, noSeed, current, scoredOf, roundBest, runBest, orElse, stepOf, listAround, withWaiting, withEntry, withRound, withEnd, openRound, closeRound, bookEnter, Kept, kept, isNothing, bookNext, bookSeed, replyTo, bookAnswer, bookResult, bookCall}
 use Rattle.book.specs.Walk.{Step, runCall, answeredReply}

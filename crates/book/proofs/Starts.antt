@@ -11,8 +11,8 @@ use lib.Ieee.{Float}
 use Rattle.common.specs.Tests.{case}
 use Rattle.seeds.specs.Layout.{written}
 use Rattle.search.specs.declared.run.Run.{Run}
-use Rattle.search.specs.declared.start.Started.the-variants.{Accepted, Refused}
-use Rattle.search.specs.Start.{startRefusal, opening, startSeeds, startChecks, startReply, startList}
+use Rattle.search_start.specs.declared.Started.the-variants.{Accepted, Refused}
+use Rattle.search_start.specs.Start.{startRefusal, opening, startSeeds, startChecks, startReply, startList}
 use Rattle.book.specs.Book.{Inputs, firstList}
 use Rattle.book.specs.Conditions.{FirstHolds, NoneHolds, conditions}
 use Rattle.book.specs.Theorem.{optionsOf, startOf, startedList, Starts}

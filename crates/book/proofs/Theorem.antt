@@ -17,11 +17,11 @@ use Rattle.best.specs.declared.Candidate.{Candidate}
 use Rattle.best.specs.Best.{Chosen, nothing, chosen, bestOf}
 use Rattle.best.specs.Order.{Sound}
 use Rattle.search.specs.declared.run.Run.{Run}
-use Rattle.search.specs.declared.next.Handed.the-variants as handed-as
-use Rattle.search.specs.declared.result.Resulted.the-variants.{Result, Refused}
-use Rattle.search.specs.Next.{nextDef}
-use Rattle.search.specs.Answer.{answerRefusal}
-use Rattle.search.specs.Result.{resultDef}
+use Rattle.search_next.specs.declared.Handed.the-variants as handed-as
+use Rattle.search_result.specs.declared.Resulted.the-variants.{Result, Refused}
+use Rattle.search_next.specs.Next.{nextDef}
+use Rattle.search_answer.specs.Answer.{answerRefusal}
+use Rattle.search_result.specs.Result.{resultDef}
 use Rattle.book.specs.Calls.{Call}
 use Rattle.book.specs.Book.{Inputs, demand, Entry, Book, entries, number, scoredOf, runBest, opened, after}
 use Rattle.book.specs.Trace.{handed, answers, runAfter, listAfter}

@@ -7,10 +7,10 @@ use lib.ListN.{length, take}
 use lib.Ieee.{Float}
 use Rattle.score.specs.Evaluation.{outcomeOf}
 use Rattle.search.specs.declared.run.Run.{Run}
-use Rattle.search.specs.declared.next.Handed.{Handed}
-use Rattle.search.specs.declared.next.Handed.the-variants.{Candidate, Over, Refused}
-use Rattle.search.specs.Next.{nextDef, seedPart}
-use Rattle.search.specs.Answer.{answerRefusal}
+use Rattle.search_next.specs.declared.Handed.{Handed}
+use Rattle.search_next.specs.declared.Handed.the-variants.{Candidate, Over, Refused}
+use Rattle.search_next.specs.Next.{nextDef, seedPart}
+use Rattle.search_answer.specs.Answer.{answerRefusal}
 use Rattle.book.specs.Calls.{Call, next, seed, answer, ask}
 use Rattle.book.specs.Book.{Entry}
 use Rattle.book.specs.Walk.{Step, runCall}

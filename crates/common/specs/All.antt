@@ -1,6 +1,9 @@
 -- What holds of each element of a list. Assumes nothing.
-use mathlib.Core.Bool.{Bool, true, _&&_}
+use Prim.Native.Nat.{ℕ, _≤_}
+use mathlib.Core.Path.{_≡_, ap, _∙_}
+use mathlib.Core.Bool.{Bool, true, false, _&&_}
 use mathlib.Core.List.{List, [], _∷_, _++_}
+use lib.ListN.{length, drop, drop-of-length-le}
 
 abbrev pub All : {A : Type 0} → (A → Type 0) → List A → Type 0
 All P [] = Unit {0}
@@ -27,3 +30,17 @@ module _ {A : Type 0} (P : A → Type 0) where
 unfoldable pub every : {A : Type 0} → (A → Bool) → List A → Bool
 every p [] = true
 every p (x ∷ xs) = p x && every p xs
+
+-- the same from place i on, as a loop over the list tests it
+module _ {A : Type 0} (p : A → Bool) (xs : List A) (i : ℕ) where
+  pub every-here : (x : A) (ys : List A) → drop i xs ≡ x ∷ ys → p x ≡ false → every p (drop i xs) ≡ false
+  unfolding every
+  every-here x ys e h = simp (e, h)
+
+  pub every-next : (x : A) (ys : List A) → drop i xs ≡ x ∷ ys → p x ≡ true → every p (drop i xs) ≡ every p ys
+  unfolding every
+  every-next x ys e h = ap (every p) e ∙ simp h
+
+  pub every-end : length xs ≤ i → every p (drop i xs) ≡ true
+  unfolding every
+  every-end h = rw (drop-of-length-le xs h)

@@ -1,8 +1,8 @@
 -- What NaN, a zero and 1 do in sums and products, and signs of sums and products. Assumes nothing.
 use mathlib.Core.Path.{_≡_, refl, sym, _∙_, subst}
-use mathlib.Core.Bool.{Bool, true, false, Bool·beq, cond, true≢false}
+use mathlib.Core.Bool.{Bool, true, false, not, _&&_, Bool·beq, cond, true≢false}
 use Prim.Native.Nat.{ℕ, zero, suc, _+_, _-_, _*_, _/_, _%_, _^_, _<_, compare}
-use native.Mathlib.Nat.{mul-one, zero-mul, mul-pos, zero-lt-suc}
+use native.Mathlib.Nat.{mul-one, zero-mul, mul-zero, mul-pos, zero-lt-suc, add-zero as nat-add-zero}
 use native.Mathlib.Omega.{arith}
 use borrow.Author.Tests.{lt-ltb, le-ltb}
 use lib.Dec.{T, ltb, eqb, eqb·suc-zero}
@@ -11,7 +11,7 @@ use lib.Ieee.{Float, nan, inf, fin, Format, binary64, ofBits, up, down, unlike, 
 use lib.Ieee.Fits.{up-pos, down-pos}
 use lib.Ieee.Scale.{round-same}
 use Rattle.float.specs.Float.{isFinite}
-use Rattle.float.specs.Sign.{plusZero, eq-zero, fits-zero}
+use Rattle.float.specs.Sign.{plusZero, eq-zero, fits-zero, signBit}
 use Rattle.float.specs.Exact.{round-own}
 
 -- ---- NaN
@@ -67,47 +67,76 @@ unfolding round
 round-zero true c h = round-same binary64 true 0 c 0 1 h (omega arith) (omega arith)
 round-zero false c h = round-same binary64 false 0 c 0 1 h (omega arith) (omega arith)
 
-pub zero-times : (s t : Bool) (n : ℕ) (d : ℤ) → mul binary64 (zeroOf s) (fin t n d) ≡ zeroOf (unlike s t)
-unfolding mul
-zero-times s t n d =
-    let z : 0 * (n * up d) ≡ 0 = zero-mul (n * up d) in
-    simp z (round-zero (unlike s t) (1 * down d) (omega (arith, down-pos d)))
+-- a zero times a number, in either order, is a zero
+pub zero-times : (k x : Float) → eq k plusZero ≡ true → isFinite x ≡ true → mul binary64 k x ≡ zeroOf (unlike (signBit k) (signBit x))
+unfolding mul isFinite eq ofBits signBit
+zero-times nan x z f = absurd (true≢false (sym z))
+zero-times (inf s) x z f = absurd (true≢false (sym z))
+zero-times (fin s m e) nan z f = absurd (true≢false (sym f))
+zero-times (fin s m e) (inf t) z f = absurd (true≢false (sym f))
+zero-times (fin s zero e) (fin t n d) z f =
+    let o : 0 * up e * (n * up d) ≡ 0 = simp zero-mul in
+    simp o (round-zero (unlike s t) (down e * down d) (mul-pos (down-pos e) (down-pos d)))
+zero-times (fin s (suc m) e) (fin t n d) z f = absurd (true≢false (sym z ∙ eq-zero s (suc m) e ∙ eqb·suc-zero m))
 
-pub zero-times-other : (s : Bool) (x : Float) → isFinite x ≡ false → mul binary64 (zeroOf s) x ≡ nan
-unfolding mul isFinite
-zero-times-other s nan h = refl
-zero-times-other s (inf t) h = refl
-zero-times-other s (fin t n d) h = absurd (true≢false h)
+pub times-zero : (x k : Float) → isFinite x ≡ true → eq k plusZero ≡ true → mul binary64 x k ≡ zeroOf (unlike (signBit x) (signBit k))
+unfolding mul isFinite eq ofBits signBit
+times-zero nan k f z = absurd (true≢false (sym f))
+times-zero (inf t) k f z = absurd (true≢false (sym f))
+times-zero (fin t n d) nan f z = absurd (true≢false (sym z))
+times-zero (fin t n d) (inf s) f z = absurd (true≢false (sym z))
+times-zero (fin t n d) (fin s zero e) f z =
+    let o : n * up d * (0 * up e) ≡ 0 = simp (zero-mul, mul-zero) in
+    simp o (round-zero (unlike t s) (down d * down e) (mul-pos (down-pos d) (down-pos e)))
+times-zero (fin t n d) (fin s (suc m) e) f z = absurd (true≢false (sym z ∙ eq-zero s (suc m) e ∙ eqb·suc-zero m))
 
--- ---- a value plus +0: itself, but −0 becomes +0
-abbrev pub positiveZero : Float → Float
-positiveZero x = cond (eq x plusZero) plusZero x
+pub zero-times-other : (k x : Float) → eq k plusZero ≡ true → isFinite x ≡ false → mul binary64 k x ≡ nan
+unfolding mul isFinite eq ofBits
+zero-times-other nan x z f = refl
+zero-times-other (inf s) x z f = absurd (true≢false (sym z))
+zero-times-other (fin s m e) nan z f = refl
+zero-times-other (fin s zero e) (inf t) z f = refl
+zero-times-other (fin s (suc m) e) (inf t) z f = absurd (true≢false (sym z ∙ eq-zero s (suc m) e ∙ eqb·suc-zero m))
+zero-times-other (fin s m e) (fin t n d) z f = absurd (true≢false f)
 
-zero-plus : (s : Bool) (e : ℤ) → e ≡ pos 0 → add binary64 (fin s zero e) plusZero ≡ positiveZero (fin s zero e)
+-- two zeros: −0 where both are
+pub zeros-add : (s t : Bool) → add binary64 (zeroOf s) (zeroOf t) ≡ zeroOf (s && t)
+unfolding add
+zeros-add true true = refl
+zeros-add true false = refl
+zeros-add false true = refl
+zeros-add false false = refl
+
+-- ---- a value plus a zero: itself, but −0 plus +0 is +0
+abbrev pub plusZeroUnless : Bool → Float → Float
+plusZeroUnless keep x = cond (eq x plusZero && not keep) plusZero x
+
+zero-plus : (s : Bool) (e : ℤ) (t : Bool) → e ≡ pos 0 → add binary64 (fin s zero e) (zeroOf t) ≡ plusZeroUnless t (fin s zero e)
 unfolding add ofBits eq
-zero-plus true e h = rw h
-zero-plus false e h = rw h
+zero-plus true e true h = rw h
+zero-plus true e false h = rw h
+zero-plus false e true h = rw h
+zero-plus false e false h = rw h
 
-number-plus : (s : Bool) (m : ℕ) (e : ℤ) → T (fits binary64 (fin s (suc m) e)) → add binary64 (fin s (suc m) e) plusZero ≡ fin s (suc m) e
-unfolding add ofBits
-number-plus false m e h =
-    let a : suc m * up e * 1 + 0 * down e ≡ suc m * up e = omega arith in
-    let c : down e * 1 ≡ down e = mul-one (down e) in
-    simp (a, c) (round-own binary64 false m e h)
-number-plus true m e h =
-    let p : 0 < suc m * up e = mul-pos (zero-lt-suc m) (up-pos e) in
-    let i : ltb (suc m * up e * 1) (0 * down e) ≡ false = le-ltb (suc m * up e * 1) (0 * down e) (omega arith) in
-    let j : ltb (0 * down e) (suc m * up e * 1) ≡ true = lt-ltb (0 * down e) (suc m * up e * 1) (omega arith) in
-    let a : suc m * up e * 1 - 0 * down e ≡ suc m * up e = omega arith in
-    let c : down e * 1 ≡ down e = mul-one (down e) in
-    simp (i, j, a, c) (round-own binary64 true m e h)
+sum-zero : (s t : Bool) (a c : ℕ) → 0 < a → sum binary64 s a t 0 c ≡ round binary64 s a c
+unfolding sum
+sum-zero true true a c h = rw (nat-add-zero a)
+sum-zero false false a c h = rw (nat-add-zero a)
+sum-zero true false a c h = let z : a - 0 ≡ a = omega arith in simp (le-ltb a 0 (omega arith), lt-ltb 0 a h, z)
+sum-zero false true a c h = let z : a - 0 ≡ a = omega arith in simp (le-ltb a 0 (omega arith), z)
 
-pub add-zero : (x : Float) → T (fits binary64 x) → add binary64 x plusZero ≡ positiveZero x
+number-plus : (s : Bool) (m : ℕ) (e : ℤ) (t : Bool) → T (fits binary64 (fin s (suc m) e)) → add binary64 (fin s (suc m) e) (zeroOf t) ≡ fin s (suc m) e
+unfolding add
+number-plus s m e t h =
+    let z : 0 * 1 * down e ≡ 0 = omega arith in
+    rw (z, mul-one (suc m * up e), mul-one (down e)) (sum-zero s t (suc m * up e) (down e) (mul-pos (zero-lt-suc m) (up-pos e)) ∙ round-own binary64 s m e h)
+
+pub add-zero : (x : Float) (t : Bool) → T (fits binary64 x) → add binary64 x (zeroOf t) ≡ plusZeroUnless t x
 unfolding add ofBits
-add-zero nan h = unfold eq in refl
-add-zero (inf s) h = unfold eq in refl
-add-zero (fin s zero e) h = zero-plus s e (fits-zero s e h)
-add-zero (fin s (suc m) e) h = number-plus s m e h ∙ simp (eq-zero s (suc m) e, eqb·suc-zero m)
+add-zero nan t h = unfold eq in refl
+add-zero (inf s) t h = unfold eq in refl
+add-zero (fin s zero e) t h = zero-plus s e t (fits-zero s e h)
+add-zero (fin s (suc m) e) t h = number-plus s m e t h ∙ simp (eq-zero s (suc m) e, eqb·suc-zero m)
 
 -- ---- a value times 1
 abbrev pub one₆₄ : Float

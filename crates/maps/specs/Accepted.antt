@@ -5,7 +5,7 @@ use Prim.Native.Nat.{ℕ, _%_, _≤_}
 use native.Mathlib.Omega.{arith}
 use borrow.Author.Tests.{eqb-false, ltb-false}
 use lib.Dec.{eqb, ltb}
-use Rattle.models.specs.Matrix.{Matrix}
+use Rattle.matrix.specs.Matrix.{Matrix}
 use Rattle.maps.specs.Maps.{refusalOf}
 
 pub accepted : (h : Matrix) (numbers room : ℕ) → refusalOf h numbers room ≡ 0 → (numbers % 2 ≡ 0) × (numbers ≤ room)

@@ -10,9 +10,9 @@ use Rattle.float.specs.Sign.{plusZero}
 use Rattle.models.specs.declared.math.Pt2.{Pt2}
 use Rattle.models.specs.declared.intrinsics.FxFyCxCy.{FxFyCxCy}
 use Rattle.models.specs.Intrinsics.{pixelToSensor, sensorToPixel}
-use Rattle.models.specs.Matrix.{Matrix, determinantOf, inverseOf}
-use Rattle.models.specs.Sensor.{applyHomographyInverse}
-use Rattle.models.specs.Undistortion.{undistorted}
+use Rattle.matrix.specs.Matrix.{Matrix, determinantOf, inverseOf}
+use Rattle.sensor.specs.Sensor.{applyHomographyInverse}
+use Rattle.undistortion.specs.Undistortion.{undistorted}
 use Rattle.maps.specs.declared.Lens.{Lens}
 use Rattle.maps.specs.declared.Lens.the-variants.{Kept, Removed}
 use Rattle.maps.specs.declared.Mapped.{Mapped}

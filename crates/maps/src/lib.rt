@@ -5,8 +5,8 @@ ghost use mathlib.Core.Path.{_≡_};
 ghost use Prim.Native.Nat.{_%_, _≤_};
 ghost use lib.ListN.{length};
 ghost use Rattle.maps.specs.Maps.{mappedPoint, written, refusalOf, mapReply, mapDestination};
-ghost use Rattle.models.specs.Sensor.{tiltProjectionMatrix};
-use models::distortion::BrownConrady5;
+ghost use Rattle.sensor.specs.Sensor.{tiltProjectionMatrix};
+use distortion::BrownConrady5;
 use models::intrinsics::FxFyCxCy;
 use models::math::Pt2;
 
@@ -25,11 +25,11 @@ fn map_point(k: FxFyCxCy, lens: Lens, h_inv: [[f64; 3]; 3], pixel: Pt2) -> Pt2
     ensures { λ r. ⌜ r ≡ mappedPoint k lens «h_inv» pixel ⌝ }
 {
     let sensor = models::intrinsics::pixel_to_sensor(k, pixel);
-    let normalized = models::sensor::apply_homography_inverse(h_inv, sensor);
+    let normalized = sensor::apply_homography_inverse(h_inv, sensor);
     match lens {
         Lens::Kept => models::intrinsics::sensor_to_pixel(k, normalized),
         Lens::Removed(b, iters) => {
-            let ideal = models::distortion::undistort(b, iters, normalized);
+            let ideal = undistortion::undistort(b, iters, normalized);
             models::intrinsics::sensor_to_pixel(k, ideal)
         }
     }
@@ -65,7 +65,7 @@ fn refusal(h: [[f64; 3]; 3], numbers: usize, room: usize) -> u8
     if room < numbers {
         return 18;
     }
-    models::sensor::tilt_number(models::sensor::tilt_verdict(h))
+    sensor::tilt_number(sensor::tilt_verdict(h))
 }
 
 fn map_all(k: FxFyCxCy, lens: Lens, h: [[f64; 3]; 3], points: &[f64], to: &mut [f64]) -> Mapped
@@ -76,7 +76,7 @@ fn map_all(k: FxFyCxCy, lens: Lens, h: [[f64; 3]; 3], points: &[f64], to: &mut [
     if n != 0 {
         return Mapped::Refused(n);
     }
-    map_points(k, lens, models::sensor::inverse(h), points, to);
+    map_points(k, lens, matrix::inverse(h), points, to);
     Mapped::Done
 }
 
@@ -93,7 +93,7 @@ pub fn untilt_points(
     ensures reply { λ r. ⌜ r ≡ mapReply (tiltProjectionMatrix «sin_x» «cos_x» «sin_y» «cos_y») (now (points .entry)) (now (to .entry)) ⌝ }
     ensures destination { λ _. ⌜ now (to .exit) ≡ mapDestination k Lens.Kept (tiltProjectionMatrix «sin_x» «cos_x» «sin_y» «cos_y») (now (points .entry)) (now (to .entry)) ⌝ }
 {
-    let h = models::sensor::tilt_projection_matrix(sin_x, cos_x, sin_y, cos_y);
+    let h = sensor::tilt_projection_matrix(sin_x, cos_x, sin_y, cos_y);
     map_all(k, Lens::Kept, h, points, to)
 }
 
@@ -112,6 +112,6 @@ pub fn ideal_points(
     ensures reply { λ r. ⌜ r ≡ mapReply (tiltProjectionMatrix «sin_x» «cos_x» «sin_y» «cos_y») (now (points .entry)) (now (to .entry)) ⌝ }
     ensures destination { λ _. ⌜ now (to .exit) ≡ mapDestination k (Lens.Removed b iters) (tiltProjectionMatrix «sin_x» «cos_x» «sin_y» «cos_y») (now (points .entry)) (now (to .entry)) ⌝ }
 {
-    let h = models::sensor::tilt_projection_matrix(sin_x, cos_x, sin_y, cos_y);
+    let h = sensor::tilt_projection_matrix(sin_x, cos_x, sin_y, cos_y);
     map_all(k, Lens::Removed(b, iters), h, points, to)
 }

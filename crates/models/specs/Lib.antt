@@ -1,10 +1,2 @@
 pub mod Constants
 pub mod Intrinsics
-pub mod Matrix
-pub mod Sensor
-pub mod Verdict
-pub mod Distortion
-pub mod Undistortion
-pub mod Turns
-pub mod Descent
-pub mod NoDistortion

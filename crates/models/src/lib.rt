@@ -1,5 +1,3 @@
-// The camera's models: a pixel's place on the sensor, the tilted sensor, the lens distortion.
-pub mod distortion;
+// A point of the plane, and the camera without lens and tilt: a pixel's place on the sensor and back.
 pub mod intrinsics;
 pub mod math;
-pub mod sensor;

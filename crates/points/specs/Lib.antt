@@ -2,9 +2,4 @@ pub mod Points
 pub mod Walk
 pub mod Linalg
 pub mod Hartley
-pub mod Centre
-pub mod Line
-pub mod Rows
-pub mod RowsLaws
-pub mod Front
 pub mod MeanDistance

@@ -8,7 +8,7 @@ use lib.Ieee.{Float, binary64, ofBits, neg, le}
 use Rattle.common.specs.Refusal.{_when_, firstRefusal}
 use Rattle.float.specs.Binary64.{_+₆₄_, _-₆₄_, _*₆₄_, _/₆₄_}
 use Rattle.float.specs.Sign.{plusZero}
-use Rattle.roots.specs.Root.{root}
+use Rattle.square_root.specs.Root.{root}
 use Rattle.models.specs.declared.math.Pt2.{Pt2}
 use Rattle.points.specs.declared.linalg.Similarity.{Similarity}
 use Rattle.points.specs.declared.linalg.Normalizer.{Normalizer}

@@ -6,7 +6,7 @@ use Prim.Native.Nat.{_/_}
 use lib.ListN.{length}
 use lib.Ieee.{Float, binary64, ofBits, lt}
 use Rattle.float.specs.Sign.{plusZero, signBit, unsigned-not-below, sign-add, sign-square, sign-div, sign-count}
-use Rattle.roots.specs.Laws.{sign-root}
+use Rattle.square_root.specs.Laws.{sign-root}
 use Rattle.models.specs.declared.math.Pt2.{Pt2}
 use Rattle.points.specs.Points.{foldPoints, countOf, distanceOf}
 use Rattle.points.specs.Linalg.{addDistance, meanDistance}

@@ -7,7 +7,7 @@ use lib.IntN.{pos}
 use lib.ListN.{length, getD}
 use lib.Ieee.{Float, nan, binary64, ofInt}
 use Rattle.float.specs.Binary64.{_+₆₄_, _-₆₄_, _*₆₄_}
-use Rattle.roots.specs.Root.{root}
+use Rattle.square_root.specs.Root.{root}
 use Rattle.models.specs.declared.math.Pt2.{Pt2}
 
 -- from a start, one point after the other

@@ -1,4 +1,2 @@
-// Operations on lists of points, each a lent slice of numbers, x then y.
-pub mod centre;
-pub mod homography;
+// Point sets: their normalisation.
 pub mod linalg;

@@ -1,4 +1,1 @@
-mod Steps
 mod Rounds
-mod Patterns
-mod Exponents

@@ -1,6 +1,6 @@
 -- From the whole root of a number of 105 or 106 digits to the value that `rootOf` names and its bits. Assumes nothing.
 use mathlib.Core.Path.{_≡_, sym, ap, _∙_, subst}
-use Prim.Native.Nat.{ℕ, suc, _+_, _-_, _*_, _/_, _%_, _^_, _≤_, _<_, compare, Ordering}
+use Prim.Native.Nat.{ℕ, zero, suc, _+_, _-_, _*_, _/_, _%_, _^_, _≤_, _<_, compare, Ordering}
 use native.Mathlib.Nat.{le-trans, le-of-eq, le-antisymm, lt-of-lt-of-le, lt-of-not-le, lt-irrefl, le-of-suc-le-suc, le-div-iff-mul-le, div-lt-iff-lt-mul, mul-assoc, mul-mul-mul-comm, mul-le-mul-right, mul-lt-mul-of-pos-right, mul-pos, mul-div-cancel}
 use native.Mathlib.Numerals.{add-one}
 use native.Mathlib.Omega.{arith}
@@ -12,11 +12,11 @@ use lib.Ieee.Digits.{size-lt, size-le}
 use lib.Ieee.Fits.{odd-fits}
 use lib.Ieee.Exact.{units-val}
 use lib.Ieee.Bits.{ofBits-toBits, nanBits-above}
-use Rattle.roots.specs.Root.{isqrt, rootOf}
-use Rattle.roots.proofs.Exponents.{four-pow}
-use Rattle.roots.specs.ByValue.{toBits-is}
-use Rattle.roots.specs.Compare.{compare-lt, compare-gt}
-use Rattle.roots.specs.IntegerRoot.{isqrt-ge, isqrt-lt, square-mono, square-lt-back}
+use Rattle.square_root.specs.Root.{isqrt, rootOf}
+use Rattle.integer_root.specs.NearestRoot.{NearestRoot}
+use Rattle.square_root.specs.ByValue.{toBits-is}
+use Rattle.square_root.specs.Compare.{compare-lt, compare-gt}
+use Rattle.square_root.specs.IntegerRoot.{isqrt-ge, isqrt-lt, square-mono, square-lt-back, four-pow}
 
 -- ---- sizes and quotients from bounds
 
@@ -127,7 +127,7 @@ module _ (m h r t : ℕ) (m-lo : 2 ^ 52 ≤ m) (m-hi : m ≤ 2 ^ 54 - 2) (h-lo :
   root-lo : 2 ^ 52 ≤ r
   root-lo = le-of-suc-le-suc (square-lt-back (2 ^ 52) (suc r) (omega arith))
 
-  pub root-hi : r < 2 ^ 53
+  root-hi : r < 2 ^ 53
   root-hi = square-lt-back r (2 ^ 53) (omega arith)
 
   -- with a remainder above the root, the root is not the greatest
@@ -161,9 +161,16 @@ module _ (m h r t : ℕ) (m-lo : 2 ^ 52 ≤ m) (m-hi : m ≤ 2 ^ 54 - 2) (h-lo :
         ∙ ap (rootOf binary64) (sym whole),
   )
 
-  pub answer : Answer m h (k * 2 ^ 52 + cond (ltb r t) (r + 1) r)
-  answer = go (ltb r t) (ltb→lt r t) (nltb→le r t)
-    where
-      go : (b : Bool) → (T b → r < t) → (T (not b) → t ≤ r) → Answer m h (k * 2 ^ 52 + cond b (r + 1) r)
-      go true g l = is-up (g tt)
-      go false g l = is-down (l tt)
+-- the same for the whole number nearest to the root: the root's whole part or one more
+pub answer : (m h q : ℕ) → 2 ^ 52 ≤ m → m ≤ 2 ^ 54 - 2 → 26 ≤ h → h < 1560 → NearestRoot (m * 4 ^ 26) q → Answer m h ((h - 26) * 2 ^ 52 + q)
+answer m h q m-lo m-hi h-lo h-hi n = go (ltb (m * 4 ^ 26) (q * q)) (ltb→lt (m * 4 ^ 26) (q * q)) (nltb→le (m * 4 ^ 26) (q * q))
+  where
+    up : (q : ℕ) → NearestRoot (m * 4 ^ 26) q → m * 4 ^ 26 < q * q → Answer m h ((h - 26) * 2 ^ 52 + q)
+    up zero n g = absurd (omega (arith, g))
+    up (suc r) n g = subst (λ (x : ℕ). Answer m h ((h - 26) * 2 ^ 52 + x)) (add-one r) (is-up m h r (m * 4 ^ 26 - r * r) m-lo m-hi h-lo h-hi (omega (arith, n, g)) (omega (arith, n, g)) (omega (arith, n, g)))
+
+    go : (b : Bool) → (T b → m * 4 ^ 26 < q * q) → (T (not b) → q * q ≤ m * 4 ^ 26) → Answer m h ((h - 26) * 2 ^ 52 + q)
+    go true g l = up q n (g tt)
+    go false g l =
+        let k = l tt in
+        is-down m h q (m * 4 ^ 26 - q * q) m-lo m-hi h-lo h-hi (omega (arith, k)) (omega (arith, n, k)) (omega (arith, n, k))

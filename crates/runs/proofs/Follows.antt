@@ -7,8 +7,8 @@ use Rattle.seeds.specs.Merge.{keep, hasNear, push, mergedInto}
 use Rattle.seeds.specs.Rules.{closer, tiltNear, cameraNear, near, within, inBound, pairs, seedGrid, initialList}
 use Rattle.seeds.specs.Layout.{readFrom}
 use Rattle.search.specs.declared.run.Run.{Run}
-use Rattle.search.specs.declared.start.Started.the-variants.{Accepted}
-use Rattle.search.specs.Start.{goodSeed, tooMany, demandOf, openingOf, startReply}
+use Rattle.search_start.specs.declared.Started.the-variants.{Accepted}
+use Rattle.search_start.specs.Start.{goodSeed, tooMany, demandOf, openingOf, startReply}
 use Rattle.book.specs.Theorem.{optionsOf, startOf, startedList, Follows}
 use Rattle.book.proofs.Theorem.{search-is-book}
 use Rattle.runs.specs.Words.{centre, sixty}

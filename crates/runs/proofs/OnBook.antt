@@ -3,16 +3,16 @@ use mathlib.Core.Path.{_≡_, refl}
 use lib.Ieee.{add, sub, mul, div, neg, lt, le, eq, isNan, ofBits, ofInt, sum, round, units, odd, size, span, climb}
 use Rattle.common.specs.All.{every}
 use Rattle.float.specs.Float.{absOf, isFinite, minOf, maxOf, clampOf}
-use Rattle.roots.specs.Root.{rootIn, isqrt, rootOf, root}
-use Rattle.models.specs.Matrix.{productOf, firstOther, secondOther, minorOf, cofactorOf, determinantOf, inverseOf}
-use Rattle.models.specs.Sensor.{tiltProjectionMatrix, tiltVerdict, forwardDepth, inverseDepth, applyHomography, applyHomographyInverse}
-use Rattle.models.specs.Distortion.{radialFactor, tangentialX, tangentialY, distorted, jacobianRadial, radialDerivative, jacobianAt}
+use Rattle.square_root.specs.Root.{rootIn, isqrt, rootOf, root}
+use Rattle.matrix.specs.Matrix.{productOf, firstOther, secondOther, minorOf, cofactorOf, determinantOf, inverseOf}
+use Rattle.sensor.specs.Sensor.{tiltProjectionMatrix, tiltVerdict, forwardDepth, inverseDepth, applyHomography, applyHomographyInverse}
+use Rattle.distortion.specs.Distortion.{radialFactor, tangentialX, tangentialY, distorted, jacobianRadial, radialDerivative, jacobianAt}
 use Rattle.seeds.specs.Merge.{keep, hasNear, firstNear, push, mergedInto}
 use Rattle.seeds.specs.Rules.{closer, tiltNear, cameraNear, near, within, inBound, pairs, seedGrid, initialList, offsets, nextList}
 use Rattle.seeds.specs.Layout.{laid, readFrom}
-use Rattle.score.specs.Camera.{damped, finiteIntrinsics, finiteDistortion, validCamera}
-use Rattle.score.specs.Penalties.{distortionPenalty, tiltPenalty, centrePenalty, scoreOf}
-use Rattle.score.specs.Rows.{rowsOf, tiltMatrix, projected, distanceOf, rowError, isCounted, countedErrors, summed, errorSum, meanOf}
+use Rattle.pinhole.specs.Camera.{damped, finiteIntrinsics, finiteDistortion, validCamera}
+use Rattle.penalties.specs.Penalties.{distortionPenalty, tiltPenalty, centrePenalty, scoreOf}
+use Rattle.reprojection.specs.Rows.{rowsOf, tiltMatrix, projected, distanceOf, rowError, isCounted, countedErrors, summed, errorSum, meanOf}
 use Rattle.score.specs.Evaluation.{anyAboveOne, solvedRefusal, findingRefusal, meanWith, scoringOf, evaluated, outcomeOf}
 use Rattle.best.specs.Best.{beats, unbeaten, firstUnbeaten, bestOf, noBest, isBetter, improved}
 use Rattle.book.specs.Book.{demand, scoredOf, roundBest, runBest, stepOf, firstList, listAround, opened, withWaiting, withEntry, withRound, withEnd, closeRound, bookEnter, bookNext, bookSeed, bookAnswer, bookResult, bookCall, replies, after}

@@ -4,12 +4,12 @@ use mathlib.Core.List.{List, [], _∷_, _++_}
 use lib.Ieee.{Float, binary64, ofBits}
 use Rattle.models.specs.declared.math.Pt2.{Pt2}
 use Rattle.models.specs.declared.intrinsics.FxFyCxCy.{FxFyCxCy}
-use Rattle.score.specs.declared.PinholeCamera.{PinholeCamera}
-use Rattle.score.specs.declared.TiltTrig.{TiltTrig}
+use Rattle.pinhole.specs.declared.PinholeCamera.{PinholeCamera}
+use Rattle.reprojection.specs.declared.TiltTrig.{TiltTrig}
 use Rattle.score.specs.declared.Finding.{Finding}
 use Rattle.score.specs.declared.Finding.the-variants.{Failed, Solved}
-use Rattle.search.specs.declared.start.Started.{Started}
-use Rattle.search.specs.declared.start.Started.the-variants.{Accepted, Refused}
+use Rattle.search_start.specs.declared.Started.{Started}
+use Rattle.search_start.specs.declared.Started.the-variants.{Accepted, Refused}
 use Rattle.book.specs.Calls.{Call, next, answer, Reply, refused}
 use Rattle.book.specs.Book.{Inputs}
 use Rattle.book.specs.Walk.{walk}

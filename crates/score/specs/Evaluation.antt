@@ -8,13 +8,13 @@ use lib.Ieee.{Float, eq}
 use Rattle.common.specs.Refusal.{_when_, firstRefusal}
 use Rattle.float.specs.Float.{isFinite}
 use Rattle.float.specs.Sign.{plusZero}
-use Rattle.models.specs.Matrix.{determinantOf}
+use Rattle.matrix.specs.Matrix.{determinantOf}
 use Rattle.models.specs.declared.math.Pt2.{Pt2}
-use Rattle.models.specs.declared.sensor.ScheimpflugParams.{ScheimpflugParams}
-use Rattle.score.specs.Camera.{dampedCamera, validCamera}
-use Rattle.score.specs.Penalties.{scoreOf}
-use Rattle.score.specs.Rows.{rowsOf, tiltMatrix, errorSum, meanOf}
-use Rattle.score.specs.declared.TiltTrig.{TiltTrig}
+use Rattle.sensor.specs.declared.ScheimpflugParams.{ScheimpflugParams}
+use Rattle.pinhole.specs.Camera.{dampedCamera, validCamera}
+use Rattle.penalties.specs.Penalties.{scoreOf}
+use Rattle.reprojection.specs.Rows.{rowsOf, tiltMatrix, errorSum, meanOf}
+use Rattle.reprojection.specs.declared.TiltTrig.{TiltTrig}
 use Rattle.score.specs.declared.SolvedCamera.{SolvedCamera}
 use Rattle.score.specs.declared.Scoring.{Scoring}
 use Rattle.score.specs.declared.Finding.{Finding}

@@ -10,9 +10,9 @@ use Rattle.float.specs.Float.{absOf, isFinite}
 use Rattle.float.specs.Finite.{finite-number}
 use Rattle.float.specs.Sign.{plusZero, signBit, unsigned-not-below, clamp-magnitude}
 use Rattle.models.specs.declared.math.Pt2.{Pt2}
-use Rattle.models.specs.declared.sensor.ScheimpflugParams.{ScheimpflugParams}
-use Rattle.score.specs.Camera.{tangentialBound, damped, dampedCamera, finiteIntrinsics, finiteDistortion, validCamera}
-use Rattle.score.specs.Penalties.{scoreOf}
+use Rattle.sensor.specs.declared.ScheimpflugParams.{ScheimpflugParams}
+use Rattle.pinhole.specs.Camera.{tangentialBound, damped, dampedCamera, finiteIntrinsics, finiteDistortion, validCamera}
+use Rattle.penalties.specs.Penalties.{scoreOf}
 use Rattle.score.specs.Evaluation.{meanWith, scoringOf, evaluated, outcomeOf}
 use Rattle.score.specs.Outcomes.{invalid-skips, infinite-skips, finite-scores}
 use Rattle.score.specs.Mean.{mean-unsigned}

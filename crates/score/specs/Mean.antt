@@ -9,14 +9,14 @@ use lib.Ieee.{Float, binary64, div, ofBits, ofInt}
 use Rattle.float.specs.Binary64.{_+₆₄_, _/₆₄_}
 use Rattle.float.specs.Finite.{infinity}
 use Rattle.float.specs.Sign.{signBit, sign-add, sign-square, sign-div, sign-count}
-use Rattle.roots.specs.Laws.{sign-root}
-use Rattle.models.specs.Matrix.{Matrix}
-use Rattle.score.specs.Camera.{dampedCamera}
-use Rattle.score.specs.Rows.{rowsOf, tiltMatrix, distanceOf, rowError, isCounted, countedErrors, noErrors, summed, errorSum, meanOf}
+use Rattle.square_root.specs.Laws.{sign-root}
+use Rattle.matrix.specs.Matrix.{Matrix}
+use Rattle.pinhole.specs.Camera.{dampedCamera}
+use Rattle.reprojection.specs.Rows.{rowsOf, tiltMatrix, distanceOf, rowError, isCounted, countedErrors, noErrors, summed, errorSum, meanOf}
 use Rattle.score.specs.Evaluation.{meanWith}
-use Rattle.score.specs.declared.PinholeCamera.{PinholeCamera}
-use Rattle.score.specs.declared.Row.{Row}
-use Rattle.score.specs.declared.ErrorSum.{ErrorSum}
+use Rattle.pinhole.specs.declared.PinholeCamera.{PinholeCamera}
+use Rattle.reprojection.specs.declared.Row.{Row}
+use Rattle.reprojection.specs.declared.ErrorSum.{ErrorSum}
 use Rattle.score.specs.declared.SolvedCamera.{SolvedCamera}
 
 sign-error : (c : PinholeCamera) (h : Matrix) (r : Row) → signBit (rowError c h r) ≡ false

@@ -6,8 +6,8 @@ use mathlib.Core.List.{List}
 use lib.Ieee.{Float}
 use Rattle.float.specs.Float.{isFinite}
 use Rattle.models.specs.declared.math.Pt2.{Pt2}
-use Rattle.models.specs.declared.sensor.ScheimpflugParams.{ScheimpflugParams}
-use Rattle.score.specs.Camera.{dampedCamera, validCamera}
+use Rattle.sensor.specs.declared.ScheimpflugParams.{ScheimpflugParams}
+use Rattle.pinhole.specs.Camera.{dampedCamera, validCamera}
 use Rattle.score.specs.Evaluation.{meanWith, scoringOf, evaluated}
 use Rattle.score.specs.declared.SolvedCamera.{SolvedCamera}
 use Rattle.score.specs.declared.Outcome.the-variants.{Skipped, Scored}

@@ -5,7 +5,7 @@ use lib.Dec.{leb, ltb, eqb}
 use lib.Ieee.{Float, binary64, ofBits}
 use Rattle.float.specs.Binary64.{_*₆₄_}
 use Rattle.float.specs.Sign.{plusZero}
-use Rattle.models.specs.declared.sensor.ScheimpflugParams.{ScheimpflugParams}
+use Rattle.sensor.specs.declared.ScheimpflugParams.{ScheimpflugParams}
 use Rattle.seeds.specs.declared.CandidateSeed.{CandidateSeed}
 use Rattle.score.specs.declared.Outcome.{Outcome}
 use Rattle.score.specs.declared.Outcome.the-variants.{Skipped, Scored}

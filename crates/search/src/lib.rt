@@ -1,7 +1,2 @@
-// The search as a stepwise run: Start, Next, the seed call, Answer, Result. Each call takes the run by value and returns it,
-// and each contract is an equation for the reply, the run and every number of the lent list, for all inputs.
-pub mod answer;
-pub mod next;
-pub mod result;
+// The record of a run, and its steps. Each call of the search takes the run by value and returns it.
 pub mod run;
-pub mod start;

@@ -7,9 +7,9 @@ use best::Best;
 use best::Candidate;
 use models::intrinsics::FxFyCxCy;
 use models::math::Pt2;
-use models::sensor::ScheimpflugParams;
 use score::Outcome;
 use seeds::CandidateSeed;
+use sensor::ScheimpflugParams;
 
 // What the search was asked for. The names are those of the Rust's options.
 #[repr(C)]

@@ -14,7 +14,7 @@ use Rattle.common.specs.All.{All, all-append, all-map}
 use Rattle.float.specs.Binary64.{_+₆₄_}
 use Rattle.float.specs.Sign.{plusZero, abs-add-zero}
 use Rattle.models.specs.declared.intrinsics.FxFyCxCy.{FxFyCxCy}
-use Rattle.models.specs.declared.sensor.ScheimpflugParams.{ScheimpflugParams}
+use Rattle.sensor.specs.declared.ScheimpflugParams.{ScheimpflugParams}
 use Rattle.seeds.specs.declared.CandidateSeed.{CandidateSeed}
 use Rattle.seeds.specs.Merge.{keep}
 use Rattle.seeds.specs.MergeLaws.{keep-all, mem-keep, merged-all, merged-covers}

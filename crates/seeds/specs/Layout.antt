@@ -4,7 +4,7 @@ use mathlib.Core.Path.{_≡_}
 use mathlib.Core.List.{List, [], _∷_, _++_}
 use lib.ListN.{length, getD, drop}
 use lib.Ieee.{Float, nan}
-use Rattle.models.specs.declared.sensor.ScheimpflugParams.{ScheimpflugParams}
+use Rattle.sensor.specs.declared.ScheimpflugParams.{ScheimpflugParams}
 use Rattle.seeds.specs.declared.CandidateSeed.{CandidateSeed}
 
 module _ {A : Type 0} where

@@ -7,7 +7,7 @@ use native.Mathlib.Omega.{arith}
 use lib.ListN.{length, getD, take, drop, length-append, length-drop, take-append-drop}
 use lib.Seq.{drop-at, take-at, drop-cons, drop-drop, getD-drop, take-add, take-suc, sets, sets-eq}
 use lib.Ieee.{Float}
-use Rattle.models.specs.declared.sensor.ScheimpflugParams.{ScheimpflugParams}
+use Rattle.sensor.specs.declared.ScheimpflugParams.{ScheimpflugParams}
 use Rattle.seeds.specs.declared.CandidateSeed.{CandidateSeed}
 use Rattle.seeds.specs.Layout.{laid, readFrom, writtenBy, six, flat, seedAt, seedsOf, two, tiltsAt, tiltsOf}
 

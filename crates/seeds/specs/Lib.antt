@@ -2,6 +2,7 @@ pub mod Layout
 pub mod LayoutLaws
 pub mod Merge
 pub mod MergeLaws
+pub mod Steps
 pub mod Rules
 pub mod RulesLaws
 pub mod Facts

@@ -5,7 +5,7 @@ use mathlib.Core.List.{List, [], _∷_, _++_, map, map-append}
 use lib.Ieee.{Float, binary64, neg, lt}
 use Rattle.float.specs.Sign.{abs-neg, abs-sub-neg}
 use Rattle.models.specs.declared.intrinsics.FxFyCxCy.{FxFyCxCy}
-use Rattle.models.specs.declared.sensor.ScheimpflugParams.{ScheimpflugParams}
+use Rattle.sensor.specs.declared.ScheimpflugParams.{ScheimpflugParams}
 use Rattle.seeds.specs.declared.CandidateSeed.{CandidateSeed}
 use Rattle.seeds.specs.Merge.{keep, merged}
 use Rattle.seeds.specs.MergeLaws.{keep-map, merged-map}

@@ -6,7 +6,7 @@ use Rattle.float.specs.Float.{absOf}
 use Rattle.float.specs.Sign.{plusZero}
 use Rattle.float.specs.Binary64.{_+₆₄_, _-₆₄_}
 use Rattle.models.specs.declared.intrinsics.FxFyCxCy.{FxFyCxCy}
-use Rattle.models.specs.declared.sensor.ScheimpflugParams.{ScheimpflugParams}
+use Rattle.sensor.specs.declared.ScheimpflugParams.{ScheimpflugParams}
 use Rattle.seeds.specs.declared.CandidateSeed.{CandidateSeed}
 use Rattle.seeds.specs.Merge.{keep, merged}
 

@@ -9,7 +9,7 @@ use lib.Seq.{take-suc}
 use lib.Ieee.{Float, nan}
 use Rattle.float.specs.Binary64.{_+₆₄_}
 use Rattle.models.specs.declared.intrinsics.FxFyCxCy.{FxFyCxCy}
-use Rattle.models.specs.declared.sensor.ScheimpflugParams.{ScheimpflugParams}
+use Rattle.sensor.specs.declared.ScheimpflugParams.{ScheimpflugParams}
 use Rattle.seeds.specs.declared.CandidateSeed.{CandidateSeed}
 use Rattle.seeds.specs.Merge.{keep}
 use Rattle.seeds.specs.MergeLaws.{keep-append, keep-length, merged-length}

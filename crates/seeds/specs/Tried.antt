@@ -10,7 +10,7 @@ use Rattle.float.specs.Float.{isFinite}
 use Rattle.float.specs.Finite.{finite-within}
 use Rattle.float.specs.Sign.{abs-sub-self}
 use Rattle.models.specs.declared.intrinsics.FxFyCxCy.{FxFyCxCy}
-use Rattle.models.specs.declared.sensor.ScheimpflugParams.{ScheimpflugParams}
+use Rattle.sensor.specs.declared.ScheimpflugParams.{ScheimpflugParams}
 use Rattle.seeds.specs.declared.CandidateSeed.{CandidateSeed}
 use Rattle.seeds.specs.Merge.{keep}
 use Rattle.seeds.specs.MergeLaws.{mem-keep, merged-covers}

@@ -1,7 +1,7 @@
 -- `maps::refusal` meets its contract, test by test, and by those of `tilt_verdict` and `tilt_number`. Assumes nothing.
 use borrow.Author.Tests.{eq-eqb, ne-eqb, lt-ltb, le-ltb}
 use borrow.Author.Needs.{needs}
-use Rattle.models.specs.Verdict.{tilt-number}
+use Rattle.sensor.specs.Verdict.{tilt-number}
 use Rattle.maps.specs.Maps.{refusalOf}
 use Rattle.maps.proofs.refusal.Statement.{statement}
 use Rattle.maps.proofs.refusal.Tie as tie

@@ -3,10 +3,10 @@ use mathlib.Core.Path.{_≡_, sym, _∙_}
 use mathlib.Core.Bool.{true, false}
 use lib.Ieee.{eq}
 use Rattle.float.specs.Sign.{plusZero}
-use Rattle.models.specs.Matrix.{determinantOf}
+use Rattle.matrix.specs.Matrix.{determinantOf}
 use borrow.Author.Needs.{needs}
 use borrow.Author.Tests.{lt-ltb, le-ltb, eq-eqb, ne-eqb}
-use Rattle.score.specs.Rows.{tiltMatrix}
+use Rattle.reprojection.specs.Rows.{tiltMatrix}
 use Rattle.score.specs.Evaluation.{solvedRefusal}
 use Rattle.score.proofs.solved_refusal.Statement.{statement}
 use Rattle.score.proofs.solved_refusal.Tie as tie

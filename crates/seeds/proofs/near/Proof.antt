@@ -1,6 +1,8 @@
 -- `seeds::near` meets its contract: tilts and camera are near. Assumes nothing.
-use borrow.Author.Needs.{needs}
+use mathlib.Core.Path.{sym, _∙_}
 use Rattle.seeds.specs.Rules.{near}
+use Rattle.seeds.specs.Steps.{and-right, and-left}
+use borrow.Author.Needs.{needs}
 use Rattle.seeds.proofs.near.Statement.{statement}
 use Rattle.seeds.proofs.near.Tie as tie
 
@@ -12,7 +14,11 @@ camera-near-requires c κs = search needs
 
 returns : tie.Need-returns
 unfolding near
-returns c = cc
+returns c = c .camera-near .ensures ∙ and-right _ _ (sym (c .before .before .tilt-near .ensures) ∙ c .before .if1 .taken)
+
+returns-2 : tie.Need-returns-2
+unfolding near
+returns-2 c = c .before .tilt-near .ensures ∙ and-left _ _ (sym (c .before .tilt-near .ensures) ∙ c .if1 .left)
 
 pub near-spec : {M : Type 1} → statement M
-near-spec = tie.close (tie.spec tilt-near-requires camera-near-requires returns)
+near-spec = tie.close (tie.spec tilt-near-requires camera-near-requires returns returns-2)

@@ -1,0 +1,15 @@
+-- `distortion::jacobian_at` meets its contract, by that of `radial_tangential_jacobian`. Assumes nothing.
+use borrow.Author.Needs.{needs}
+use Rattle.distortion.specs.Distortion.{jacobianRadial, radialDerivative, jacobianAt}
+use Rattle.distortion.proofs.jacobian_at.Statement.{statement}
+use Rattle.distortion.proofs.jacobian_at.Tie as tie
+
+radial-tangential-jacobian-requires : tie.Need-radial-tangential-jacobian-requires
+radial-tangential-jacobian-requires c κs = search needs
+
+returns : tie.Need-returns
+unfolding jacobianRadial radialDerivative jacobianAt
+returns c = rw (c .radial-tangential-jacobian .ensures)
+
+pub jacobian-at-spec : {M : Type 1} → statement M
+jacobian-at-spec = tie.close (tie.spec radial-tangential-jacobian-requires returns)

@@ -1,0 +1,2 @@
+pub mod Distortion
+pub mod NoDistortion

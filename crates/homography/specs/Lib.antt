@@ -1,0 +1,4 @@
+pub mod Line
+pub mod Rows
+pub mod RowsLaws
+pub mod Front

@@ -1,0 +1,23 @@
+-- `matrix::cofactor` meets its contract, by that of `minor`. Assumes nothing.
+use borrow.Author.Tests.{eq-eqb, ne-eqb}
+use borrow.Author.Needs.{needs}
+use Rattle.matrix.specs.Matrix.{cofactorOf}
+use Rattle.matrix.proofs.cofactor.Statement.{statement}
+use Rattle.matrix.proofs.cofactor.Tie as tie
+
+minor-requires : tie.Need-minor-requires
+minor-requires c κs = search needs
+
+add-if1 : tie.Need-add-if1
+add-if1 c = search needs
+
+returns : tie.Need-returns
+unfolding cofactorOf
+returns c = simp (eq-eqb _ _ (c .if1 .taken), c .before .minor .ensures)
+
+returns-2 : tie.Need-returns-2
+unfolding cofactorOf
+returns-2 c = simp (ne-eqb _ _ (c .if1 .left), c .before .minor .ensures)
+
+pub cofactor-spec : {M : Type 1} → statement M
+cofactor-spec = tie.close (tie.spec minor-requires add-if1 returns returns-2)

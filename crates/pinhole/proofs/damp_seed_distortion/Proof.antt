@@ -1,0 +1,19 @@
+-- `pinhole::damp_seed_distortion` meets its contract: its operations are the definition's. Assumes nothing.
+use borrow.Author.Needs.{needs}
+use Rattle.pinhole.specs.Camera.{damped}
+use Rattle.pinhole.proofs.damp_seed_distortion.Statement.{statement}
+use Rattle.pinhole.proofs.damp_seed_distortion.Tie as tie
+
+clamp-requires : tie.Need-clamp-requires
+clamp-requires c κs = search needs
+
+clamp-requires-2 : tie.Need-clamp-requires-2
+clamp-requires-2 c κs = search needs
+
+returns : tie.Need-returns
+unfolding damped
+returns c = cc
+
+pub damp-seed-distortion-spec : {M : Type 1} → statement M
+damp-seed-distortion-spec =
+    tie.close (tie.spec clamp-requires clamp-requires-2 returns)

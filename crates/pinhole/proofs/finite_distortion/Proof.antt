@@ -1,0 +1,28 @@
+-- `pinhole::finite_distortion` meets its contract: its operations are the definition's. Assumes nothing.
+use borrow.Author.Needs.{needs}
+use Rattle.pinhole.specs.Camera.{finiteDistortion}
+use Rattle.pinhole.proofs.finite_distortion.Statement.{statement}
+use Rattle.pinhole.proofs.finite_distortion.Tie as tie
+
+is-finite-requires : tie.Need-is-finite-requires
+is-finite-requires c κs = search needs
+
+is-finite-requires-2 : tie.Need-is-finite-requires-2
+is-finite-requires-2 c κs = search needs
+
+is-finite-requires-3 : tie.Need-is-finite-requires-3
+is-finite-requires-3 c κs = search needs
+
+is-finite-requires-4 : tie.Need-is-finite-requires-4
+is-finite-requires-4 c κs = search needs
+
+is-finite-requires-5 : tie.Need-is-finite-requires-5
+is-finite-requires-5 c κs = search needs
+
+returns : tie.Need-returns
+unfolding finiteDistortion
+returns c = cc
+
+pub finite-distortion-spec : {M : Type 1} → statement M
+finite-distortion-spec =
+    tie.close (tie.spec is-finite-requires is-finite-requires-2 is-finite-requires-3 is-finite-requires-4 is-finite-requires-5 returns)

@@ -1,0 +1,25 @@
+-- `pinhole::finite_intrinsics` meets its contract: its operations are the definition's. Assumes nothing.
+use borrow.Author.Needs.{needs}
+use Rattle.pinhole.specs.Camera.{finiteIntrinsics}
+use Rattle.pinhole.proofs.finite_intrinsics.Statement.{statement}
+use Rattle.pinhole.proofs.finite_intrinsics.Tie as tie
+
+is-finite-requires : tie.Need-is-finite-requires
+is-finite-requires c κs = search needs
+
+is-finite-requires-2 : tie.Need-is-finite-requires-2
+is-finite-requires-2 c κs = search needs
+
+is-finite-requires-3 : tie.Need-is-finite-requires-3
+is-finite-requires-3 c κs = search needs
+
+is-finite-requires-4 : tie.Need-is-finite-requires-4
+is-finite-requires-4 c κs = search needs
+
+returns : tie.Need-returns
+unfolding finiteIntrinsics
+returns c = cc
+
+pub finite-intrinsics-spec : {M : Type 1} → statement M
+finite-intrinsics-spec =
+    tie.close (tie.spec is-finite-requires is-finite-requires-2 is-finite-requires-3 is-finite-requires-4 returns)

@@ -1,0 +1,16 @@
+-- `reprojection::distance` meets its contract: its operations are the definition's. Assumes nothing.
+use borrow.Author.Needs.{needs}
+use Rattle.reprojection.specs.Rows.{distanceOf}
+use Rattle.reprojection.proofs.distance.Statement.{statement}
+use Rattle.reprojection.proofs.distance.Tie as tie
+
+sqrt-requires : tie.Need-sqrt-requires
+sqrt-requires c κs = search needs
+
+returns : tie.Need-returns
+unfolding distanceOf
+returns c = cc
+
+pub distance-spec : {M : Type 1} → statement M
+distance-spec =
+    tie.close (tie.spec sqrt-requires returns)

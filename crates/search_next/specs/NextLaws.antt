@@ -1,0 +1,29 @@
+-- What Next and the seed call can rely on: the seed in place lies within the list. Assumes nothing.
+use Prim.Native.Nat.{ℕ, _+_, _*_, _≤_}
+use mathlib.Core.Path.{_≡_}
+use mathlib.Core.Bool.{true, false, not, _&&_}
+use native.Mathlib.Omega.{arith}
+use borrow.Author.Tests.{leb-true, ltb-false, not-false}
+use lib.Dec.{leb, ltb}
+use Rattle.common.specs.Tests.{both-true}
+use Rattle.common.specs.RefusalLaws.{refuses-none}
+use Rattle.search.specs.Record.{sound}
+use Rattle.search.specs.Laws.{bounds, open-at, waiting-at, in-list}
+use Rattle.search_next.specs.Next.{nextRefusal, seedLent}
+use Rattle.search.specs.declared.run.Run.{Run}
+
+pub next-in-list : (r : Run) (n : ℕ) → nextRefusal r n ≡ 0 → r .place .over ≡ false → 6 * r .place .at + 6 ≤ n
+next-in-list r n h e =
+    let p = refuses-none (not (sound r)) 11 _ (omega arith) h in
+    let q = refuses-none (r .waiting .«is_waiting») 9 _ (omega arith) (p .1) in
+    let s = refuses-none (ltb n (r .place .demand)) 10 _ (omega arith) (q .1) in
+    let b = bounds r (not-false (sound r) (p .0)) in
+    in-list r n b (open-at r b e) (ltb-false n (r .place .demand) (s .0))
+
+pub seed-in-list : (r : Run) (n : ℕ) → seedLent r n ≡ true → 6 * r .place .at + 6 ≤ n
+unfolding seedLent
+seed-in-list r n h =
+    let k = both-true (sound r && r .waiting .«is_waiting») (leb (r .place .demand) n) h in
+    let w = both-true (sound r) (r .waiting .«is_waiting») (k .0) in
+    let b = bounds r (w .0) in
+    in-list r n b (waiting-at r b (w .1)) (leb-true _ _ (k .1))

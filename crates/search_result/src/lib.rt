@@ -1,0 +1,42 @@
+// Result gives the run's best candidate once the run is over.
+
+ghost use mathlib.Core.Path.{_≡_};
+ghost use Rattle.search_result.specs.Result.{resultRefusal, resultDef};
+use best::Candidate;
+use search::run::Run;
+use search::run::is_sound;
+
+pub enum Resulted {
+    Result(Candidate),
+    Refused(u8),
+}
+
+// Result's refusals, of which the first that holds is returned; 0 where none does.
+fn result_refusal(run: Run) -> u8
+    ensures { λ r. ⌜ r ≡ resultRefusal run ⌝ }
+{
+    let place = run.place;
+    let best = run.run_best;
+    if !is_sound(run) {
+        return 11;
+    }
+    if !place.over {
+        return 14;
+    }
+    if !best.found {
+        return 11;
+    }
+    0
+}
+
+pub fn result(run: Run) -> Resulted
+    ensures { λ r. ⌜ r ≡ resultDef run ⌝ }
+{
+    let number = result_refusal(run);
+    if number != 0 {
+        return Resulted::Refused(number);
+    }
+    let best = run.run_best;
+    let candidate = best.candidate;
+    Resulted::Result(candidate)
+}

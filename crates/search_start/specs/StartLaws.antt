@@ -1,0 +1,66 @@
+-- What Start can rely on where none of its refusals holds: sizes within their limits, good seeds, a list that is long enough. Assumes nothing.
+use Prim.Native.Nat.{ℕ, _+_, _*_, _/_, _≤_, _<_}
+use mathlib.Core.Path.{_≡_, refl}
+use mathlib.Core.Bool.{Bool, true, false, not, _&&_, _||_, cond}
+use mathlib.Core.List.{List}
+use native.Mathlib.Nat.{le-refl, le-of-lt}
+use native.Mathlib.Omega.{arith}
+use borrow.Author.Tests.{ltb-true, ltb-false, not-false}
+use lib.Dec.{ltb, eqb}
+use lib.ListN.{length}
+use lib.Ieee.{Float}
+use Rattle.common.specs.All.{every}
+use Rattle.common.specs.Tests.{both-false}
+use Rattle.common.specs.RefusalLaws.{refuses-none}
+use Rattle.float.specs.Float.{isFinite}
+use Rattle.seeds.specs.Layout.{allSeeds}
+use Rattle.search_start.specs.Start.{positive, goodSeed, tooMany, demandOf, startDemand, startRefusal}
+use Rattle.search.specs.declared.run.Options.{Options}
+
+pub record Sizes (x y d rounds : ℕ) : Type 0 where
+  pub x-max : x ≤ 16
+  pub y-max : y ≤ 16
+  pub decomposition-max : d / 6 ≤ 256
+  pub rounds-max : rounds ≤ 16
+
+pub too-many-passed : (x y d rounds : ℕ) → tooMany x y d rounds ≡ false → Sizes x y d rounds
+unfolding tooMany
+too-many-passed x y d rounds h =
+    let a = ltb 16 x || ltb 16 y in
+    let b = a || ltb 256 (d / 6) in
+    let h1 = both-false (b || ltb 16 rounds) _ h in
+    let h2 = both-false b (ltb 16 rounds) (h1 .0) in
+    let h3 = both-false a (ltb 256 (d / 6)) (h2 .0) in
+    let h4 = both-false (ltb 16 x) (ltb 16 y) (h3 .0) in
+    record {
+      x-max = ltb-false 16 x (h4 .0);
+      y-max = ltb-false 16 y (h4 .1);
+      decomposition-max = ltb-false 256 (d / 6) (h3 .1);
+      rounds-max = ltb-false 16 rounds (h2 .1);
+    }
+
+pub demand-covers : (d x y : ℕ) → 6 * (d + x * y) ≤ demandOf d x y
+unfolding demandOf
+demand-covers d x y = go (6 * (d + x * y)) (ltb (6 * (d + x * y)) 54) refl
+  where
+    go : (n : ℕ) (b : Bool) → ltb n 54 ≡ b → n ≤ cond b 54 n
+    go n true h = le-of-lt (ltb-true n 54 h)
+    go n false h = le-refl n
+
+pub record Passed (views : ℕ) (options : Options) (xs ys decomposition : List Float) (n : ℕ) : Type 0 where
+  pub sizes : Sizes (length xs) (length ys) (length decomposition) (options .«refine_rounds»)
+  pub good-seeds : every (goodSeed (options .«max_abs_tilt»)) (allSeeds decomposition) ≡ true
+  pub demand-fits : startDemand views options xs ys decomposition ≤ n
+
+pub start-passed : (views : ℕ) (options : Options) (xs ys decomposition : List Float) (n : ℕ)
+    → startRefusal views options xs ys decomposition n ≡ 0 → Passed views options xs ys decomposition n
+start-passed views options xs ys decomposition n h =
+    let h1 = refuses-none (ltb views 3) 1 _ (omega arith) h .1 in
+    let h2 = refuses-none (eqb (length xs) 0 || eqb (length ys) 0) 2 _ (omega arith) h1 .1 in
+    let h3 = refuses-none (not (positive (options .«max_abs_tilt»))) 3 _ (omega arith) h2 .1 in
+    let h4 = refuses-none (ltb 0 (options .«refine_rounds») && not (positive (options .«refine_step»))) 4 _ (omega arith) h3 .1 in
+    let h5 = refuses-none (tooMany (length xs) (length ys) (length decomposition) (options .«refine_rounds»)) 5 _ (omega arith) h4 in
+    let h6 = refuses-none (not (every (goodSeed (options .«max_abs_tilt»)) (allSeeds decomposition))) 6 _ (omega arith) (h5 .1) in
+    let h7 = refuses-none (not (every isFinite xs && every isFinite ys)) 7 _ (omega arith) (h6 .1) .1 in
+    let h8 = refuses-none (ltb n (startDemand views options xs ys decomposition)) 8 _ (omega arith) h7 .0 in
+    record { sizes = too-many-passed _ _ _ _ (h5 .0); good-seeds = not-false _ (h6 .0); demand-fits = ltb-false n _ h8 }

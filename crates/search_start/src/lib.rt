@@ -1,0 +1,192 @@
+// Start opens a run: it refuses bad options, and writes round 0's list to the front of the lent list.
+
+ghost use mathlib.Core.Path.{_≡_};
+ghost use Prim.Native.Nat.{_≤_};
+ghost use Rattle.common.specs.All.{every};
+ghost use Rattle.float.specs.Float.{isFinite};
+ghost use Rattle.seeds.specs.Layout.{allSeeds};
+ghost use Rattle.search_start.specs.Start.{positive, goodSeed, tooMany, demandOf, openingOf, startRefusal, startReply, startList};
+use models::intrinsics::FxFyCxCy;
+use models::math::Pt2;
+use search::run::Options;
+use search::run::Place;
+use search::run::Run;
+use search::run::nobody;
+use seeds::CandidateSeed;
+
+pub enum Started {
+    Accepted(Run),
+    Refused(u8),
+}
+
+fn is_positive(x: f64) -> bool
+    ensures { λ r. ⌜ r ≡ positive x ⌝ }
+{
+    float::is_finite(x) & (0.0 < x)
+}
+
+// Finite numbers, focal lengths above 0, tilts within the bound.
+fn is_good_seed(max_abs_tilt: f64, seed: CandidateSeed) -> bool
+    ensures { λ r. ⌜ r ≡ goodSeed «max_abs_tilt» seed ⌝ }
+{
+    let k = seed.reference_k;
+    let sensor = seed.sensor;
+    is_positive(k.fx)
+        & is_positive(k.fy)
+        & float::is_finite(k.cx)
+        & float::is_finite(k.cy)
+        & float::is_finite(sensor.tilt_x)
+        & float::is_finite(sensor.tilt_y)
+        & seeds::in_bound(max_abs_tilt, sensor)
+}
+
+fn all_good_seeds(max_abs_tilt: f64, decomposition: &[f64]) -> bool
+    ensures { λ r. ⌜ r ≡ every (goodSeed «max_abs_tilt») (allSeeds (now (decomposition .entry))) ⌝ }
+{
+    let n = decomposition.len() / 6;
+    let mut i = 0;
+    while i < n {
+        if !is_good_seed(max_abs_tilt, seed_lists::seed_at(decomposition, i)) {
+            return false;
+        }
+        i += 1;
+    }
+    true
+}
+
+fn all_finite(numbers: &[f64]) -> bool
+    ensures { λ r. ⌜ r ≡ every isFinite (now (numbers .entry)) ⌝ }
+{
+    let mut i = 0;
+    while i < numbers.len() {
+        if !float::is_finite(numbers[i]) {
+            return false;
+        }
+        i += 1;
+    }
+    true
+}
+
+// More seeds or rounds than a run can have, or a decomposition that isn't in sixes.
+fn is_too_many(x: usize, y: usize, decomposition: usize, rounds: usize) -> bool
+    ensures { λ r. ⌜ r ≡ tooMany x y decomposition rounds ⌝ }
+{
+    (16 < x) | (16 < y) | (256 < decomposition / 6) | (16 < rounds) | (decomposition % 6 != 0)
+}
+
+// What the lent list must hold: a later round's nine seeds, and every seed that round 0 can have.
+fn demand_of(decomposition: usize, x: usize, y: usize) -> usize
+    requires { ⌜ decomposition ≤ 256 ⌝ }
+    requires { ⌜ x ≤ 16 ⌝ }
+    requires { ⌜ y ≤ 16 ⌝ }
+    ensures { λ r. ⌜ r ≡ demandOf decomposition x y ⌝ }
+{
+    let n = 6 * (decomposition + x * y);
+    if n < 54 {
+        return 54;
+    }
+    n
+}
+
+// Start's refusals, of which the first that holds is returned; 0 where none does.
+fn start_refusal(
+    views: usize,
+    options: Options,
+    tilt_x_seeds: &[f64],
+    tilt_y_seeds: &[f64],
+    decomposition: &[f64],
+    list_len: usize,
+) -> u8
+    ensures { λ r. ⌜ r ≡ startRefusal views options (now («tilt_x_seeds» .entry)) (now («tilt_y_seeds» .entry)) (now (decomposition .entry)) «list_len» ⌝ }
+{
+    let x = tilt_x_seeds.len();
+    let y = tilt_y_seeds.len();
+    let numbers = decomposition.len();
+    if views < 3 {
+        return 1;
+    }
+    if (x == 0) | (y == 0) {
+        return 2;
+    }
+    if !is_positive(options.max_abs_tilt) {
+        return 3;
+    }
+    if (0 < options.refine_rounds) & !is_positive(options.refine_step) {
+        return 4;
+    }
+    if is_too_many(x, y, numbers, options.refine_rounds) {
+        return 5;
+    }
+    if !all_good_seeds(options.max_abs_tilt, decomposition) {
+        return 6;
+    }
+    if !(all_finite(tilt_x_seeds) & all_finite(tilt_y_seeds)) {
+        return 7;
+    }
+    if list_len < demand_of(numbers / 6, x, y) {
+        return 8;
+    }
+    0
+}
+
+// A run with this many seeds in round 0's list. It is over at once where there are none.
+fn opening(options: Options, center: Pt2, demand: usize, len: usize) -> Run
+    ensures { λ r. ⌜ r ≡ openingOf options center demand len ⌝ }
+{
+    Run {
+        options,
+        center,
+        place: Place {
+            demand,
+            round: 0,
+            step: 0.0,
+            len,
+            at: 0,
+            number: 0,
+            over: len == 0,
+        },
+        waiting: nobody(),
+        round_best: best::no_best(),
+        run_best: best::no_best(),
+    }
+}
+
+pub fn start(
+    views: usize,
+    options: Options,
+    tilt_x_seeds: &[f64],
+    tilt_y_seeds: &[f64],
+    decomposition: &[f64],
+    base: FxFyCxCy,
+    center: Pt2,
+    list: &mut [f64],
+) -> Started
+    ensures { λ r. ⌜ r ≡ startReply views options (now («tilt_x_seeds» .entry)) (now («tilt_y_seeds» .entry)) (now (decomposition .entry)) base center (now (list .entry)) ⌝ }
+    ensures { λ r. ⌜ now (list .exit) ≡ startList views options (now («tilt_x_seeds» .entry)) (now («tilt_y_seeds» .entry)) (now (decomposition .entry)) base center (now (list .entry)) ⌝ }
+{
+    let number = start_refusal(
+        views,
+        options,
+        tilt_x_seeds,
+        tilt_y_seeds,
+        decomposition,
+        list.len(),
+    );
+    if number != 0 {
+        return Started::Refused(number);
+    }
+    let demand = demand_of(
+        decomposition.len() / 6,
+        tilt_x_seeds.len(),
+        tilt_y_seeds.len(),
+    );
+    let len = seed_grids::initial_seed_grid(
+        decomposition,
+        tilt_x_seeds,
+        tilt_y_seeds,
+        base,
+        options.max_abs_tilt,
+        list,
+    );
+    Started::Accepted(opening(options, center, demand, len))
+}

@@ -1,0 +1,62 @@
+-- `seed_lists::push_candidate_seed` meets its contract: a seed with a near one among the kept is dropped, any other is stored behind them. Assumes nothing.
+use mathlib.Core.Path.{_∙_, sym}
+use borrow.Author.Needs.{needs}
+use Rattle.seeds.specs.Layout.{seedsOf}
+use Rattle.seeds.specs.LayoutLaws.{seeds-layout}
+use Rattle.seeds.specs.MergeLaws.{first-at, first-nothing}
+use Rattle.seeds.specs.Rules.{near}
+use Rattle.seeds.specs.Steps.{push-drops, push-stores}
+use Rattle.seed_lists.proofs.push_candidate_seed.Statement.{statement}
+use Rattle.seed_lists.proofs.push_candidate_seed.Tie as tie
+
+find-near-requires : tie.Need-find-near-requires
+find-near-requires c κs = search needs
+
+enum-told : tie.Need-enum-told
+enum-told c = search needs
+
+enum-told-2 : tie.Need-enum-told-2
+enum-told-2 c = search needs
+
+put-seed-requires : tie.Need-put-seed-requires
+put-seed-requires c κs = search needs
+
+add-result : tie.Need-add-result
+add-result c = search needs
+
+same-length : tie.Need-same-length
+same-length c = search needs
+
+returns : tie.Need-returns
+returns c =
+    let a = c .before .before .before .before .before .args in
+    let l = a .seeds .now in
+    let n = a .count in
+    let e = sym (c .before .before .find-near .ensures) ∙ c .enum-told .given .1 in
+    push-drops seeds-layout near l n (a .seed) (search needs) (first-at near 0 (c .enum-told .given .0 .0) (seedsOf n l) (a .seed) e)
+
+same-length-2 : tie.Need-same-length-2
+same-length-2 c = search needs
+
+returns-2 : tie.Need-returns-2
+returns-2 c =
+    let b = c .before .before in
+    let a = b .before .before .before .before .before .before .before .args in
+    let l = a .seeds .now in
+    let n = a .count in
+    let e = sym (b .before .before .before .before .find-near .ensures) ∙ b .before .before .enum-told2 .given .1 in
+    push-stores seeds-layout near l (b .put-seed .last .0) n (a .seed) (search needs) (first-nothing near 0 (seedsOf n l) (a .seed) e) (b .put-seed .ensures)
+
+pub push-candidate-seed-spec : {M : Type 1} → statement M
+push-candidate-seed-spec =
+    tie.close
+    (tie.spec
+    find-near-requires
+    enum-told
+    enum-told-2
+    put-seed-requires
+    add-result
+    same-length
+    returns
+    same-length-2
+    returns-2)

@@ -1,0 +1,166 @@
+// Seeds and tilts in a lent list of numbers, and merging: one that lies near a kept one is not kept.
+// Each function equals its rule, for the reply and every number of the list.
+
+ghost use mathlib.Core.Path.{_≡_};
+ghost use mathlib.Core.List.{_∷_, []};
+ghost use Prim.Native.Nat.{_+_, _*_, _≤_};
+ghost use lib.ListN.{length};
+ghost use lib.Seq.{sets};
+ghost use Rattle.seeds.specs.Layout.{six, seedAt, seedsOf, Leaves, two, tiltsAt, tiltsOf};
+ghost use Rattle.seeds.specs.Merge.{keep, firstNear, push, mergedInto};
+ghost use Rattle.seeds.specs.Rules as rules;
+ghost use Rattle.seeds.specs.Rules.{tiltNear, inBound, seedsWithin};
+use models::intrinsics::FxFyCxCy;
+use seeds::CandidateSeed;
+use seeds::Found;
+use seeds::in_bound;
+use seeds::near;
+use seeds::tilt_near;
+use sensor::ScheimpflugParams;
+
+// ---- a list of seeds at the front of a slice
+
+pub fn seed_at(seeds: &[f64], i: usize) -> CandidateSeed
+    requires { ⌜ 6 * i + 6 ≤ length (now seeds) ⌝ }
+    ensures { λ r. ⌜ r ≡ seedAt (now (seeds .entry)) i ⌝ }
+{
+    let at = 6 * i;
+    let reference_k = FxFyCxCy {
+        fx: seeds[at],
+        fy: seeds[at + 1],
+        cx: seeds[at + 2],
+        cy: seeds[at + 3],
+    };
+    let sensor = ScheimpflugParams {
+        tilt_x: seeds[at + 4],
+        tilt_y: seeds[at + 5],
+    };
+    CandidateSeed {
+        reference_k,
+        sensor,
+    }
+}
+
+fn put_seed(seeds: &mut [f64], i: usize, seed: CandidateSeed)
+    requires { ⌜ 6 * i + 6 ≤ length (now seeds) ⌝ }
+    ensures { λ r. ⌜ now (seeds .exit) ≡ sets (now (seeds .entry)) (6 * i) (six seed) ⌝ }
+{
+    let at = 6 * i;
+    let k = seed.reference_k;
+    let t = seed.sensor;
+    seeds[at] = k.fx;
+    seeds[at + 1] = k.fy;
+    seeds[at + 2] = k.cx;
+    seeds[at + 3] = k.cy;
+    seeds[at + 4] = t.tilt_x;
+    seeds[at + 5] = t.tilt_y;
+}
+
+// The first of the kept seeds that is near this one.
+fn find_near(seeds: &[f64], count: usize, seed: CandidateSeed) -> Found
+    requires { ⌜ 6 * count ≤ length (now seeds) ⌝ }
+    ensures { λ r. ⌜ r ≡ firstNear rules.near 0 (seedsOf count (now (seeds .entry))) seed ⌝ }
+{
+    let mut i = 0;
+    while i < count {
+        if near(seed_at(seeds, i), seed) {
+            return Found::At(i);
+        }
+        i += 1;
+    }
+    Found::Nothing
+}
+
+// Puts a seed behind the kept ones, unless one of them is near it, and says how many there are.
+pub fn push_candidate_seed(seeds: &mut [f64], count: usize, seed: CandidateSeed) -> usize
+    requires { ⌜ 6 * count + 6 ≤ length (now seeds) ⌝ }
+    ensures { λ r. ⌜ Leaves six 6 (push rules.near (seedsOf count (now (seeds .entry))) seed) (now (seeds .entry)) (now (seeds .exit)) r ⌝ }
+{
+    let found = find_near(seeds, count, seed);
+    match found {
+        Found::At(_) => count,
+        Found::Nothing => {
+            put_seed(seeds, count, seed);
+            count + 1
+        }
+    }
+}
+
+// The same for tilts with a camera, dropped too where they lie beyond the bound.
+pub fn push_in_bound(
+    seeds: &mut [f64],
+    count: usize,
+    reference_k: FxFyCxCy,
+    sensor: ScheimpflugParams,
+    max_abs_tilt: f64,
+) -> usize
+    requires { ⌜ 6 * count + 6 ≤ length (now seeds) ⌝ }
+    ensures { λ r. ⌜ Leaves six 6 (mergedInto rules.near (seedsOf count (now (seeds .entry))) (seedsWithin «max_abs_tilt» «reference_k» (sensor ∷ []))) (now (seeds .entry)) (now (seeds .exit)) r ⌝ }
+{
+    if in_bound(max_abs_tilt, sensor) {
+        return push_candidate_seed(
+            seeds,
+            count,
+            CandidateSeed {
+                reference_k,
+                sensor,
+            },
+        );
+    }
+    count
+}
+
+// ---- a list of tilts, likewise
+
+pub fn tilts_at(grid: &[f64], i: usize) -> ScheimpflugParams
+    requires { ⌜ 2 * i + 2 ≤ length (now grid) ⌝ }
+    ensures { λ r. ⌜ r ≡ tiltsAt (now (grid .entry)) i ⌝ }
+{
+    let at = 2 * i;
+    ScheimpflugParams {
+        tilt_x: grid[at],
+        tilt_y: grid[at + 1],
+    }
+}
+
+fn put_tilts(grid: &mut [f64], i: usize, t: ScheimpflugParams)
+    requires { ⌜ 2 * i + 2 ≤ length (now grid) ⌝ }
+    ensures { λ r. ⌜ now (grid .exit) ≡ sets (now (grid .entry)) (2 * i) (two t) ⌝ }
+{
+    let at = 2 * i;
+    grid[at] = t.tilt_x;
+    grid[at + 1] = t.tilt_y;
+}
+
+// The first of the kept tilts that are near these.
+fn find_tilt_near(grid: &[f64], count: usize, t: ScheimpflugParams) -> Found
+    requires { ⌜ 2 * count ≤ length (now grid) ⌝ }
+    ensures { λ r. ⌜ r ≡ firstNear tiltNear 0 (tiltsOf count (now (grid .entry))) t ⌝ }
+{
+    let mut i = 0;
+    while i < count {
+        if tilt_near(tilts_at(grid, i), t) {
+            return Found::At(i);
+        }
+        i += 1;
+    }
+    Found::Nothing
+}
+
+// Puts tilts within the bound behind the kept ones, unless some of these are near.
+pub fn push_seed(grid: &mut [f64], count: usize, t: ScheimpflugParams, max_abs_tilt: f64) -> usize
+    requires { ⌜ 2 * count + 2 ≤ length (now grid) ⌝ }
+    ensures { λ r. ⌜ Leaves two 2 (mergedInto tiltNear (tiltsOf count (now (grid .entry))) (keep (inBound «max_abs_tilt») (t ∷ []))) (now (grid .entry)) (now (grid .exit)) r ⌝ }
+{
+    if !in_bound(max_abs_tilt, t) {
+        return count;
+    }
+    let found = find_tilt_near(grid, count, t);
+    match found {
+        Found::At(_) => count,
+        Found::Nothing => {
+            put_tilts(grid, count, t);
+            count + 1
+        }
+    }
+}

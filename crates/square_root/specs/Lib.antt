@@ -1,0 +1,10 @@
+pub mod Root
+pub mod Compare
+pub mod IntegerRoot
+pub mod ByValue
+pub mod Squares
+pub mod NearestWhole
+pub mod Nearer
+pub mod Nearest
+pub mod Laws
+pub mod Summary

@@ -1,0 +1,15 @@
+-- `undistortion::estimate_at` meets its contract, by that of `distort_with_jacobian`. Assumes nothing.
+use borrow.Author.Needs.{needs}
+use Rattle.undistortion.specs.Undistortion.{estimateAt}
+use Rattle.undistortion.proofs.estimate_at.Statement.{statement}
+use Rattle.undistortion.proofs.estimate_at.Tie as tie
+
+distort-with-jacobian-requires : tie.Need-distort-with-jacobian-requires
+distort-with-jacobian-requires c κs = search needs
+
+returns : tie.Need-returns
+unfolding estimateAt
+returns c = rw (c .before .before .before .before .before .before .distort-with-jacobian .ensures)
+
+pub estimate-at-spec : {M : Type 1} → statement M
+estimate-at-spec = tie.close (tie.spec distort-with-jacobian-requires returns)

@@ -1,0 +1,23 @@
+-- `undistortion::last_step` meets its contract, by those of `is_singular` and `newton_step`. Assumes nothing.
+use mathlib.Core.Path.{sym, _∙_}
+use borrow.Author.Needs.{needs}
+use Rattle.undistortion.specs.Undistortion.{lastStep}
+use Rattle.undistortion.proofs.last_step.Statement.{statement}
+use Rattle.undistortion.proofs.last_step.Tie as tie
+
+is-singular-requires : tie.Need-is-singular-requires
+is-singular-requires c κs = search needs
+
+returns : tie.Need-returns
+unfolding lastStep
+returns c = simp (sym (c .before .is-singular .ensures) ∙ c .if1 .taken)
+
+newton-step-requires : tie.Need-newton-step-requires
+newton-step-requires c κs = search needs
+
+returns-2 : tie.Need-returns-2
+unfolding lastStep
+returns-2 c = simp (sym (c .before .before .before .before .before .before .is-singular .ensures) ∙ c .before .before .before .before .before .if1 .left, c .before .before .before .before .newton-step .ensures)
+
+pub last-step-spec : {M : Type 1} → statement M
+last-step-spec = tie.close (tie.spec is-singular-requires returns newton-step-requires returns-2)

@@ -1,0 +1,3 @@
+pub mod Undistortion
+pub mod Turns
+pub mod Descent
