@@ -1,179 +1,97 @@
 // The comparison of a stored file's cases with what the proved crates answer.
-ghost use lib.ListN.{length};
-ghost use Prim.Native.Nat.{_+_, _≤_, _<_};
-use crate::case_line::parse;
-use crate::fields::read_numbers;
-use crate::header::read_past_prose;
-use crate::operations::Answer;
-use crate::operations::Operation;
-use crate::operations::answer_of;
-use crate::reader::Found;
-use crate::reader::Source;
-use crate::reader::read_line;
-use crate::words::same_words;
+use stored::case_line::Case;
+use stored::case_line::parse;
+use stored::fields::case_room;
+use stored::fields::part;
+use stored::operations;
+use stored::replies::Answer;
+use stored::report::AT_END;
+use stored::report::Outcome;
+use stored::report::Tally;
+use stored::report::counted;
+use stored::report::ended;
+use stored::report::no_cases;
+use stored::text::is_whole_line;
+use stored::text::line_at;
+use stored::words::same_numbers;
 
-pub enum Outcome {
-    Same,
-    Different,
-    // No crate answers the operation.
-    NotThere,
-    // The line has not its form, or its inputs not the operation's.
-    Damaged,
-    // There is no such line: the file ends before its last case.
-    Short,
+// The outcome where the first n numbers of the output are the answer.
+fn compared(expected: &[f64], output: &[f64], n: usize) -> Outcome {
+    if same_numbers(expected, part(output, 0, n)) {
+        return Outcome::Same;
+    }
+    Outcome::Different
 }
 
-// How many cases had which outcome, and the number of the first that differs.
-pub struct Tally {
-    pub same: u64,
-    pub different: u64,
-    pub first_different: u64,
-    pub unanswered: u64,
+fn leaf_outcome(operation: usize, line: &[u8], input: &[f64], expected: &[f64]) -> Outcome {
+    let reply = replay_leaves::reply(operation, line, input);
+    let numbers = reply.numbers;
+    if reply.count == 0 {
+        return Outcome::Damaged;
+    }
+    compared(expected, &numbers, reply.count)
 }
 
-// How a file was left: at its end, or at a fault, after the cases of the tally.
-pub enum Left {
-    AtEnd,
-    AtDamage,
-    AtShortEnd,
-    BeforeEnd,
+fn answer_of(operation: usize, input: &[f64]) -> Answer {
+    if operation < operations::SEED_LISTS {
+        return replay_leaves::lists::answer(operation, input);
+    }
+    replay_runs::answer(operation, input)
 }
 
-pub struct Compared {
-    pub tally: Tally,
-    pub left: Left,
+fn answer_outcome(operation: usize, input: &[f64], expected: &[f64]) -> Outcome {
+    let answer = answer_of(operation, input);
+    let numbers = answer.numbers;
+    if !answer.is_good {
+        return Outcome::Damaged;
+    }
+    compared(expected, &numbers, answer.count)
+}
+
+// The outcome of a case whose line has its form, and whose numbers those are. One of an unknown operation counts as different.
+fn numbers_outcome(operation: usize, line: &[u8], case: Case, numbers: &[f64]) -> Outcome {
+    let input = part(numbers, 0, case.inputs);
+    let expected = part(numbers, case.inputs, case.outputs);
+    if operation < operations::UNTILT_POINTS {
+        return leaf_outcome(operation, line, input, expected);
+    }
+    if operation < operations::UNKNOWN {
+        return answer_outcome(operation, input, expected);
+    }
+    Outcome::Different
 }
 
 // The outcome of a case's line.
-fn line_outcome(
-    operation: Operation,
-    line: &[u8],
-    words: &mut [u64],
-    output: &mut [u64],
-) -> Outcome {
-    let case = parse(line, words);
+fn line_outcome(operation: usize, line: &[u8]) -> Outcome {
+    let mut numbers = case_room();
+    let case = parse(line, &mut numbers);
     if !case.is_good {
         return Outcome::Damaged;
     }
-    let inputs = case.inputs;
-    let total = case.total;
-    let input = &words[0..inputs];
-    let mut numbers = [0.0; 8192];
-    read_numbers(input, &mut numbers);
-    match answer_of(operation, input, &numbers, output) {
-        Answer::Malformed => Outcome::Damaged,
-        Answer::NotThere => Outcome::NotThere,
-        Answer::Words(n) => {
-            if output.len() < n {
-                return Outcome::Damaged;
-            }
-            if same_words(&words[inputs..total], &output[0..n]) {
-                Outcome::Same
-            } else {
-                Outcome::Different
-            }
-        }
-    }
+    numbers_outcome(operation, line, case, &numbers)
 }
 
-// The outcome of what was read for a case.
-fn case_outcome(
-    operation: Operation,
-    found: Found,
-    line: &[u8],
-    words: &mut [u64],
-    output: &mut [u64],
-) -> Outcome {
-    match found {
-        Found::Text => line_outcome(operation, line, words, output),
-        Found::End => Outcome::Short,
-        Found::Damaged => Outcome::Damaged,
+// The outcome of the case whose line begins at `at`.
+fn case_outcome(operation: usize, text: &[u8], at: usize) -> Outcome {
+    if at == text.len() {
+        return Outcome::Short;
     }
+    if !is_whole_line(text, at) {
+        return Outcome::Damaged;
+    }
+    line_outcome(operation, line_at(text, at))
 }
 
-// The first case that differs, where the case `number` does.
-fn earliest(tally: Tally, number: u64) -> u64 {
-    if tally.different == 0 {
-        number
-    } else {
-        tally.first_different
-    }
-}
-
-// The tally with the outcome of the case `number`.
-fn counted(tally: Tally, outcome: Outcome, number: u64) -> Tally
-    requires { ⌜ tally .same + tally .different + tally .unanswered < number ⌝ }
-    ensures { λ r. ⌜ r .same + r .different + r .unanswered ≤ number ⌝ }
-{
-    let mut t = tally;
-    match outcome {
-        Outcome::Same => {
-            t.same += 1;
-        }
-        Outcome::Different => {
-            t.first_different = earliest(tally, number);
-            t.different += 1;
-        }
-        Outcome::NotThere => {
-            t.unanswered += 1;
-        }
-        Outcome::Damaged => {}
-        Outcome::Short => {}
-    }
-    t
-}
-
-// Compares the cases of a file, of which the header says how many there are.
-pub fn compare_cases(
-    operation: Operation,
-    source: Source,
-    count: u64,
-    chunk: &mut [u8],
-    line: &mut [u8],
-    words: &mut [u64],
-    output: &mut [u64],
-) -> Compared {
-    let mut read = read_past_prose(source, chunk, line);
-    let mut tally = Tally {
-        same: 0,
-        different: 0,
-        first_different: 0,
-        unanswered: 0,
-    };
+// Compares the cases of a file, of which the header says how many there are; the first begins at `from`.
+pub fn compare_cases(operation: usize, text: &[u8], from: usize, count: u64) -> Tally {
+    let mut tally = no_cases(from);
     let mut i: u64 = 0;
     while i < count {
-        let n = read.length;
-        let found = read.found;
-        let from = read.source;
-        i += 1;
-        match case_outcome(operation, found, &line[0..n], words, output) {
-            Outcome::Damaged => {
-                return Compared {
-                    tally: tally,
-                    left: Left::AtDamage,
-                };
-            }
-            Outcome::Short => {
-                return Compared {
-                    tally: tally,
-                    left: Left::AtShortEnd,
-                };
-            }
-            other => {
-                tally = counted(tally, other, i);
-            }
+        tally = counted(tally, case_outcome(operation, text, tally.at), text);
+        if tally.left != AT_END {
+            return tally;
         }
-        read = read_line(from, chunk, line);
+        i += 1;
     }
-    let found = read.found;
-    let Found::End = found else {
-        return Compared {
-            tally: tally,
-            left: Left::BeforeEnd,
-        };
-    };
-    Compared {
-        tally: tally,
-        left: Left::AtEnd,
-    }
+    ended(tally, text)
 }

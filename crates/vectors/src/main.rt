@@ -3,37 +3,69 @@
 //
 // The arguments are the files' names; args has them for the run that stdout is held to. The files
 // of data/ say how they were made.
-mod case_line;
 mod comparison;
-mod fields;
-mod findings;
-mod header;
-mod lent;
-mod operations;
-mod operations_calls;
-mod operations_lent;
-mod operations_maps;
-mod operations_models;
-mod operations_points;
-mod operations_roots;
-mod operations_score;
-mod operations_search;
-mod operations_seeds;
-mod operations_zhang;
-mod reader;
-mod replies;
-mod report;
-mod snapshot;
-mod start_input;
-mod words;
 
-use report::report_arguments;
+use comparison::compare_cases;
+use stored::header::is_named;
+use stored::header::name_of;
+use stored::header::read_header;
+use stored::operations;
+use stored::report::write;
+use stored::report::write_report;
+
+// Compares the cases of a file with a good header, and writes what became of them.
+fn report_cases(text: &[u8]) {
+    let header = read_header(text);
+    if !header.is_good {
+        write(b": the header is damaged\n");
+        return;
+    }
+    let operation = operations::named(name_of(text));
+    let tally = compare_cases(operation, text, header.end, header.count);
+    write_report(tally, operation < operations::UNKNOWN, header.count);
+}
+
+fn report_text(text: &[u8]) {
+    if !is_named(text) {
+        write(b": the header is damaged\n");
+        return;
+    }
+    write(name_of(text));
+    report_cases(text);
+}
+
+// Compares the file's cases, and writes its name, its operation, how many were compared and how
+// many differ, and what is wrong with the file. What does not fit into the room is not read.
+fn report(path: &[u8], room: &mut [u8]) {
+    write(path);
+    write(b": ");
+    let fd = os::open_read(path);
+    if fd < 0 {
+        write(b"no such file\n");
+        return;
+    }
+    let n = io::read_full(fd, room);
+    libc::close(fd);
+    report_text(&room[..n]);
+}
+
+fn report_argument(i: usize, room: &mut [u8]) {
+    let mut path = io::buffer();
+    let n = os::arg(i, &mut path);
+    report(&path[..n], room);
+}
+
+// Reports each file that an argument names.
+fn report_arguments(room: &mut [u8]) {
+    let count = os::arg_count();
+    let mut i = 1;
+    while i < count {
+        report_argument(i, room);
+        i += 1;
+    }
+}
 
 fn main() {
-    // What one read brings; the longest line, of 16,384 words and an `=`; its words; the answer.
-    let mut chunk = [0u8; 65536];
-    let mut line = [0u8; 278531];
-    let mut words = [0u64; 16384];
-    let mut output = [0u64; 8192];
-    report_arguments(&mut chunk, &mut line, &mut words, &mut output);
+    let mut room = [0u8; 4194304];
+    report_arguments(&mut room);
 }
