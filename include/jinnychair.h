@@ -196,6 +196,9 @@ jc_inverse_reply jc_inverse(jc_matrix m);
 jc_pt2 jc_apply_homography(jc_matrix h, jc_pt2 p);
 jc_pt2 jc_apply_homography_inverse(jc_matrix h_inv, jc_pt2 p);
 jc_pt2 jc_distort(jc_distortion b, jc_pt2 p);
+/* The same with the numbers one by one, which is faster. */
+jc_pt2 jc_distort_numbers(
+    double k1, double k2, double k3, double p1, double p2, double x, double y);
 jc_distorted_point jc_distort_with_jacobian(jc_distortion b, jc_pt2 p);
 /* At most iters steps of Newton's method; 0 means 20. */
 jc_pt2 jc_undistort(jc_distortion b, uint32_t iters, jc_pt2 p);

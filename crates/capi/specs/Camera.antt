@@ -3,8 +3,8 @@ use mathlib.Core.Bool.{cond}
 use mathlib.Core.List.{[], _∷_}
 use lib.Dec.{eqb}
 use Rattle.float.specs.Sign.{plusZero}
-use Rattle.models.specs.Matrix.{Matrix, at, inverseOf}
-use Rattle.models.specs.Sensor.{tiltVerdict, tiltNumber}
+use Rattle.matrix.specs.Matrix.{Matrix, at, inverseOf}
+use Rattle.sensor.specs.Sensor.{tiltVerdict, tiltNumber}
 use Rattle.zhang.specs.declared.Estimate.{Estimate}
 use Rattle.zhang.specs.declared.Estimate.the-variants.{Camera, Refused}
 use Rattle.capi.specs.declared.camera.Matrix3.{Matrix3}

@@ -3,14 +3,14 @@ use Prim.Native.Nat.{ℕ}
 use Rattle.float.specs.Sign.{plusZero}
 use Rattle.maps.specs.declared.Mapped.{Mapped}
 use Rattle.maps.specs.declared.Mapped.the-variants as mapped
-use Rattle.points.specs.declared.homography.Rows.{Rows}
-use Rattle.points.specs.declared.homography.Rows.the-variants as rows
-use Rattle.points.specs.declared.homography.LineTest.{LineTest}
-use Rattle.points.specs.declared.homography.LineTest.the-variants as line
+use Rattle.homography.specs.declared.Rows.{Rows}
+use Rattle.homography.specs.declared.Rows.the-variants as rows
+use Rattle.homography.specs.declared.LineTest.{LineTest}
+use Rattle.homography.specs.declared.LineTest.the-variants as line
 use Rattle.points.specs.declared.linalg.Normalized.{Normalized}
 use Rattle.points.specs.declared.linalg.Normalized.the-variants as normalized
-use Rattle.points.specs.declared.centre.Center.{Center}
-use Rattle.points.specs.declared.centre.Center.the-variants as center
+use Rattle.centre.specs.declared.Center.{Center}
+use Rattle.centre.specs.declared.Center.the-variants as center
 use Rattle.capi.specs.Record.{flagOf}
 use Rattle.capi.specs.declared.lists.NormalizeReply.{NormalizeReply}
 use Rattle.capi.specs.declared.lists.LineReply.{LineReply}

@@ -11,16 +11,16 @@ use Rattle.score.specs.declared.Finding.{Finding}
 use Rattle.score.specs.declared.Finding.the-variants.{Failed, Solved}
 use Rattle.best.specs.Best.{noBest}
 use Rattle.search.specs.declared.run.Run.{Run}
-use Rattle.search.specs.declared.start.Started.{Started}
-use Rattle.search.specs.declared.start.Started.the-variants as started
-use Rattle.search.specs.declared.next.Handed.{Handed}
-use Rattle.search.specs.declared.next.Handed.the-variants as handed
-use Rattle.search.specs.declared.next.NextReply.{NextReply}
-use Rattle.search.specs.declared.answer.Answered.{Answered}
-use Rattle.search.specs.declared.answer.Answered.the-variants as answered
-use Rattle.search.specs.declared.answer.AnswerReply.{AnswerReply}
-use Rattle.search.specs.declared.result.Resulted.{Resulted}
-use Rattle.search.specs.declared.result.Resulted.the-variants as resulted
+use Rattle.search_start.specs.declared.Started.{Started}
+use Rattle.search_start.specs.declared.Started.the-variants as started
+use Rattle.search_next.specs.declared.Handed.{Handed}
+use Rattle.search_next.specs.declared.Handed.the-variants as handed
+use Rattle.search_next.specs.declared.NextReply.{NextReply}
+use Rattle.search_answer.specs.declared.Answered.{Answered}
+use Rattle.search_answer.specs.declared.Answered.the-variants as answered
+use Rattle.search_answer.specs.declared.AnswerReply.{AnswerReply}
+use Rattle.search_result.specs.declared.Resulted.{Resulted}
+use Rattle.search_result.specs.declared.Resulted.the-variants as resulted
 use Rattle.capi.specs.Record.{flatRun, noRun}
 use Rattle.capi.specs.declared.run.StartFlat.{StartFlat}
 use Rattle.capi.specs.declared.run.NextFlat.{NextFlat}

@@ -1,19 +1,19 @@
 // The root, the camera without tilt, the tilted sensor and the distortion.
 ghost use mathlib.Core.Path.{_≡_};
 ghost use lib.Ieee.{binary64};
-ghost use Rattle.roots.specs.Root.{root};
+ghost use Rattle.square_root.specs.Root.{root};
 ghost use Rattle.models.specs.Intrinsics.{pixelToSensor, sensorToPixel};
-ghost use Rattle.models.specs.Matrix.{determinantOf};
-ghost use Rattle.models.specs.Sensor.{tiltProjectionMatrix, applyHomography, applyHomographyInverse};
-ghost use Rattle.models.specs.Distortion.{distorted, distortedWithJacobian};
-ghost use Rattle.models.specs.Undistortion.{undistorted};
+ghost use Rattle.matrix.specs.Matrix.{determinantOf};
+ghost use Rattle.sensor.specs.Sensor.{tiltProjectionMatrix, applyHomography, applyHomographyInverse};
+ghost use Rattle.distortion.specs.Distortion.{distorted, distortedWithJacobian};
+ghost use Rattle.undistortion.specs.Undistortion.{undistorted};
 ghost use Rattle.zhang.specs.Zhang.{fromHomographies};
 ghost use Rattle.capi.specs.Camera.{rowsOf, flatMatrix, noMatrix, flatInverse, flatEstimate};
-use models::distortion::BrownConrady5;
-use models::distortion::DistortedPoint;
+use distortion::BrownConrady5;
+use distortion::DistortedPoint;
 use models::intrinsics::FxFyCxCy;
 use models::math::Pt2;
-use score::TiltTrig;
+use reprojection::TiltTrig;
 use zhang::Conic;
 use zhang::Estimate;
 
@@ -58,16 +58,19 @@ fn rows_of(m: Matrix3) -> [[f64; 3]; 3]
 fn matrix_of(h: [[f64; 3]; 3]) -> Matrix3
     ensures { λ r. ⌜ r ≡ flatMatrix h ⌝ }
 {
+    let top = h[0];
+    let middle = h[1];
+    let bottom = h[2];
     Matrix3 {
-        m00: h[0][0],
-        m01: h[0][1],
-        m02: h[0][2],
-        m10: h[1][0],
-        m11: h[1][1],
-        m12: h[1][2],
-        m20: h[2][0],
-        m21: h[2][1],
-        m22: h[2][2],
+        m00: top[0],
+        m01: top[1],
+        m02: top[2],
+        m10: middle[0],
+        m11: middle[1],
+        m12: middle[2],
+        m20: bottom[0],
+        m21: bottom[1],
+        m22: bottom[2],
     }
 }
 
@@ -90,7 +93,7 @@ fn no_matrix() -> Matrix3
 fn inverse_reply(h: [[f64; 3]; 3]) -> InverseReply
     ensures { λ r. ⌜ r ≡ flatInverse h ⌝ }
 {
-    let number = models::sensor::tilt_number(models::sensor::tilt_verdict(h));
+    let number = sensor::tilt_number(sensor::tilt_verdict(h));
     if number != 0 {
         return InverseReply {
             number,
@@ -99,7 +102,7 @@ fn inverse_reply(h: [[f64; 3]; 3]) -> InverseReply
     }
     InverseReply {
         number: 0,
-        inverse: matrix_of(models::sensor::inverse(h)),
+        inverse: matrix_of(matrix::inverse(h)),
     }
 }
 
@@ -148,19 +151,14 @@ pub extern "C" fn jc_sensor_to_pixel(k: FxFyCxCy, sensor: Pt2) -> Pt2
 pub extern "C" fn jc_tilt_projection_matrix(trig: TiltTrig) -> Matrix3
     ensures { λ r. ⌜ r ≡ flatMatrix (tiltProjectionMatrix (trig .«sin_x») (trig .«cos_x») (trig .«sin_y») (trig .«cos_y»)) ⌝ }
 {
-    matrix_of(models::sensor::tilt_projection_matrix(
-        trig.sin_x,
-        trig.cos_x,
-        trig.sin_y,
-        trig.cos_y,
-    ))
+    matrix_of(sensor::tilt_projection_matrix(trig.sin_x, trig.cos_x, trig.sin_y, trig.cos_y))
 }
 
 #[no_mangle]
 pub extern "C" fn jc_determinant(m: Matrix3) -> f64
     ensures { λ r. ⌜ r ≡ determinantOf (rowsOf m) ⌝ }
 {
-    models::sensor::determinant(rows_of(m))
+    matrix::determinant(rows_of(m))
 }
 
 #[no_mangle]
@@ -174,35 +172,52 @@ pub extern "C" fn jc_inverse(m: Matrix3) -> InverseReply
 pub extern "C" fn jc_apply_homography(h: Matrix3, p: Pt2) -> Pt2
     ensures { λ r. ⌜ r ≡ applyHomography (rowsOf h) p ⌝ }
 {
-    models::sensor::apply_homography(rows_of(h), p)
+    sensor::apply_homography(rows_of(h), p)
 }
 
 #[no_mangle]
 pub extern "C" fn jc_apply_homography_inverse(h_inv: Matrix3, p: Pt2) -> Pt2
     ensures { λ r. ⌜ r ≡ applyHomographyInverse (rowsOf «h_inv») p ⌝ }
 {
-    models::sensor::apply_homography_inverse(rows_of(h_inv), p)
+    sensor::apply_homography_inverse(rows_of(h_inv), p)
 }
 
 #[no_mangle]
 pub extern "C" fn jc_distort(b: BrownConrady5, p: Pt2) -> Pt2
     ensures { λ r. ⌜ r ≡ distorted b p ⌝ }
 {
-    models::distortion::distort(b, p)
+    distortion::distort(b, p)
+}
+
+// The same with the numbers one by one. These travel in registers; the struct is stored by the caller and read here at once in
+// other pieces, for which the processor waits.
+#[no_mangle]
+pub extern "C" fn jc_distort_numbers(
+    k1: f64,
+    k2: f64,
+    k3: f64,
+    p1: f64,
+    p2: f64,
+    x: f64,
+    y: f64,
+) -> Pt2
+    ensures { λ r. ⌜ r ≡ distorted (record { k1 = k1; k2 = k2; k3 = k3; p1 = p1; p2 = p2 }) (record { x = x; y = y }) ⌝ }
+{
+    distortion::distort(BrownConrady5 { k1, k2, k3, p1, p2 }, Pt2 { x, y })
 }
 
 #[no_mangle]
 pub extern "C" fn jc_distort_with_jacobian(b: BrownConrady5, p: Pt2) -> DistortedPoint
     ensures { λ r. ⌜ r ≡ distortedWithJacobian b p ⌝ }
 {
-    models::distortion::distort_with_jacobian(b, p)
+    distortion::distort_with_jacobian(b, p)
 }
 
 #[no_mangle]
 pub extern "C" fn jc_undistort(b: BrownConrady5, iters: u32, p: Pt2) -> Pt2
     ensures { λ r. ⌜ r ≡ undistorted b iters p ⌝ }
 {
-    models::distortion::undistort(b, iters, p)
+    undistortion::undistort(b, iters, p)
 }
 
 #[no_mangle]

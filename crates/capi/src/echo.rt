@@ -15,17 +15,17 @@ use crate::run::NextFlat;
 use crate::run::ResultFlat;
 use crate::run::StartFlat;
 use best::Candidate;
-use models::distortion::BrownConrady5;
-use models::distortion::DistortedPoint;
-use models::distortion::Jacobian;
+use distortion::BrownConrady5;
+use distortion::DistortedPoint;
+use distortion::Jacobian;
 use models::intrinsics::FxFyCxCy;
 use models::math::Pt2;
-use models::sensor::ScheimpflugParams;
-use score::PinholeCamera;
+use pinhole::PinholeCamera;
+use reprojection::TiltTrig;
 use score::SolvedCamera;
-use score::TiltTrig;
 use search::run::Options;
 use seeds::CandidateSeed;
+use sensor::ScheimpflugParams;
 use zhang::Conic;
 
 #[no_mangle]

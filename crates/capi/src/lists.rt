@@ -1,23 +1,23 @@
 // Operations on lists of points: the point maps, normalising, the line test, the design rows and the centre.
 ghost use mathlib.Core.Path.{_≡_};
 ghost use lib.ListN.{length};
-ghost use Rattle.models.specs.Sensor.{tiltProjectionMatrix};
+ghost use Rattle.sensor.specs.Sensor.{tiltProjectionMatrix};
 ghost use Rattle.maps.specs.declared.Lens.{Lens};
 ghost use Rattle.maps.specs.Maps.{mapReply, mapDestination};
 ghost use Rattle.points.specs.Linalg.{normalizeReply, normalizeInto};
-ghost use Rattle.points.specs.Line.{lineReply};
-ghost use Rattle.points.specs.Rows.{rowsReply, rowsInto};
-ghost use Rattle.points.specs.Centre.{centerReply};
+ghost use Rattle.homography.specs.Line.{lineReply};
+ghost use Rattle.homography.specs.Rows.{rowsReply, rowsInto};
+ghost use Rattle.centre.specs.Centre.{centerReply};
 ghost use Rattle.capi.specs.Lists.{mappedNumber, rowsNumber, flatNormalized, flatLineTest, flatCenter};
+use centre::Center;
+use homography::LineTest;
+use homography::Rows;
 use maps::Mapped;
 use models::intrinsics::FxFyCxCy;
 use models::math::Pt2;
-use points::centre::Center;
-use points::homography::LineTest;
-use points::homography::Rows;
+use pinhole::PinholeCamera;
 use points::linalg::Normalized;
-use score::PinholeCamera;
-use score::TiltTrig;
+use reprojection::TiltTrig;
 
 // 0 and the transform's numbers that are neither 0 nor 1, or 17, 18 or 19.
 #[repr(C)]
@@ -171,7 +171,7 @@ pub extern "C" fn jc_normalize_points_2d(points: &[f64], to: &mut [f64]) -> Norm
 pub extern "C" fn jc_points_are_collinear(points: &[f64]) -> LineReply
     ensures { λ r. ⌜ r ≡ flatLineTest (lineReply (now (points .entry))) ⌝ }
 {
-    line_reply(points::homography::points_are_collinear(points))
+    line_reply(homography::points_are_collinear(points))
 }
 
 // The design rows at the front of `to`, 18 numbers a point; 0, or 17, 18 or 20 to 26.
@@ -180,12 +180,12 @@ pub extern "C" fn jc_design_rows(source: &[f64], destination: &[f64], to: &mut [
     ensures number { λ r. ⌜ r ≡ rowsNumber (rowsReply (now (source .entry)) (now (destination .entry)) (length (now (to .entry)))) ⌝ }
     ensures written { λ _. ⌜ now (to .exit) ≡ rowsInto (now (source .entry)) (now (destination .entry)) (now (to .entry)) ⌝ }
 {
-    rows_number(points::homography::design_rows(source, destination, to))
+    rows_number(homography::design_rows(source, destination, to))
 }
 
 #[no_mangle]
 pub extern "C" fn jc_observed_pixel_center(pixels: &[f64]) -> CenterReply
     ensures { λ r. ⌜ r ≡ flatCenter (centerReply (now (pixels .entry))) ⌝ }
 {
-    center_reply(points::centre::observed_pixel_center(pixels))
+    center_reply(centre::observed_pixel_center(pixels))
 }

@@ -122,17 +122,13 @@ pub fn run_of(r: RunRecord) -> Run
 {
     let options = r.options;
     let center = r.center;
-    let place = r.place;
-    let waiting = r.waiting;
-    let round_best = r.round_best;
-    let run_best = r.run_best;
     Run {
         options,
         center,
-        place: place_of(place),
-        waiting: waiting_of(waiting),
-        round_best: best_of(round_best),
-        run_best: best_of(run_best),
+        place: place_of(r.place),
+        waiting: waiting_of(r.waiting),
+        round_best: best_of(r.round_best),
+        run_best: best_of(r.run_best),
     }
 }
 
@@ -141,17 +137,13 @@ pub fn run_record(r: Run) -> RunRecord
 {
     let options = r.options;
     let center = r.center;
-    let place = r.place;
-    let waiting = r.waiting;
-    let round_best = r.round_best;
-    let run_best = r.run_best;
     RunRecord {
         options,
         center,
-        place: place_record(place),
-        waiting: waiting_record(waiting),
-        round_best: best_record(round_best),
-        run_best: best_record(run_best),
+        place: place_record(r.place),
+        waiting: waiting_record(r.waiting),
+        round_best: best_record(r.round_best),
+        run_best: best_record(r.run_best),
     }
 }
 

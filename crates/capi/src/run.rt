@@ -4,10 +4,10 @@ ghost use Prim.Native.Nat.{_≤_};
 ghost use lib.ListN.{length};
 ghost use lib.Seq.{sets};
 ghost use Rattle.best.specs.Best.{noBest};
-ghost use Rattle.search.specs.Start.{startReply, startList};
-ghost use Rattle.search.specs.Next.{nextDef, seedPart};
-ghost use Rattle.search.specs.Answer.{answerDef};
-ghost use Rattle.search.specs.Result.{resultDef};
+ghost use Rattle.search_start.specs.Start.{startReply, startList};
+ghost use Rattle.search_next.specs.Next.{nextDef, seedPart};
+ghost use Rattle.search_answer.specs.Answer.{answerDef};
+ghost use Rattle.search_result.specs.Result.{resultDef};
 ghost use Rattle.capi.specs.Record.{runOf};
 ghost use Rattle.capi.specs.Run.{flatStarted, flatNext, flatAnswer, flatResult, findingOf, copied, copyCount};
 use crate::record::RunRecord;
@@ -19,13 +19,13 @@ use models::intrinsics::FxFyCxCy;
 use models::math::Pt2;
 use score::Finding;
 use score::SolvedCamera;
-use search::answer::AnswerReply;
-use search::answer::Answered;
-use search::next::Handed;
-use search::next::NextReply;
-use search::result::Resulted;
 use search::run::Options;
-use search::start::Started;
+use search_answer::AnswerReply;
+use search_answer::Answered;
+use search_next::Handed;
+use search_next::NextReply;
+use search_result::Resulted;
+use search_start::Started;
 
 // 0 and the run, or 1 to 8.
 #[repr(C)]
@@ -78,25 +78,25 @@ fn next_flat(n: NextReply) -> NextFlat
     ensures { λ r. ⌜ r ≡ flatNext n ⌝ }
 {
     let handed = n.reply;
-    let run = n.run;
+    let run = run_record(n.run);
     match handed {
         Handed::Candidate(candidate) => NextFlat {
             number: 0,
             over: 0,
             candidate,
-            run: run_record(run),
+            run,
         },
         Handed::Over => NextFlat {
             number: 0,
             over: 1,
             candidate: 0,
-            run: run_record(run),
+            run,
         },
         Handed::Refused(number) => NextFlat {
             number,
             over: 0,
             candidate: 0,
-            run: run_record(run),
+            run,
         },
     }
 }
@@ -105,25 +105,25 @@ fn answer_flat(a: AnswerReply) -> AnswerFlat
     ensures { λ r. ⌜ r ≡ flatAnswer a ⌝ }
 {
     let answered = a.reply;
-    let run = a.run;
+    let run = run_record(a.run);
     match answered {
         Answered::Scored(score) => AnswerFlat {
             number: 0,
             skipped: 0,
             score,
-            run: run_record(run),
+            run,
         },
         Answered::Skipped(skipped) => AnswerFlat {
             number: 0,
             skipped,
             score: 0.0,
-            run: run_record(run),
+            run,
         },
         Answered::Refused(number) => AnswerFlat {
             number,
             skipped: 0,
             score: 0.0,
-            run: run_record(run),
+            run,
         },
     }
 }
@@ -174,7 +174,7 @@ pub extern "C" fn jc_start(
     ensures reply { λ r. ⌜ r ≡ flatStarted (startReply views options (now («tilt_x_seeds» .entry)) (now («tilt_y_seeds» .entry)) (now (decomposition .entry)) base center (now (list .entry))) ⌝ }
     ensures written { λ _. ⌜ now (list .exit) ≡ startList views options (now («tilt_x_seeds» .entry)) (now («tilt_y_seeds» .entry)) (now (decomposition .entry)) base center (now (list .entry)) ⌝ }
 {
-    start_flat(search::start::start(
+    start_flat(search_start::start(
         views,
         options,
         tilt_x_seeds,
@@ -191,7 +191,7 @@ pub extern "C" fn jc_start(
 pub extern "C" fn jc_next(run: RunRecord, list: &[f64]) -> NextFlat
     ensures { λ r. ⌜ r ≡ flatNext (nextDef (runOf run) (now (list .entry))) ⌝ }
 {
-    next_flat(search::next::next(run_of(run), list))
+    next_flat(search_next::next(run_of(run), list))
 }
 
 fn copy(part: &[f64], to: &mut [f64])
@@ -211,7 +211,7 @@ pub extern "C" fn jc_seed(run: RunRecord, list: &[f64], to: &mut [f64]) -> usize
     ensures count { λ r. ⌜ r ≡ copyCount (seedPart (runOf run) (now (list .entry))) (now (to .entry)) ⌝ }
     ensures copy { λ _. ⌜ now (to .exit) ≡ copied (seedPart (runOf run) (now (list .entry))) (now (to .entry)) ⌝ }
 {
-    let part = search::next::seed(run_of(run), list);
+    let part = search_next::seed(run_of(run), list);
     if to.len() < part.len() {
         return 0;
     }
@@ -232,7 +232,7 @@ pub extern "C" fn jc_answer(
     ensures reply { λ r. ⌜ r ≡ flatAnswer (answerDef (runOf run) (findingOf «is_solved» solved) (now (rows .entry)) (now (flags .entry)) (now (list .entry)) .reply) ⌝ }
     ensures written { λ _. ⌜ now (list .exit) ≡ answerDef (runOf run) (findingOf «is_solved» solved) (now (rows .entry)) (now (flags .entry)) (now (list .entry)) .list ⌝ }
 {
-    answer_flat(search::answer::answer(
+    answer_flat(search_answer::answer(
         run_of(run),
         finding_of(is_solved, solved),
         rows,
@@ -246,5 +246,5 @@ pub extern "C" fn jc_answer(
 pub extern "C" fn jc_result(run: RunRecord) -> ResultFlat
     ensures { λ r. ⌜ r ≡ flatResult (resultDef (runOf run)) ⌝ }
 {
-    result_flat(search::result::result(run_of(run)))
+    result_flat(search_result::result(run_of(run)))
 }

@@ -71,17 +71,20 @@ pub struct Normalization {
 /// assert_eq!(jinnychair::geometry::sqrt(2.0).to_bits(), 0x3ff6_a09e_667f_3bcd);
 /// assert!(jinnychair::geometry::sqrt(-1.0).is_nan());
 /// ```
+#[inline]
 pub fn sqrt(x: f64) -> f64 {
     raw::jc_sqrt(x)
 }
 
 impl FxFyCxCy {
     /// From a pixel to the sensor, in focal lengths.
+    #[inline]
     pub fn pixel_to_sensor(self, pixel: Pt2) -> Pt2 {
         raw::jc_pixel_to_sensor(self, pixel)
     }
 
     /// From the sensor, in focal lengths, to a pixel.
+    #[inline]
     pub fn sensor_to_pixel(self, sensor: Pt2) -> Pt2 {
         raw::jc_sensor_to_pixel(self, sensor)
     }
@@ -125,16 +128,19 @@ pub fn apply_homography_inverse(h_inv: Matrix3, p: Pt2) -> Pt2 {
 
 impl BrownConrady5 {
     /// The distorted point.
+    #[inline]
     pub fn distort(self, p: Pt2) -> Pt2 {
-        raw::jc_distort(self, p)
+        raw::distort(self, p)
     }
 
     /// The distorted point and its derivatives.
+    #[inline]
     pub fn distort_with_jacobian(self, p: Pt2) -> DistortedPoint {
         raw::jc_distort_with_jacobian(self, p)
     }
 
     /// The point that is distorted to this one, by Newton's method with at most `iters` steps; 0 means 20.
+    #[inline]
     pub fn undistort(self, iters: u32, p: Pt2) -> Pt2 {
         raw::jc_undistort(self, iters, p)
     }

@@ -157,7 +157,7 @@ unsafe extern "C" {
     pub(crate) safe fn jc_inverse(m: FlatMatrix) -> InverseReply;
     pub(crate) safe fn jc_apply_homography(h: FlatMatrix, p: Pt2) -> Pt2;
     pub(crate) safe fn jc_apply_homography_inverse(h_inv: FlatMatrix, p: Pt2) -> Pt2;
-    pub(crate) safe fn jc_distort(b: BrownConrady5, p: Pt2) -> Pt2;
+    safe fn jc_distort_numbers(k1: f64, k2: f64, k3: f64, p1: f64, p2: f64, x: f64, y: f64) -> Pt2;
     pub(crate) safe fn jc_distort_with_jacobian(b: BrownConrady5, p: Pt2) -> DistortedPoint;
     pub(crate) safe fn jc_undistort(b: BrownConrady5, iters: u32, p: Pt2) -> Pt2;
     pub(crate) safe fn jc_conic_to_camera(b: Conic) -> CameraReply;
@@ -236,6 +236,11 @@ unsafe extern "C" {
         list_len: usize,
     ) -> AnswerReply;
     safe fn jc_result(run: Run) -> ResultReply;
+}
+
+#[inline]
+pub(crate) fn distort(b: BrownConrady5, p: Pt2) -> Pt2 {
+    jc_distort_numbers(b.k1, b.k2, b.k3, b.p1, b.p2, p.x, p.y)
 }
 
 pub(crate) fn mean_reproj_error(camera: PinholeCamera, trig: TiltTrig, rows: Rows) -> f64 {

@@ -1,5 +1,6 @@
 //! Times the library beside the published Rust (the oracle's build of it): same inputs, same process, release builds.
-//! Prints a table of medians. No buffer is cleared between two turns; both sides run on warm memory.
+//! Prints a table of medians of many short turns, which the two sides take in turn. No buffer is cleared between two turns; both
+//! sides run on warm memory. Linux only, for its clock of a thread's time.
 
 use jinnychair::record::{self, answer, next, seed, start};
 use jinnychair::{
@@ -9,7 +10,6 @@ use jinnychair::{
 use oracle::operations::search::{Inputs, run};
 use random::Random;
 use std::hint::black_box;
-use std::time::Instant;
 use vision_calibration_core::given_tilt::{self, GivenTilt};
 use vision_calibration_core::{
     BrownConrady5 as PublishedDistortion, DistortionModel, Pt2 as PublishedPoint,
@@ -20,36 +20,71 @@ use vision_calibration_linear::script::{
     Finding, Row, SeedNumbers, dataset_of_rows, identity_poses, pinhole_camera, play,
 };
 
-/// How often each side is timed; the median counts.
-const TURNS: usize = 31;
-/// Nanoseconds that make a time worth reading.
-const LONG_ENOUGH: f64 = 5e6;
+/// Nanoseconds of one turn: enough that reading the clock doesn't count, and few enough that a disturbance spoils few turns.
+const TURN: f64 = 3e5;
+/// Nanoseconds that both sides take together in one comparison.
+const BUDGET: f64 = 1.5e9;
+const FEWEST_TURNS: usize = 31;
 const ROWS: usize = 900;
 
-/// Nanoseconds that this thread has been on a processor, where Linux says so: other programs then don't count.
-fn time_on_processor() -> Option<u64> {
-    let times = std::fs::read_to_string("/proc/thread-self/schedstat").ok()?;
-    times.split(' ').next()?.parse().ok()
+#[repr(C)]
+struct Timespec {
+    seconds: i64,
+    nanoseconds: i64,
 }
 
-/// Nanoseconds for one of `repeats` turns.
-fn timed(repeats: usize, turn: &mut impl FnMut()) -> f64 {
-    let (start, on_processor) = (Instant::now(), time_on_processor());
-    (0..repeats).for_each(|_| turn());
-    let nanoseconds = match (on_processor, time_on_processor()) {
-        (Some(before), Some(after)) if after > before => (after - before) as f64,
-        _ => start.elapsed().as_nanos() as f64,
-    };
-    nanoseconds / repeats as f64
+unsafe extern "C" {
+    safe fn clock_gettime(clock: i32, time: &mut Timespec) -> i32;
 }
 
-/// Median nanoseconds for one of `count` operations that `turn` does.
-fn median(count: usize, mut turn: impl FnMut()) -> f64 {
-    // A turn is repeated so often that reading the clock doesn't count.
-    let repeats = (LONG_ENOUGH / timed(1, &mut turn)).ceil() as usize;
-    let mut times: Vec<f64> = (0..TURNS).map(|_| timed(repeats, &mut turn)).collect();
-    times.sort_by(f64::total_cmp);
-    times[TURNS / 2] / count as f64
+/// Nanoseconds that this thread has been on a processor: other programs don't count.
+fn time_on_processor() -> f64 {
+    const CLOCK_THREAD_CPUTIME_ID: i32 = 3;
+    let mut time = Timespec { seconds: 0, nanoseconds: 0 };
+    assert_eq!(clock_gettime(CLOCK_THREAD_CPUTIME_ID, &mut time), 0);
+    time.seconds as f64 * 1e9 + time.nanoseconds as f64
+}
+
+/// One side of a comparison: its turn, how often it is repeated, and the nanoseconds that one repeat took each time.
+struct Side<F> {
+    turn: F,
+    repeats: usize,
+    times: Vec<f64>,
+}
+
+impl<F: FnMut()> Side<F> {
+    fn new(turn: F) -> Self {
+        let mut side = Self { turn, repeats: 1, times: vec![] };
+        side.go();
+        side.repeats = (TURN / side.times[0]).ceil() as usize;
+        side.times.clear();
+        side
+    }
+
+    fn go(&mut self) {
+        let start = time_on_processor();
+        (0..self.repeats).for_each(|_| (self.turn)());
+        self.times.push((time_on_processor() - start) / self.repeats as f64);
+    }
+
+    fn median(mut self) -> f64 {
+        self.times.sort_by(f64::total_cmp);
+        self.times[self.times.len() / 2]
+    }
+}
+
+/// Median nanoseconds for one of `count` operations on each side. The sides take turns, so that a change of the processor's clock
+/// meets both.
+fn medians(count: usize, library: impl FnMut(), rust: impl FnMut()) -> [f64; 2] {
+    let (mut library, mut rust) = (Side::new(library), Side::new(rust));
+    let mut spent = 0.0;
+    while spent < BUDGET || library.times.len() < FEWEST_TURNS {
+        let start = time_on_processor();
+        library.go();
+        rust.go();
+        spent += time_on_processor() - start;
+    }
+    [library.median(), rust.median()].map(|time| time / count as f64)
 }
 
 /// Uses a value as far as the compiler can tell.
@@ -57,7 +92,7 @@ fn keep<T>(value: T) {
     black_box(value);
 }
 
-fn report(name: &str, library: f64, rust: f64) {
+fn report(name: &str, [library, rust]: [f64; 2]) {
     let time = |ns: f64| match ns {
         ns if ns < 1e4 => format!("{ns:.1} ns"),
         ns if ns < 1e7 => format!("{:.1} µs", ns / 1e3),
@@ -73,24 +108,32 @@ fn main() {
     distortions(&mut random);
     scoring(&mut random);
     first_list();
-    whole_run(&mut random);
+    let rows = rows(&mut random);
+    whole_run("a whole run of 656 answers with 900 rows", &rows);
+    whole_run("the same with one row: all but the scoring", &rows[..1]);
 }
 
 fn roots(random: &mut Random) {
     let numbers: Vec<f64> = (0..4096).map(|_| random.unit() * 1e6).collect();
-    let independent = |root: fn(f64) -> f64| {
-        median(numbers.len(), || numbers.iter().for_each(|&x| keep(root(black_box(x)))))
-    };
-    report(
-        "root (the Rust's is one instruction)",
-        independent(geometry::sqrt),
-        independent(f64::sqrt),
+    fn independent(numbers: &[f64], root: impl Fn(f64) -> f64) {
+        numbers.iter().for_each(|&x| keep(root(black_box(x))));
+    }
+    let times = medians(
+        numbers.len(),
+        || independent(&numbers, geometry::sqrt),
+        || independent(&numbers, f64::sqrt),
     );
+    report("root (the Rust's is one instruction)", times);
     // Each root waits for the one before.
-    let in_turn = |root: fn(f64) -> f64| {
-        median(numbers.len(), || keep(numbers.iter().fold(1.5, |last, x| x + 1e-3 * root(last))))
-    };
-    report("root, each waiting for the last", in_turn(geometry::sqrt), in_turn(f64::sqrt));
+    fn in_turn(numbers: &[f64], root: impl Fn(f64) -> f64) {
+        keep(numbers.iter().fold(1.5, |last, x| x + 1e-3 * root(last)));
+    }
+    let times = medians(
+        numbers.len(),
+        || in_turn(&numbers, geometry::sqrt),
+        || in_turn(&numbers, f64::sqrt),
+    );
+    report("root, each waiting for the last", times);
 }
 
 fn distortions(random: &mut Random) {
@@ -98,17 +141,19 @@ fn distortions(random: &mut Random) {
     let p = PublishedDistortion { k1: b.k1, k2: b.k2, k3: b.k3, p1: b.p1, p2: b.p2, iters: 0 };
     let points: Vec<[f64; 2]> =
         (0..1024).map(|_| [random.within(0.5), random.within(0.4)]).collect();
-    let each = |f: &dyn Fn([f64; 2])| median(points.len(), || points.iter().for_each(|&q| f(q)));
-    report(
-        "distort",
-        each(&|[x, y]| keep(b.distort(black_box(Pt2 { x, y })))),
-        each(&|[x, y]| keep(p.distort(&black_box(PublishedPoint::new(x, y))))),
+    let each = |f: &dyn Fn([f64; 2])| points.iter().for_each(|&q| f(q));
+    let times = medians(
+        points.len(),
+        || each(&|[x, y]| keep(b.distort(black_box(Pt2 { x, y })))),
+        || each(&|[x, y]| keep(p.distort(&black_box(PublishedPoint::new(x, y))))),
     );
-    report(
-        "undistort",
-        each(&|[x, y]| keep(b.undistort(0, black_box(Pt2 { x, y })))),
-        each(&|[x, y]| keep(p.undistort(&black_box(PublishedPoint::new(x, y))))),
+    report("distort", times);
+    let times = medians(
+        points.len(),
+        || each(&|[x, y]| keep(b.undistort(0, black_box(Pt2 { x, y })))),
+        || each(&|[x, y]| keep(p.undistort(&black_box(PublishedPoint::new(x, y))))),
     );
+    report("undistort", times);
 }
 
 const CAMERA: [f64; 9] = [800.0, 790.0, 320.5, 239.25, 0.0, 0.0, 0.0, 0.01, -0.02];
@@ -142,18 +187,18 @@ fn scoring(random: &mut Random) {
     let (numbers, flags) = flat(&rows);
     let trig = TiltTrig::from(ScheimpflugParams { tilt_x: 0.05, tilt_y: -0.02 });
     let camera = library_camera();
-    let library = median(1, || {
+    let library = || {
         let rows = Rows { numbers: black_box(&numbers), flags: &flags };
         black_box(geometry::mean_reproj_error(camera, trig, rows));
-    });
+    };
     let (dataset, poses, camera) =
         (dataset_of_rows(&rows), identity_poses(), pinhole_camera(CAMERA));
-    let rust = median(1, || {
+    let rust = || {
         given_tilt::give(given(trig));
         let tilts = PublishedTilts::default();
         black_box(published::mean_reproj_error(black_box(&dataset), &camera, tilts, &poses));
-    });
-    report("projecting and scoring 900 rows", library, rust);
+    };
+    report("projecting and scoring 900 rows", medians(1, library, rust));
 }
 
 /// 256 decomposition seeds and a grid of 16 by 16, none of them near another.
@@ -180,29 +225,28 @@ fn first_list() {
     let inputs = most_seeds();
     let for_library = compare::library::library_inputs(&inputs);
     let mut list = vec![0.0; 6 * 512];
-    let library = median(1, || {
+    let library = || {
         let run = start(black_box(&for_library), &mut list).expect("good inputs");
         assert_eq!(black_box(run).place.len, 512);
-    });
+    };
     let (dataset, options) = (inputs.dataset(), inputs.options());
     let base = pinhole_camera(CAMERA).k;
     let never_asked = |_: &SeedNumbers| Finding::Failed;
-    let rust = median(1, || {
+    let rust = || {
         let (seeds, _) = play(inputs.given(), never_asked, || {
             published::validate_options(&dataset, &options)?;
             published::initial_seed_grid(&dataset, &base, &options)
         });
         assert_eq!(black_box(seeds).expect("good inputs").len(), 512);
-    });
-    report("building a round-0 list of 512 seeds", library, rust);
+    };
+    report("building a round-0 list of 512 seeds", medians(1, library, rust));
 }
 
-fn whole_run(random: &mut Random) {
+fn whole_run(name: &str, rows: &[Row]) {
     let inputs = most_seeds();
-    let rows = rows(random);
-    let (numbers, flags) = flat(&rows);
+    let (numbers, flags) = flat(rows);
     let camera = library_camera();
-    let library = median(1, || {
+    let library = || {
         let mut list = vec![0.0; 6 * 512];
         let for_library = compare::library::library_inputs(&inputs);
         let mut run = start(&for_library, &mut list).expect("good inputs");
@@ -215,21 +259,23 @@ fn whole_run(random: &mut Random) {
         }
         assert_eq!(run.place.number, 656);
         black_box(record::result(&run)).expect("a winner");
-    });
-    // The script of the oracle copies each answer's rows into a dataset; that copying is timed alone and taken off.
-    let scripted = median(1, || {
-        let rows = rows.clone();
+    };
+    let scripted = || {
+        let rows = rows.to_vec();
         let host = move |seed: &SeedNumbers| {
             let [.., tilt_x, tilt_y] = *seed;
             let trig = TiltTrig::from(ScheimpflugParams { tilt_x, tilt_y });
             Finding::Solved { camera: CAMERA, tilt: given(trig), rows: rows.clone() }
         };
         black_box(run(&inputs, host)).expect("a winner");
-    });
-    let copying = median(1, || {
+    };
+    let [library, scripted] = medians(1, library, scripted);
+    // The script of the oracle copies each answer's rows into a dataset; that copying is timed alone and taken off.
+    let copying = || {
         for _ in 0..656 {
-            black_box(dataset_of_rows(&black_box(rows.clone())));
+            black_box(dataset_of_rows(&black_box(rows.to_vec())));
         }
-    });
-    report("a whole run of 656 answers with 900 rows", library, scripted - copying);
+    };
+    let [copying, _] = medians(1, copying, || ());
+    report(name, [library, scripted - copying]);
 }

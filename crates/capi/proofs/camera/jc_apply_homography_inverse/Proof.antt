@@ -1,5 +1,8 @@
 -- `capi::camera::jc_apply_homography_inverse` meets its contract, by those of `rows_of` and `apply_homography_inverse`. Assumes nothing.
+use mathlib.Core.Path.{ap, _∙_}
 use borrow.Author.Needs.{needs}
+use Rattle.matrix.specs.Matrix.{Matrix}
+use Rattle.sensor.specs.Sensor.{applyHomographyInverse}
 use Rattle.capi.proofs.camera.jc_apply_homography_inverse.Statement.{statement}
 use Rattle.capi.proofs.camera.jc_apply_homography_inverse.Tie as tie
 
@@ -10,7 +13,7 @@ apply-homography-inverse-requires : tie.Need-apply-homography-inverse-requires
 apply-homography-inverse-requires c κs = search needs
 
 returns : tie.Need-returns
-returns c = cc
+returns c = c .apply-homography-inverse .ensures ∙ ap (λ (h : Matrix). applyHomographyInverse h (c .before .before .args .p)) (c .before .rows-of .ensures)
 
 pub jc-apply-homography-inverse-spec : {M : Type 1} → statement M
 jc-apply-homography-inverse-spec =

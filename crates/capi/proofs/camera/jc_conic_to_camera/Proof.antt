@@ -1,5 +1,7 @@
 -- `capi::camera::jc_conic_to_camera` meets its contract, by those of `from_homographies` and `estimate_reply`. Assumes nothing.
+use mathlib.Core.Path.{ap, _∙_}
 use borrow.Author.Needs.{needs}
+use Rattle.capi.specs.Camera.{flatEstimate}
 use Rattle.capi.proofs.camera.jc_conic_to_camera.Statement.{statement}
 use Rattle.capi.proofs.camera.jc_conic_to_camera.Tie as tie
 
@@ -10,7 +12,7 @@ estimate-reply-requires : tie.Need-estimate-reply-requires
 estimate-reply-requires c κs = search needs
 
 returns : tie.Need-returns
-returns c = cc
+returns c = c .estimate-reply .ensures ∙ ap flatEstimate (c .before .from-homographies .ensures)
 
 pub jc-conic-to-camera-spec : {M : Type 1} → statement M
 jc-conic-to-camera-spec =

@@ -1,5 +1,7 @@
 -- `capi::lists::jc_design_rows` meets its contract, by those of `design_rows` and `rows_number`. Assumes nothing.
+use mathlib.Core.Path.{ap, _∙_}
 use borrow.Author.Needs.{needs}
+use Rattle.capi.specs.Lists.{rowsNumber}
 use Rattle.capi.proofs.lists.jc_design_rows.Statement.{statement}
 use Rattle.capi.proofs.lists.jc_design_rows.Tie as tie
 
@@ -13,7 +15,9 @@ same-length : tie.Need-same-length
 same-length c = search needs
 
 returns : tie.Need-returns
-returns c = (cc, cc)
+returns c =
+    let e = c .before .before .before .design-rows .ensures in
+    (c .rows-number .ensures ∙ ap rowsNumber (e .0), e .1)
 
 pub jc-design-rows-spec : {M : Type 1} → statement M
 jc-design-rows-spec =

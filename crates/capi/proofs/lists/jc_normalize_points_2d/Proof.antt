@@ -1,5 +1,7 @@
 -- `capi::lists::jc_normalize_points_2d` meets its contract, by those of `normalize_points_2d` and `normalize_reply`. Assumes nothing.
+use mathlib.Core.Path.{ap, _∙_}
 use borrow.Author.Needs.{needs}
+use Rattle.capi.specs.Lists.{flatNormalized}
 use Rattle.capi.proofs.lists.jc_normalize_points_2d.Statement.{statement}
 use Rattle.capi.proofs.lists.jc_normalize_points_2d.Tie as tie
 
@@ -13,7 +15,9 @@ same-length : tie.Need-same-length
 same-length c = search needs
 
 returns : tie.Need-returns
-returns c = (cc, cc)
+returns c =
+    let e = c .before .before .before .normalize-points-2d .ensures in
+    (c .normalize-reply .ensures ∙ ap flatNormalized (e .0), e .1)
 
 pub jc-normalize-points-2d-spec : {M : Type 1} → statement M
 jc-normalize-points-2d-spec =

@@ -1,5 +1,7 @@
 -- `capi::lists::jc_observed_pixel_center` meets its contract, by those of `observed_pixel_center` and `center_reply`. Assumes nothing.
+use mathlib.Core.Path.{ap, _∙_}
 use borrow.Author.Needs.{needs}
+use Rattle.capi.specs.Lists.{flatCenter}
 use Rattle.capi.proofs.lists.jc_observed_pixel_center.Statement.{statement}
 use Rattle.capi.proofs.lists.jc_observed_pixel_center.Tie as tie
 
@@ -10,7 +12,7 @@ center-reply-requires : tie.Need-center-reply-requires
 center-reply-requires c κs = search needs
 
 returns : tie.Need-returns
-returns c = cc
+returns c = c .center-reply .ensures ∙ ap flatCenter (c .before .observed-pixel-center .ensures)
 
 pub jc-observed-pixel-center-spec : {M : Type 1} → statement M
 jc-observed-pixel-center-spec =

@@ -1,5 +1,7 @@
 -- `capi::lists::normalize_reply` meets its contract. Assumes nothing.
+use mathlib.Core.Path.{ap, sym}
 use borrow.Author.Needs.{needs}
+use Rattle.capi.specs.Lists.{flatNormalized}
 use Rattle.capi.proofs.lists.normalize_reply.Statement.{statement}
 use Rattle.capi.proofs.lists.normalize_reply.Tie as tie
 
@@ -10,10 +12,10 @@ enum-known-t-2 : tie.Need-enum-known-t-2
 enum-known-t-2 c = search needs
 
 returns : tie.Need-returns
-returns c = cc
+returns c = sym (ap flatNormalized (c .before .t .given .1))
 
 returns-2 : tie.Need-returns-2
-returns-2 c = simp (c .before .t2 .given .1)
+returns-2 c = sym (ap flatNormalized (c .before .t2 .given .1))
 
 pub normalize-reply-spec : {M : Type 1} → statement M
 normalize-reply-spec = tie.close (tie.spec enum-known-t enum-known-t-2 returns returns-2)

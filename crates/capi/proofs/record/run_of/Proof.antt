@@ -16,7 +16,7 @@ best-of-requires-2 : tie.Need-best-of-requires-2
 best-of-requires-2 c κs = search needs
 
 returns : tie.Need-returns
-returns c = cc
+returns c = rw (c .best-of2 .ensures, c .before .best-of .ensures, c .before .before .waiting-of .ensures, c .before .before .before .place-of .ensures)
 
 pub run-of-spec : {M : Type 1} → statement M
 run-of-spec =

@@ -16,7 +16,7 @@ best-record-requires-2 : tie.Need-best-record-requires-2
 best-record-requires-2 c κs = search needs
 
 returns : tie.Need-returns
-returns c = cc
+returns c = rw (c .best-record2 .ensures, c .before .best-record .ensures, c .before .before .waiting-record .ensures, c .before .before .before .place-record .ensures)
 
 pub run-record-spec : {M : Type 1} → statement M
 run-record-spec =

@@ -3,43 +3,26 @@ use borrow.Author.Needs.{needs}
 use Rattle.capi.proofs.run.answer_flat.Statement.{statement}
 use Rattle.capi.proofs.run.answer_flat.Tie as tie
 
-enum-known-answered : tie.Need-enum-known-answered
-enum-known-answered c = search needs
-
 run-record-requires : tie.Need-run-record-requires
 run-record-requires c κs = search needs
+
+enum-known-answered : tie.Need-enum-known-answered
+enum-known-answered c = search needs
 
 enum-known-answered-2 : tie.Need-enum-known-answered-2
 enum-known-answered-2 c = search needs
 
-run-record-requires-2 : tie.Need-run-record-requires-2
-run-record-requires-2 c κs = search needs
-
 enum-known-answered-3 : tie.Need-enum-known-answered-3
 enum-known-answered-3 c = search needs
 
-run-record-requires-3 : tie.Need-run-record-requires-3
-run-record-requires-3 c κs = search needs
-
 returns : tie.Need-returns
-returns c = simp (c .before .before .answered .given .1, c .run-record .ensures)
+returns c = simp (c .before .answered .given .1, c .before .before .before .run-record .ensures)
 
 returns-2 : tie.Need-returns-2
-returns-2 c = simp (c .before .before .answered2 .given .1, c .run-record2 .ensures)
+returns-2 c = simp (c .before .answered2 .given .1, c .before .before .before .run-record .ensures)
 
 returns-3 : tie.Need-returns-3
-returns-3 c = simp (c .before .before .answered3 .given .1, c .run-record3 .ensures)
+returns-3 c = simp (c .before .answered3 .given .1, c .before .before .before .run-record .ensures)
 
 pub answer-flat-spec : {M : Type 1} → statement M
-answer-flat-spec =
-    tie.close
-    (tie.spec
-    enum-known-answered
-    run-record-requires
-    enum-known-answered-2
-    run-record-requires-2
-    enum-known-answered-3
-    run-record-requires-3
-    returns
-    returns-2
-    returns-3)
+answer-flat-spec = tie.close (tie.spec run-record-requires enum-known-answered enum-known-answered-2 enum-known-answered-3 returns returns-2 returns-3)

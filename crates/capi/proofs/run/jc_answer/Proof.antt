@@ -1,5 +1,11 @@
 -- `capi::run::jc_answer` meets its contract, by those of `run_of`, `finding_of`, `answer` and `answer_flat`. Assumes nothing.
+use mathlib.Core.Path.{ap, _∙_}
 use borrow.Author.Needs.{needs}
+use Rattle.score.specs.declared.Finding.{Finding}
+use Rattle.search.specs.declared.run.Run.{Run}
+use Rattle.search_answer.specs.Answer.{AnswerLeft, answerDef}
+use Rattle.capi.specs.Record.{runOf}
+use Rattle.capi.specs.Run.{flatAnswer}
 use Rattle.capi.proofs.run.jc_answer.Statement.{statement}
 use Rattle.capi.proofs.run.jc_answer.Tie as tie
 
@@ -19,7 +25,14 @@ same-length : tie.Need-same-length
 same-length c = search needs
 
 returns : tie.Need-returns
-returns c = (cc, cc)
+returns c =
+    let q = c .before .before .before in
+    let p = q .before .before in
+    let a = p .before .before .before .before .before .args in
+    let run = ap (λ (r : Run). answerDef r (p .finding-of .result) (a .rows .now) (a .flags .now) (a .list .now)) (p .before .run-of .ensures) in
+    let finding = ap (λ (f : Finding). answerDef (runOf (a .run)) f (a .rows .now) (a .flags .now) (a .list .now)) (p .finding-of .ensures) in
+    let left = run ∙ finding in
+    (c .answer-flat .ensures ∙ ap flatAnswer (q .answer .ensures .0 ∙ ap (λ (x : AnswerLeft). x .reply) left), q .answer .ensures .1 ∙ ap (λ (x : AnswerLeft). x .list) left)
 
 pub jc-answer-spec : {M : Type 1} → statement M
 jc-answer-spec =

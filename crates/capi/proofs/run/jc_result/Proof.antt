@@ -1,5 +1,8 @@
 -- `capi::run::jc_result` meets its contract, by those of `run_of`, `result` and `result_flat`. Assumes nothing.
+use mathlib.Core.Path.{ap, _∙_}
 use borrow.Author.Needs.{needs}
+use Rattle.search_result.specs.Result.{resultDef}
+use Rattle.capi.specs.Run.{flatResult}
 use Rattle.capi.proofs.run.jc_result.Statement.{statement}
 use Rattle.capi.proofs.run.jc_result.Tie as tie
 
@@ -13,7 +16,7 @@ result-flat-requires : tie.Need-result-flat-requires
 result-flat-requires c κs = search needs
 
 returns : tie.Need-returns
-returns c = cc
+returns c = c .result-flat .ensures ∙ ap flatResult (c .before .result .ensures ∙ ap resultDef (c .before .before .run-of .ensures))
 
 pub jc-result-spec : {M : Type 1} → statement M
 jc-result-spec = tie.close (tie.spec run-of-requires result-requires result-flat-requires returns)

@@ -1,5 +1,7 @@
 -- `capi::run::jc_start` meets its contract, by those of `start` and `start_flat`. Assumes nothing.
+use mathlib.Core.Path.{ap, _∙_}
 use borrow.Author.Needs.{needs}
+use Rattle.capi.specs.Run.{flatStarted}
 use Rattle.capi.proofs.run.jc_start.Statement.{statement}
 use Rattle.capi.proofs.run.jc_start.Tie as tie
 
@@ -13,7 +15,9 @@ same-length : tie.Need-same-length
 same-length c = search needs
 
 returns : tie.Need-returns
-returns c = (cc, cc)
+returns c =
+    let e = c .before .before .before .start .ensures in
+    (c .start-flat .ensures ∙ ap flatStarted (e .0), e .1)
 
 pub jc-start-spec : {M : Type 1} → statement M
 jc-start-spec = tie.close (tie.spec start-requires start-flat-requires same-length returns)

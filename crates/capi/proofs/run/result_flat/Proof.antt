@@ -1,5 +1,7 @@
 -- `capi::run::result_flat` meets its contract, by that of `no_candidate`. Assumes nothing.
+use mathlib.Core.Path.{ap, sym}
 use borrow.Author.Needs.{needs}
+use Rattle.capi.specs.Run.{flatResult}
 use Rattle.capi.proofs.run.result_flat.Statement.{statement}
 use Rattle.capi.proofs.run.result_flat.Tie as tie
 
@@ -13,10 +15,10 @@ no-candidate-requires : tie.Need-no-candidate-requires
 no-candidate-requires c κs = search needs
 
 returns : tie.Need-returns
-returns c = simp (c .before .s .given .1)
+returns c = sym (ap flatResult (c .before .s .given .1))
 
 returns-2 : tie.Need-returns-2
-returns-2 c = cc
+returns-2 c = simp (c .before .before .s2 .given .1, c .no-candidate .ensures)
 
 pub result-flat-spec : {M : Type 1} → statement M
 result-flat-spec =

@@ -19,7 +19,7 @@ returns : tie.Need-returns
 returns c = simp (c .before .before .s .given .1, c .run-record .ensures)
 
 returns-2 : tie.Need-returns-2
-returns-2 c = cc
+returns-2 c = simp (c .before .before .s2 .given .1, c .no-run .ensures)
 
 pub start-flat-spec : {M : Type 1} → statement M
 start-flat-spec =
