@@ -130,10 +130,6 @@ lt-cotrans (fin s m e) (fin t j d) (inf false) n h k = refl
 lt-cotrans (fin s m e) (fin t j d) (fin u o g) n h k =
     below-cotrans s t u (m * up e) (j * up d) (o * up g) (down e) (down d) (down g) (down-pos e) (down-pos d) (down-pos g) h k
 
--- with the first: x < y and y < z
-pub lt-trans : (x y z : Float) → isNan z ≡ false → lt x y ≡ true → lt y z ≡ true → lt x z ≡ true
-lt-trans x y z n h k = lt-cotrans x y z n h (lt-asym y z k)
-
 -- ---- x ≤ y, so not y < x
 below-level : (s : Bool) (a : ℕ) (t : Bool) (b : ℕ) → level s a t b ≡ true → below t b s a ≡ false
 below-level s a t b h = go s t (eqb-true a b (and-first (eqb a b) (Bool·beq s t || eqb a 0) h)) (and-second (eqb a b) (Bool·beq s t || eqb a 0) h)

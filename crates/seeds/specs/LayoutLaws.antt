@@ -5,7 +5,7 @@ use Prim.Native.Nat.{ℕ, zero, suc, _+_, _*_, _-_, _≤_, _<_}
 use native.Mathlib.Nat.{add-zero, mul-le-mul-left, mul-zero, mul-suc}
 use native.Mathlib.Omega.{arith}
 use lib.ListN.{length, getD, take, drop, length-append, length-drop, take-append-drop}
-use lib.Seq.{drop-at, take-at, drop-cons, drop-drop, getD-drop, take-add, take-suc, sets, sets-eq}
+use lib.Seq.{drop-at, drop-cons, drop-drop, getD-drop, take-add, take-suc, sets, sets-eq}
 use lib.Ieee.{Float}
 use Rattle.sensor.specs.declared.ScheimpflugParams.{ScheimpflugParams}
 use Rattle.seeds.specs.declared.CandidateSeed.{CandidateSeed}
@@ -24,7 +24,7 @@ module _ {A : Type 0} (first : List Float → A) (w : ℕ) where
   read-length zero l = refl
   read-length (suc n) l = ap suc (read-length n (drop w l))
 
-  pub read-at : (n i : ℕ) (l : List Float) (d : A) → i < n → getD (readFrom first w n l) i d ≡ first (drop (w * i) l)
+  read-at : (n i : ℕ) (l : List Float) (d : A) → i < n → getD (readFrom first w n l) i d ≡ first (drop (w * i) l)
   unfolding readFrom
   read-at zero i l d h = absurd (omega arith)
   read-at (suc n) zero l d h = rw (mul-zero w)
@@ -60,20 +60,6 @@ module _ {A : Type 0} {numbers : A → List Float} {first : List Float → A} {w
   read-written (x ∷ xs) t =
       rw (append-assoc, y .own x (laid numbers xs ++ t), drop-at (numbers x) (laid numbers xs ++ t) w (y .wide x)) (ap (λ (zs : List A). x ∷ zs) (read-written xs t))
 
-  -- the record in place i of what is written
-  past : (x : A) (xs : List A) (t : List Float) (i : ℕ) → drop (w * suc i) (numbers x ++ laid numbers xs ++ t) ≡ drop (w * i) (laid numbers xs ++ t)
-  past x xs t i =
-      let e : w * suc i ≡ w + w * i = omega (arith, mul-suc w i) in
-      ap (λ (n : ℕ). drop n (numbers x ++ laid numbers xs ++ t)) e
-      ∙ sym (drop-drop (w * i) w (numbers x ++ laid numbers xs ++ t))
-      ∙ ap (drop (w * i)) (rw append-assoc (drop-at (numbers x) (laid numbers xs ++ t) w (y .wide x)))
-
-  laid-part : (xs : List A) (t : List Float) (i : ℕ) (d : A) → i < length xs → take w (drop (w * i) (laid numbers xs ++ t)) ≡ numbers (getD xs i d)
-  unfolding laid
-  laid-part [] t i d h = absurd (omega arith)
-  laid-part (x ∷ xs) t zero d h = rw (mul-zero w, append-assoc) (take-at (numbers x) (laid numbers xs ++ t) w (y .wide x))
-  laid-part (x ∷ xs) t (suc i) d h = rw (past x xs t i) (laid-part xs t i d (omega arith))
-
   pub laid-read : (n : ℕ) (l : List Float) → w * n ≤ length l → laid numbers (readFrom first w n l) ≡ take (w * n) l
   unfolding laid readFrom
   laid-read zero l h = rw (mul-zero w)
@@ -86,9 +72,6 @@ module _ {A : Type 0} {numbers : A → List Float} {first : List Float → A} {w
   -- a list with its own first records written to it
   pub written-own : (n : ℕ) (l : List Float) → w * n ≤ length l → writtenBy numbers w (readFrom first w n l) l ≡ l
   written-own n l h = rw (read-length first w n l, laid-read n l h) (take-append-drop (w * n) l)
-
-  pub written-length : (xs : List A) (l : List Float) → w * length xs ≤ length l → length (writtenBy numbers w xs l) ≡ length l
-  written-length xs l h = omega (arith, length-append (laid numbers xs) (drop (w * length xs) l), laid-length xs, length-drop (w * length xs) l)
 
   -- a longer list written over a shorter one
   pub written-over : (xs ys : List A) (l : List Float) → length xs ≤ length ys → writtenBy numbers w ys (writtenBy numbers w xs l) ≡ writtenBy numbers w ys l
@@ -141,16 +124,6 @@ tilts-layout = record { wide = λ t. refl; own = λ t l. refl; back = two-back }
 -- ---- the record in place i, as a loop over a list reads it
 seed-from : (l : List Float) (i : ℕ) → seedAt (drop (6 * i) l) 0 ≡ seedAt l i
 seed-from l i = simp (getD-drop, add-zero)
-
--- the seed in place i of what is written, and its part of the list
-pub seed-written : (ss : List CandidateSeed) (t : List Float) (i : ℕ) (d : CandidateSeed) → i < length ss → seedAt (flat ss ++ t) i ≡ getD ss i d
-seed-written ss t i d h =
-    sym (seed-from (flat ss ++ t) i)
-    ∙ sym (read-at (λ m. seedAt m 0) 6 (length ss) i (flat ss ++ t) d h)
-    ∙ ap (λ (zs : List CandidateSeed). getD zs i d) (read-written seeds-layout ss t)
-
-pub part-written : (ss : List CandidateSeed) (t : List Float) (i : ℕ) (d : CandidateSeed) → i < length ss → take 6 (drop (6 * i) (flat ss ++ t)) ≡ six (getD ss i d)
-part-written ss t i d h = laid-part seeds-layout ss t i d h
 
 pub flat-length : (ss : List CandidateSeed) → length (flat ss) ≡ 6 * length ss
 flat-length ss = laid-length seeds-layout ss
