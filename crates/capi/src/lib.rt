@@ -4,6 +4,5 @@
 pub mod camera;
 pub mod echo;
 pub mod lists;
-pub mod record;
 pub mod run;
 pub mod scoring;

@@ -8,106 +8,18 @@ ghost use Rattle.points.specs.Linalg.{normalizeReply, normalizeInto};
 ghost use Rattle.homography.specs.Line.{lineReply};
 ghost use Rattle.homography.specs.Rows.{rowsReply, rowsInto};
 ghost use Rattle.centre.specs.Centre.{centerReply};
-ghost use Rattle.capi.specs.Lists.{mappedNumber, rowsNumber, flatNormalized, flatLineTest, flatCenter};
-use centre::Center;
-use homography::LineTest;
-use homography::Rows;
-use maps::Mapped;
+ghost use Rattle.flat.specs.Lists.{mappedNumber, rowsNumber, flatNormalized, flatLineTest, flatCenter};
+use flat::lists::CenterReply;
+use flat::lists::LineReply;
+use flat::lists::NormalizeReply;
+use flat::lists::center_reply;
+use flat::lists::line_reply;
+use flat::lists::mapped_number;
+use flat::lists::normalize_reply;
+use flat::lists::rows_number;
 use models::intrinsics::FxFyCxCy;
-use models::math::Pt2;
 use pinhole::PinholeCamera;
-use points::linalg::Normalized;
 use reprojection::TiltTrig;
-
-// 0 and the transform's numbers that are neither 0 nor 1, or 17, 18 or 19.
-#[repr(C)]
-pub struct NormalizeReply {
-    pub number: u8,
-    pub t00: f64,
-    pub t02: f64,
-    pub t12: f64,
-}
-
-// 0 and 1 where the points are collinear, or 17.
-#[repr(C)]
-pub struct LineReply {
-    pub number: u8,
-    pub collinear: u8,
-}
-
-// 0 and the centre, or 17.
-#[repr(C)]
-pub struct CenterReply {
-    pub number: u8,
-    pub center: Pt2,
-}
-
-fn mapped_number(m: Mapped) -> u8
-    ensures { λ r. ⌜ r ≡ mappedNumber m ⌝ }
-{
-    match m {
-        Mapped::Done => 0,
-        Mapped::Refused(n) => n,
-    }
-}
-
-fn rows_number(w: Rows) -> u8
-    ensures { λ r. ⌜ r ≡ rowsNumber w ⌝ }
-{
-    match w {
-        Rows::Written => 0,
-        Rows::Refused(n) => n,
-    }
-}
-
-fn normalize_reply(t: Normalized) -> NormalizeReply
-    ensures { λ r. ⌜ r ≡ flatNormalized t ⌝ }
-{
-    match t {
-        Normalized::Transform { t00, t02, t12 } => NormalizeReply {
-            number: 0,
-            t00,
-            t02,
-            t12,
-        },
-        Normalized::Refused(n) => NormalizeReply {
-            number: n,
-            t00: 0.0,
-            t02: 0.0,
-            t12: 0.0,
-        },
-    }
-}
-
-fn line_reply(t: LineTest) -> LineReply
-    ensures { λ r. ⌜ r ≡ flatLineTest t ⌝ }
-{
-    match t {
-        LineTest::Collinear(yes) => LineReply {
-            number: 0,
-            collinear: crate::record::flag(yes),
-        },
-        LineTest::Refused(n) => LineReply {
-            number: n,
-            collinear: 0,
-        },
-    }
-}
-
-fn center_reply(c: Center) -> CenterReply
-    ensures { λ r. ⌜ r ≡ flatCenter c ⌝ }
-{
-    match c {
-        Center::At(p) => CenterReply {
-            number: 0,
-            center: p,
-        },
-        Center::Refused(n) => CenterReply {
-            number: n,
-            center: Pt2 { x: 0.0, y: 0.0 },
-        },
-    }
-}
 
 // The pixels of a sensor that is not tilted, at the front of `to`; 0, or 17, 18 or 15.
 #[no_mangle]

@@ -37,7 +37,7 @@ fn is_good_seed(max_abs_tilt: f64, seed: CandidateSeed) -> bool
         & float::is_finite(k.cy)
         & float::is_finite(sensor.tilt_x)
         & float::is_finite(sensor.tilt_y)
-        & seeds::in_bound(max_abs_tilt, sensor)
+        & seed_checks::in_bound(max_abs_tilt, sensor)
 }
 
 fn all_good_seeds(max_abs_tilt: f64, decomposition: &[f64]) -> bool

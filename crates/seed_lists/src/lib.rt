@@ -11,11 +11,11 @@ ghost use Rattle.seeds.specs.Merge.{keep, firstNear, push, mergedInto};
 ghost use Rattle.seeds.specs.Rules as rules;
 ghost use Rattle.seeds.specs.Rules.{tiltNear, inBound, seedsWithin};
 use models::intrinsics::FxFyCxCy;
+use seed_checks::in_bound;
+use seed_checks::near;
+use seed_checks::tilt_near;
 use seeds::CandidateSeed;
 use seeds::Found;
-use seeds::in_bound;
-use seeds::near;
-use seeds::tilt_near;
 use sensor::ScheimpflugParams;
 
 // ---- a list of seeds at the front of a slice

@@ -4,8 +4,8 @@ use borrow.Author.Needs.{needs}
 use Rattle.score.specs.declared.Finding.{Finding}
 use Rattle.search.specs.declared.run.Run.{Run}
 use Rattle.search_answer.specs.Answer.{AnswerLeft, answerDef}
-use Rattle.capi.specs.Record.{runOf}
-use Rattle.capi.specs.Run.{flatAnswer}
+use Rattle.flat.specs.Record.{runOf}
+use Rattle.flat.specs.Run.{flatAnswer}
 use Rattle.capi.proofs.run.jc_answer.Statement.{statement}
 use Rattle.capi.proofs.run.jc_answer.Tie as tie
 

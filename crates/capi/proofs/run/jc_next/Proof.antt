@@ -3,7 +3,7 @@ use mathlib.Core.Path.{ap, _∙_}
 use borrow.Author.Needs.{needs}
 use Rattle.search.specs.declared.run.Run.{Run}
 use Rattle.search_next.specs.Next.{nextDef}
-use Rattle.capi.specs.Run.{flatNext}
+use Rattle.flat.specs.Run.{flatNext}
 use Rattle.capi.proofs.run.jc_next.Statement.{statement}
 use Rattle.capi.proofs.run.jc_next.Tie as tie
 

@@ -2,7 +2,7 @@
 use mathlib.Core.Path.{ap, _∙_}
 use borrow.Author.Needs.{needs}
 use Rattle.search_result.specs.Result.{resultDef}
-use Rattle.capi.specs.Run.{flatResult}
+use Rattle.flat.specs.Run.{flatResult}
 use Rattle.capi.proofs.run.jc_result.Statement.{statement}
 use Rattle.capi.proofs.run.jc_result.Tie as tie
 

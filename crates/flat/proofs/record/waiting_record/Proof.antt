@@ -1,0 +1,13 @@
+-- `flat::record::waiting_record` meets its contract, by that of `flag`. Assumes nothing.
+use borrow.Author.Needs.{needs}
+use Rattle.flat.proofs.record.waiting_record.Statement.{statement}
+use Rattle.flat.proofs.record.waiting_record.Tie as tie
+
+flag-requires : tie.Need-flag-requires
+flag-requires c κs = search needs
+
+returns : tie.Need-returns
+returns c = rw (c .flag .ensures)
+
+pub waiting-record-spec : {M : Type 1} → statement M
+waiting-record-spec = tie.close (tie.spec flag-requires returns)
