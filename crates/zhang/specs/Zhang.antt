@@ -6,6 +6,7 @@ use Rattle.float.specs.Binary64.{_+₆₄_, _-₆₄_, _*₆₄_, _/₆₄_}
 use Rattle.float.specs.Float.{absOf}
 use Rattle.float.specs.Sign.{plusZero}
 use Rattle.square_root.specs.Root.{root}
+use Rattle.models.specs.declared.intrinsics.FxFyCxCy.{FxFyCxCy}
 use Rattle.zhang.specs.declared.Conic.{Conic}
 use Rattle.zhang.specs.declared.Estimate.{Estimate}
 use Rattle.zhang.specs.declared.Estimate.the-variants.{Camera, Refused}
@@ -50,6 +51,9 @@ gamma b = neg (b .b12) *₆₄ alpha b *₆₄ alpha b *₆₄ beta b /₆₄ la
 abbrev pub u0 : Conic → Float
 u0 b = gamma b *₆₄ v0 b /₆₄ beta b -₆₄ b .b13 *₆₄ alpha b *₆₄ alpha b /₆₄ lambda b
 
+abbrev pub cameraOf : Conic → FxFyCxCy
+cameraOf b = record { fx = alpha b; fy = beta b; cx = u0 b; cy = v0 b }
+
 -- The upper left 2 × 2 part is definite, and well so beside its size; b11 isn't nearly 0; and λ has its sign. A NaN in a test fails it.
 unfoldable pub definite : Conic → Bool
 definite b = lt plusZero (norm b) && (lt leastDefinite (denom b /₆₄ norm b) && (not (le (absOf (b .b11)) leastB11) && lt plusZero (lambda b /₆₄ b .b11)))
@@ -57,4 +61,4 @@ definite b = lt plusZero (norm b) && (lt leastDefinite (denom b /₆₄ norm b) 
 -- Where the conic isn't definite no camera has it, and the number is 16. A camera that isn't finite is a reply like any other.
 unfoldable pub fromHomographies : Conic → Estimate
 unfolding definite
-fromHomographies b = cond (definite b) (Camera (record { fx = alpha b; fy = beta b; cx = u0 b; cy = v0 b })) (Refused 16)
+fromHomographies b = cond (definite b) (Camera (cameraOf b)) (Refused 16)

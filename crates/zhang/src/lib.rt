@@ -2,7 +2,8 @@
 // The reply equals a definition that reads like the appendix of Zhang's paper, for every six numbers.
 
 ghost use mathlib.Core.Path.{_≡_};
-ghost use Rattle.zhang.specs.Zhang.{fromHomographies};
+ghost use Rattle.zhang.specs.Zhang as zhang;
+ghost use Rattle.zhang.specs.Zhang.{cameraOf, fromHomographies};
 use models::intrinsics::FxFyCxCy;
 
 // The conic B = μ K⁻ᵀ K⁻¹, a symmetric matrix known up to its scale μ, in the order in which the linear solve gives its numbers.
@@ -22,7 +23,27 @@ pub enum Estimate {
     Refused(u8),
 }
 
-// The camera whose conic is b. Its skew is found for the principal point, and dropped.
+// The camera of a definite conic. Its skew is found for the principal point, and dropped.
+fn camera_of(b: Conic, denom: f64, v0: f64, lambda: f64) -> FxFyCxCy
+    requires { ⌜ (denom ≡ zhang.denom b) × (v0 ≡ zhang.v0 b) × (lambda ≡ zhang.lambda b) ⌝ }
+    ensures { λ r. ⌜ r ≡ cameraOf b ⌝ }
+{
+    let b11 = b.b11;
+    let b12 = b.b12;
+    let b13 = b.b13;
+    let alpha = roots::sqrt(lambda / b11);
+    let beta = roots::sqrt(lambda * b11 / denom);
+    let gamma = -b12 * alpha * alpha * beta / lambda;
+    let u0 = gamma * v0 / beta - b13 * alpha * alpha / lambda;
+    FxFyCxCy {
+        fx: alpha,
+        fy: beta,
+        cx: u0,
+        cy: v0,
+    }
+}
+
+// The camera whose conic is b.
 pub fn from_homographies(b: Conic) -> Estimate
     ensures { λ r. ⌜ r ≡ fromHomographies b ⌝ }
 {
@@ -48,14 +69,5 @@ pub fn from_homographies(b: Conic) -> Estimate
     if !(lambda / b11 > 0.0) {
         return Estimate::Refused(16);
     }
-    let alpha = roots::sqrt(lambda / b11);
-    let beta = roots::sqrt(lambda * b11 / denom);
-    let gamma = -b12 * alpha * alpha * beta / lambda;
-    let u0 = gamma * v0 / beta - b13 * alpha * alpha / lambda;
-    Estimate::Camera(FxFyCxCy {
-        fx: alpha,
-        fy: beta,
-        cx: u0,
-        cy: v0,
-    })
+    Estimate::Camera(camera_of(b, denom, v0, lambda))
 }

@@ -1,5 +1,5 @@
 -- `zhang::from_homographies` meets its contract: each test of the code is the definition's. Assumes nothing.
-use mathlib.Core.Path.{_≡_}
+use mathlib.Core.Path.{_≡_, refl}
 use mathlib.Core.Bool.{true, false, not}
 use borrow.Author.Tests.{not-true, not-false}
 use borrow.Author.Needs.{needs}
@@ -9,7 +9,7 @@ use Rattle.float.specs.Float.{absOf}
 use Rattle.float.specs.Sign.{plusZero}
 use Rattle.zhang.specs.declared.Conic.{Conic}
 use Rattle.zhang.specs.declared.Estimate.the-variants.{Camera, Refused}
-use Rattle.zhang.specs.Zhang.{definite, fromHomographies, leastDefinite, leastB11, denom, norm, v0, lambda, alpha, beta, u0}
+use Rattle.zhang.specs.Zhang.{definite, fromHomographies, leastDefinite, leastB11, denom, norm, lambda, cameraOf}
 use Rattle.zhang.proofs.from_homographies.Statement.{statement}
 use Rattle.zhang.proofs.from_homographies.Tie as tie
 
@@ -35,7 +35,7 @@ module _ (b : Conic) where
         unlike s =
             simp (not-false (lt plusZero (norm b)) n, not-false (lt leastDefinite (denom b /₆₄ norm b)) d, rw abs at l, not-true (lt plusZero (lambda b /₆₄ b .b11)) s)
 
-        camera : not (lt plusZero (lambda b /₆₄ b .b11)) ≡ false → fromHomographies b ≡ Camera (record { fx = alpha b; fy = beta b; cx = u0 b; cy = v0 b })
+        camera : not (lt plusZero (lambda b /₆₄ b .b11)) ≡ false → fromHomographies b ≡ Camera (cameraOf b)
         unfolding definite fromHomographies
         camera s =
             simp (not-false (lt plusZero (norm b)) n, not-false (lt leastDefinite (denom b /₆₄ norm b)) d, rw abs at l, not-false (lt plusZero (lambda b /₆₄ b .b11)) s)
@@ -59,17 +59,14 @@ returns-4 c =
     let p = c .before .before .before in
     unlike (p .before .before .args .b) (p .before .if1 .left) (p .if2 .left) (c .before .before .abs .result) (c .before .before .abs .ensures) (c .before .if3 .left) (c .if4 .taken)
 
-sqrt-requires : tie.Need-sqrt-requires
-sqrt-requires c κs = search needs
-
-sqrt-requires-2 : tie.Need-sqrt-requires-2
-sqrt-requires-2 c κs = search needs
+camera-of-requires : tie.Need-camera-of-requires
+camera-of-requires c κs = (refl, refl, refl)
 
 returns-5 : tie.Need-returns-5
 returns-5 c =
-    let q = c .before .before in
+    let q = c .before in
     let p = q .before .before .before in
-    simp (c .before .sqrt .ensures, c .sqrt2 .ensures, camera (p .before .before .args .b) (p .before .if1 .left) (p .if2 .left) (q .before .before .abs .result) (q .before .before .abs .ensures) (q .before .if3 .left) (q .if4 .left))
+    simp (c .camera-of .ensures, camera (p .before .before .args .b) (p .before .if1 .left) (p .if2 .left) (q .before .before .abs .result) (q .before .before .abs .ensures) (q .before .if3 .left) (q .if4 .left))
 
 pub from-homographies-spec : {M : Type 1} → statement M
 from-homographies-spec =
@@ -80,6 +77,5 @@ from-homographies-spec =
     abs-requires
     returns-3
     returns-4
-    sqrt-requires
-    sqrt-requires-2
+    camera-of-requires
     returns-5)
