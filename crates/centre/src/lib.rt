@@ -2,7 +2,11 @@
 
 ghost use mathlib.Core.Path.{_≡_};
 ghost use mathlib.Core.Bool.{_&&_};
+ghost use lib.Ieee.{le};
+ghost use Rattle.float.specs.Binary64.{_+₆₄_, _*₆₄_};
 ghost use Rattle.float.specs.Float.{isFinite};
+ghost use Rattle.float.specs.Sign.{plusZero};
+ghost use Rattle.models.specs.Constants.{half};
 ghost use Rattle.centre.specs.Centre.{widen, extentOf, allFinite, centerOf, centerReply};
 use models::math::Pt2;
 use points::linalg;
@@ -66,25 +70,33 @@ fn all_finite(e: Extent) -> bool
     both_finite(e.min_x, e.min_y) && both_finite(e.max_x, e.max_y)
 }
 
+fn none_negative(e: Extent) -> bool
+    ensures { λ r. ⌜ r ≡ (le plusZero (e .«min_x») && le plusZero (e .«min_y»)) ⌝ }
+{
+    e.min_x >= 0.0 && e.min_y >= 0.0
+}
+
+fn middle(e: Extent) -> Pt2
+    ensures { λ r. ⌜ r ≡ record { x = half *₆₄ (e .«min_x» +₆₄ e .«max_x»); y = half *₆₄ (e .«min_y» +₆₄ e .«max_y») } ⌝ }
+{
+    Pt2 {
+        x: 0.5 * (e.min_x + e.max_x),
+        y: 0.5 * (e.min_y + e.max_y),
+    }
+}
+
 // Half the greatest coordinates if none is negative, else the middle of the range.
 fn center_of(e: Extent) -> Pt2
     ensures { λ r. ⌜ r ≡ centerOf e ⌝ }
 {
-    let min_x = e.min_x;
-    let min_y = e.min_y;
-    let max_x = e.max_x;
-    let max_y = e.max_y;
     if all_finite(e) {
-        if min_x >= 0.0 && min_y >= 0.0 {
+        if none_negative(e) {
             return Pt2 {
-                x: 0.5 * max_x,
-                y: 0.5 * max_y,
+                x: 0.5 * e.max_x,
+                y: 0.5 * e.max_y,
             };
         }
-        return Pt2 {
-            x: 0.5 * (min_x + max_x),
-            y: 0.5 * (min_y + max_y),
-        };
+        return middle(e);
     }
     Pt2 { x: 0.0, y: 0.0 }
 }

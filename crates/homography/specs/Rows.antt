@@ -64,6 +64,14 @@ rowsOf ts td src dst = eachPair (movedRows ts td) src dst
 
 -- ---- the refusals: 17 for either list; 18 for less room than 18 numbers a source point; 20, 21 a number that isn't finite;
 -- 22 fewer than 4 source points; 23 counts that differ; 24, 25 collinear points; and last 26, where no similarity is found
+abbrev pub placeConditions : List Float → List Float → List Check
+placeConditions src dst =
+    (22 when ltb (length src) 8)
+    ∷ (23 when not (eqb (length dst) (length src)))
+    ∷ (24 when collinearOf src)
+    ∷ (25 when collinearOf dst)
+    ∷ []
+
 abbrev pub conditions : List Float → List Float → ℕ → List Check
 conditions src dst room =
     (17 when badLength (length src))
@@ -71,11 +79,7 @@ conditions src dst room =
     ∷ (18 when ltb room (9 * length src))
     ∷ (20 when not (allFinite src))
     ∷ (21 when not (allFinite dst))
-    ∷ (22 when ltb (length src) 8)
-    ∷ (23 when not (eqb (length dst) (length src)))
-    ∷ (24 when collinearOf src)
-    ∷ (25 when collinearOf dst)
-    ∷ []
+    ∷ placeConditions src dst
 
 abbrev pub pointsRefusal : List Float → List Float → ℕ → ℕ
 pointsRefusal src dst room = firstRefusal (conditions src dst room)

@@ -4,8 +4,9 @@ ghost use mathlib.Core.Path.{_≡_};
 ghost use Prim.Native.Nat.{_+_, _*_, _≤_};
 ghost use lib.ListN.{length};
 ghost use lib.Seq.{sets};
+ghost use Rattle.common.specs.Refusal.{firstRefusal};
 ghost use Rattle.homography.specs.Line.{crossOf, offLine, firstDistinct, anyOff, collinearOf, lineReply};
-ghost use Rattle.homography.specs.Rows.{allFinite, pairRows, rowsOf, pointsRefusal, rowsReply, rowsInto};
+ghost use Rattle.homography.specs.Rows.{allFinite, placeConditions, pairRows, rowsOf, pointsRefusal, rowsReply, rowsInto};
 use models::math::Pt2;
 use points::linalg;
 use points::linalg::Normalizer;
@@ -148,6 +149,25 @@ fn put_rows(a: &mut [f64], src: &[f64], dst: &[f64], ts: Similarity, td: Similar
     }
 }
 
+// The number of the first refusal from 22 to 25, and 0 where there is none.
+fn place_refusal(src: &[f64], dst: &[f64]) -> u8
+    ensures { λ r. ⌜ r ≡ firstRefusal (placeConditions (now (src .entry)) (now (dst .entry))) ⌝ }
+{
+    if src.len() < 8 {
+        return 22;
+    }
+    if dst.len() != src.len() {
+        return 23;
+    }
+    if collinear(src) {
+        return 24;
+    }
+    if collinear(dst) {
+        return 25;
+    }
+    0
+}
+
 // The number of the first refusal but 26, and 0 where there is none.
 fn points_refusal(src: &[f64], dst: &[f64], room: usize) -> u8
     ensures { λ r. ⌜ r ≡ pointsRefusal (now (src .entry)) (now (dst .entry)) room ⌝ }
@@ -167,19 +187,7 @@ fn points_refusal(src: &[f64], dst: &[f64], room: usize) -> u8
     if !all_finite(dst) {
         return 21;
     }
-    if src.len() < 8 {
-        return 22;
-    }
-    if dst.len() != src.len() {
-        return 23;
-    }
-    if collinear(src) {
-        return 24;
-    }
-    if collinear(dst) {
-        return 25;
-    }
-    0
+    place_refusal(src, dst)
 }
 
 // The 2n × 9 design matrix of the homography from src to dst, row by row at the front of a.

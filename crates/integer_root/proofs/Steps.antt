@@ -52,13 +52,6 @@ root-27 r t m e h = square-lt-back r (2 ^ 27) (omega arith)
 
 -- ---- the root from a guess
 
--- the quotient of a product of 32 and 32 digits, and of 29 and 32
-pub high : (t y : ℕ) → t < 2 ^ 32 → y < 2 ^ 32 → t * y / 2 ^ 36 < 2 ^ 28
-high t y h k = omega (arith, product 32 32 t y h k)
-
-pub low : (a y : ℕ) → a < 2 ^ 29 → y < 2 ^ 32 → a * y / 2 ^ 33 < 2 ^ 28
-low a y h k = omega (arith, product 29 32 a y h k)
-
 -- Three differences, none of which has wrapped: of m and h's square, of that and twice h times l, of that and l's square.
 pub joined : (m h l a d t : ℕ) → h < 2 ^ 28 → l < 2 ^ 28 → a < 2 ^ 29 → d < 2 ^ 37 → t ≤ 3 * (h * 2 ^ 26 + l) + 2 → (a + h * h) % 2 ^ 64 ≡ m → (d + 2 * h * l) % 2 ^ 64 ≡ a * 2 ^ 26 → (t + l * l) % 2 ^ 64 ≡ d * 2 ^ 26 → (h * 2 ^ 26 + l) * (h * 2 ^ 26 + l) + t ≡ m * 4 ^ 26
 joined m h l a d t H L A D T e f g =

@@ -27,18 +27,34 @@ fn nearest_by_digits(m: u64) -> u64
     nearest_whole(p.root, p.remainder)
 }
 
-// The root of m * 2^52, rounded. h is near the root of m, and l, about half of what h's square leaves over times y, has the 26
-// binary digits behind. A difference below 0 wraps, and is too great then.
+// Near the root of m.
+fn high_digits(m: u64, y: u64) -> u64
+    requires { ⌜ (m < 2 ^ 54) × (y < 2 ^ 32) ⌝ }
+    ensures { λ r. ⌜ r < 2 ^ 28 ⌝ }
+{
+    ((m >> 22) * y) >> 36
+}
+
+// About half of what is left over times y: the 26 binary digits behind.
+fn low_digits(a: u64, y: u64) -> u64
+    requires { ⌜ (a < 2 ^ 29) × (y < 2 ^ 32) ⌝ }
+    ensures { λ r. ⌜ r < 2 ^ 28 ⌝ }
+{
+    (a * y) >> 33
+}
+
+// The root of m * 2^52, rounded, of which h and l make a guess; a is what h's square leaves over. A difference below 0 wraps, and
+// is too great then.
 pub fn nearest_root(m: u64, y: u64) -> u64
     requires { ⌜ (0 < m) × (m < 2 ^ 54) × (y < 2 ^ 32) ⌝ }
     ensures { λ r. ⌜ NearestRoot (m * 4 ^ 26) r ⌝ }
 {
-    let h = ((m >> 22) * y) >> 36;
+    let h = high_digits(m, y);
     let a = std::num::wrapping_sub_u64(m, h * h);
     if a >= 0x2000_0000 {
         return nearest_by_digits(m);
     }
-    let l = (a * y) >> 33;
+    let l = low_digits(a, y);
     let d = std::num::wrapping_sub_u64(a * 0x400_0000, 2 * h * l);
     if d >= 0x20_0000_0000 {
         return nearest_by_digits(m);

@@ -2,9 +2,11 @@
 // Points are read from a lent slice, x then y, and written to the front of a lent destination. A refusal writes nothing.
 
 ghost use mathlib.Core.Path.{_≡_};
+ghost use mathlib.Core.Bool.{_||_};
 ghost use Prim.Native.Nat.{_%_, _≤_};
+ghost use lib.Dec.{eqb, ltb};
 ghost use lib.ListN.{length};
-ghost use Rattle.maps.specs.Maps.{mappedPoint, written, refusalOf, mapReply, mapDestination};
+ghost use Rattle.maps.specs.Maps.{withoutLens, mappedPoint, written, refusalOf, mapReply, mapDestination};
 ghost use Rattle.sensor.specs.Sensor.{tiltProjectionMatrix};
 use distortion::BrownConrady5;
 use models::intrinsics::FxFyCxCy;
@@ -21,18 +23,22 @@ pub enum Mapped {
     Refused(u8),
 }
 
+// The point without the lens's distortion, where that is to go.
+fn without_lens(lens: Lens, p: Pt2) -> Pt2
+    ensures { λ r. ⌜ r ≡ withoutLens lens p ⌝ }
+{
+    match lens {
+        Lens::Kept => p,
+        Lens::Removed(b, iters) => undistortion::undistort(b, iters, p),
+    }
+}
+
 fn map_point(k: FxFyCxCy, lens: Lens, h_inv: [[f64; 3]; 3], pixel: Pt2) -> Pt2
     ensures { λ r. ⌜ r ≡ mappedPoint k lens «h_inv» pixel ⌝ }
 {
     let sensor = models::intrinsics::pixel_to_sensor(k, pixel);
     let normalized = sensor::apply_homography_inverse(h_inv, sensor);
-    match lens {
-        Lens::Kept => models::intrinsics::sensor_to_pixel(k, normalized),
-        Lens::Removed(b, iters) => {
-            let ideal = undistortion::undistort(b, iters, normalized);
-            models::intrinsics::sensor_to_pixel(k, ideal)
-        }
-    }
+    models::intrinsics::sensor_to_pixel(k, without_lens(lens, normalized))
 }
 
 fn map_points(k: FxFyCxCy, lens: Lens, h_inv: [[f64; 3]; 3], points: &[f64], to: &mut [f64])
@@ -41,25 +47,33 @@ fn map_points(k: FxFyCxCy, lens: Lens, h_inv: [[f64; 3]; 3], points: &[f64], to:
 {
     let mut i = 0;
     while i < points.len() {
-        let pixel = Pt2 {
-            x: points[i],
-            y: points[i + 1],
-        };
-        let mapped = map_point(k, lens, h_inv, pixel);
+        let mapped = map_point(
+            k,
+            lens,
+            h_inv,
+            Pt2 {
+                x: points[i],
+                y: points[i + 1],
+            },
+        );
         to[i] = mapped.x;
         to[i + 1] = mapped.y;
         i += 2;
     }
 }
 
+// Whether so many numbers are no list of points, or one of more than 400.
+fn bad_length(numbers: usize) -> bool
+    ensures { λ r. ⌜ r ≡ (eqb (numbers % 2) 1 || ltb 800 numbers) ⌝ }
+{
+    numbers % 2 == 1 || numbers > 800
+}
+
 // The number of the first reason to refuse, 0 where there is none.
 fn refusal(h: [[f64; 3]; 3], numbers: usize, room: usize) -> u8
     ensures { λ r. ⌜ r ≡ refusalOf h numbers room ⌝ }
 {
-    if numbers % 2 == 1 {
-        return 17;
-    }
-    if numbers > 800 {
+    if bad_length(numbers) {
         return 17;
     }
     if room < numbers {

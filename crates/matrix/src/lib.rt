@@ -3,13 +3,24 @@
 
 ghost use mathlib.Core.Path.{_≡_};
 ghost use Prim.Native.Nat.{_<_};
-ghost use Rattle.matrix.specs.Matrix.{productEntry, productOf, firstOther, secondOther, determinant2Of, minorOf, cofactorOf, determinantOf, inverseEntry, inverseOf, rowOf};
+ghost use Rattle.float.specs.Binary64.{_*₆₄_};
+ghost use Rattle.matrix.specs.Matrix.{at, productEntry, productOf, firstOther, secondOther, determinant2Of, minorOf, cofactorOf, determinantOf, inverseEntry, inverseOf, rowOf};
+
+// The entry at row i and column j.
+pub fn entry(m: [[f64; 3]; 3], i: usize, j: usize) -> f64
+    requires { ⌜ (i < 3) × (j < 3) ⌝ }
+    ensures { λ r. ⌜ r ≡ at m i j ⌝ }
+{
+    m[i][j]
+}
 
 fn product_entry(a: [[f64; 3]; 3], b: [[f64; 3]; 3], i: usize, j: usize) -> f64
     requires { ⌜ (i < 3) × (j < 3) ⌝ }
     ensures { λ r. ⌜ r ≡ productEntry a b i j ⌝ }
 {
-    a[i][0] * b[0][j] + a[i][1] * b[1][j] + a[i][2] * b[2][j]
+    entry(a, i, 0) * entry(b, 0, j)
+        + entry(a, i, 1) * entry(b, 1, j)
+        + entry(a, i, 2) * entry(b, 2, j)
 }
 
 fn product_row(a: [[f64; 3]; 3], b: [[f64; 3]; 3], i: usize) -> [f64; 3]
@@ -50,7 +61,7 @@ fn determinant2(m: [[f64; 3]; 3], r0: usize, r1: usize, c0: usize, c1: usize) ->
     requires { ⌜ (r0 < 3) × ((r1 < 3) × ((c0 < 3) × (c1 < 3))) ⌝ }
     ensures { λ r. ⌜ r ≡ determinant2Of m r0 r1 c0 c1 ⌝ }
 {
-    m[r0][c0] * m[r1][c1] - m[r0][c1] * m[r1][c0]
+    entry(m, r0, c0) * entry(m, r1, c1) - entry(m, r0, c1) * entry(m, r1, c0)
 }
 
 fn minor(m: [[f64; 3]; 3], i: usize, j: usize) -> f64
@@ -73,10 +84,18 @@ fn cofactor(m: [[f64; 3]; 3], i: usize, j: usize) -> f64
     if (i + j) % 2 == 0 { value } else { -value }
 }
 
+// The entry of the first row in column j, times its minor.
+fn expansion_term(m: [[f64; 3]; 3], j: usize) -> f64
+    requires { ⌜ j < 3 ⌝ }
+    ensures { λ r. ⌜ r ≡ at m 0 j *₆₄ minorOf m 0 j ⌝ }
+{
+    entry(m, 0, j) * minor(m, 0, j)
+}
+
 pub fn determinant(m: [[f64; 3]; 3]) -> f64
     ensures { λ r. ⌜ r ≡ determinantOf m ⌝ }
 {
-    m[0][0] * minor(m, 0, 0) - m[0][1] * minor(m, 0, 1) + m[0][2] * minor(m, 0, 2)
+    expansion_term(m, 0) - expansion_term(m, 1) + expansion_term(m, 2)
 }
 
 fn inverse_row(m: [[f64; 3]; 3], i: usize) -> [f64; 3]

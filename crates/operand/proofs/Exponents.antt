@@ -9,8 +9,16 @@ use native.Mathlib.Omega.{arith}
 use lib.IntN.{ℤ, pos, negsuc, subℕ, _+ℤ_}
 use lib.Dec.{T, ltb, ltb→lt, nltb→le}
 use lib.Signed.{mag}
+use mir.Syntax.{w64}
+use mir.Val.{toZ, ofZ}
+use mir.Facts.{toZ-ofZ}
+use borrow.Author.Needs.{sfits-of}
 use Rattle.operand.specs.Exponent.{natural, shifted}
 use Rattle.square_root.specs.IntegerRoot.{four-pow}
+
+-- a signed result, read back from its bits
+pub read : (e : ℤ) (g : ℕ) → mag e < 2 ^ 63 → shifted e ≡ g → shifted (toZ w64 (ofZ w64 e)) ≡ g
+read e g ok h = ap shifted (toZ-ofZ {w = w64} (sfits-of {w = w64} ok)) ∙ h
 
 pub shifted-is : (e : ℤ) → 0 < shifted e → e +ℤ pos 2148 ≡ pos (shifted e)
 unfolding shifted

@@ -2,6 +2,7 @@
 
 ghost use mathlib.Core.Path.{_≡_};
 ghost use Prim.Native.Nat.{_+_, _*_, _^_, _<_, _≤_};
+ghost use lib.Ieee.{nan, binary64, ofBits};
 ghost use Rattle.operand.specs.Operand.{Bounded, Decomposed};
 ghost use Rattle.operand.specs.Exponent.{shifted};
 
@@ -46,26 +47,47 @@ fn with_even_exponent(m: u64, e: i64) -> Scaled
     }
 }
 
+// The bits of a subnormal number: the leading digit is moved to the place that it has in a normal number.
+fn subnormal(b: u64) -> Scaled
+    requires { ⌜ (0 < b) × (b < 2 ^ 52) ⌝ }
+    ensures { λ r. ⌜ Decomposed (ofBits binary64 b) (Operand.Positive r) ⌝ }
+{
+    let z = (u64::leading_zeros(b) - 11) as u64;
+    with_even_exponent(b << z, exponent(53 - z))
+}
+
+// The bits of a normal number: the field of the exponent, and the leading digit that the bits leave out.
+fn normal(b: u64) -> Scaled
+    requires { ⌜ (2 ^ 52 ≤ b) × (b < 0x7ff0_0000_0000_0000) ⌝ }
+    ensures { λ r. ⌜ Decomposed (ofBits binary64 b) (Operand.Positive r) ⌝ }
+{
+    let m = b % 0x10_0000_0000_0000 + 0x10_0000_0000_0000;
+    with_even_exponent(m, exponent((b >> 52) + 52))
+}
+
+// The root of a NaN and of a negative number.
+fn no_root() -> f64
+    ensures { λ r. ⌜ r ≡ nan ⌝ }
+{
+    0.0 / 0.0
+}
+
 // The tests are on the bits: their order is the numbers' for positive ones, and a sign makes them greater than all those.
 pub fn decompose(x: f64) -> Operand
     ensures { λ r. ⌜ Decomposed x r ⌝ }
 {
     if x != x {
-        return Operand::Known(0.0 / 0.0);
+        return Operand::Known(no_root());
     }
     let b = f64::to_bits(x);
     if b == 0 {
         return Operand::Known(0.0);
     }
-    // Subnormal: the leading digit is moved to the place that it has in a normal number.
     if b < 0x10_0000_0000_0000 {
-        let z = (u64::leading_zeros(b) - 11) as u64;
-        return Operand::Positive(with_even_exponent(b << z, exponent(53 - z)));
+        return Operand::Positive(subnormal(b));
     }
-    // Normal: the field of the exponent, and the leading digit that the bits leave out.
     if b < 0x7ff0_0000_0000_0000 {
-        let m = b % 0x10_0000_0000_0000 + 0x10_0000_0000_0000;
-        return Operand::Positive(with_even_exponent(m, exponent((b >> 52) + 52)));
+        return Operand::Positive(normal(b));
     }
     if b < 0x8000_0000_0000_0000 {
         return Operand::Known(x);
@@ -73,5 +95,5 @@ pub fn decompose(x: f64) -> Operand
     if b == 0x8000_0000_0000_0000 {
         return Operand::Known(-0.0);
     }
-    Operand::Known(0.0 / 0.0)
+    Operand::Known(no_root())
 }

@@ -23,13 +23,29 @@ fn rounded(s: Scaled, guess: u64) -> f64
     f64::from_bits((s.half - 26) * 0x10_0000_0000_0000 + q)
 }
 
+// The root of s from the estimate.
+fn estimated(s: Scaled) -> f64
+    requires { ⌜ Bounded s ⌝ }
+    ensures { λ r. ⌜ r ≡ rootOf binary64 (s .significand * 4 ^ s .half) ⌝ }
+{
+    rounded(s, reciprocal_root(s.significand))
+}
+
+// The root of s from any guess.
+fn guessed(s: Scaled, guess: u64) -> f64
+    requires { ⌜ Bounded s ⌝ }
+    ensures { λ r. ⌜ r ≡ rootOf binary64 (s .significand * 4 ^ s .half) ⌝ }
+{
+    rounded(s, guess % 0x1_0000_0000)
+}
+
 // The square root, correctly rounded.
 pub fn sqrt(x: f64) -> f64
     ensures { λ r. ⌜ r ≡ root binary64 x ⌝ }
 {
     match decompose(x) {
         Operand::Known(r) => r,
-        Operand::Positive(s) => rounded(s, reciprocal_root(s.significand)),
+        Operand::Positive(s) => estimated(s),
     }
 }
 
@@ -39,6 +55,6 @@ pub fn sqrt_from(x: f64, guess: u64) -> f64
 {
     match decompose(x) {
         Operand::Known(r) => r,
-        Operand::Positive(s) => rounded(s, guess % 0x1_0000_0000),
+        Operand::Positive(s) => guessed(s, guess),
     }
 }

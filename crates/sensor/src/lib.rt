@@ -3,8 +3,12 @@
 
 ghost use mathlib.Core.Path.{_≡_};
 ghost use Prim.Native.Nat.{_<_};
-ghost use Rattle.sensor.specs.Sensor.{tiltProjectionMatrix, tiltVerdict, tiltNumber, homogeneous, forwardDepth, inverseDepth, applyHomography, applyHomographyInverse};
+ghost use lib.Ieee.{eq};
+ghost use Rattle.float.specs.Sign.{plusZero};
+ghost use Rattle.matrix.specs.Matrix.{productOf, determinantOf};
+ghost use Rattle.sensor.specs.Sensor.{rotX, rotY, projZ, tiltProjectionMatrix, tiltVerdict, tiltNumber, homogeneous, forwardDepth, inverseDepth, applyHomography, applyHomographyInverse};
 use matrix::determinant;
+use matrix::entry;
 use matrix::product;
 use models::math::Pt2;
 
@@ -21,26 +25,46 @@ pub enum Tilt {
     Refused(u8),
 }
 
+// The rotation by both tilts, from the sine and cosine of each.
+fn rotation(sin_x: f64, cos_x: f64, sin_y: f64, cos_y: f64) -> [[f64; 3]; 3]
+    ensures { λ r. ⌜ r ≡ productOf (rotY «sin_y» «cos_y») (rotX «sin_x» «cos_x») ⌝ }
+{
+    let rot_x = [[1.0, 0.0, 0.0], [0.0, cos_x, sin_x], [0.0, -sin_x, cos_x]];
+    let rot_y = [[cos_y, 0.0, -sin_y], [0.0, 1.0, 0.0], [sin_y, 0.0, cos_y]];
+    product(rot_y, rot_x)
+}
+
+// The projection onto the tilted plane, by the rotation's last column.
+fn plane_projection(r: [[f64; 3]; 3]) -> [[f64; 3]; 3]
+    ensures { λ proj_z. ⌜ proj_z ≡ projZ r ⌝ }
+{
+    let z = entry(r, 2, 2);
+    [
+        [z, 0.0, -entry(r, 0, 2)],
+        [0.0, z, -entry(r, 1, 2)],
+        [0.0, 0.0, 1.0],
+    ]
+}
+
 // OpenCV's homography of a tilted sensor, from the sine and cosine of each tilt.
 pub fn tilt_projection_matrix(sin_x: f64, cos_x: f64, sin_y: f64, cos_y: f64) -> [[f64; 3]; 3]
     ensures { λ r. ⌜ r ≡ tiltProjectionMatrix «sin_x» «cos_x» «sin_y» «cos_y» ⌝ }
 {
-    let rot_x = [[1.0, 0.0, 0.0], [0.0, cos_x, sin_x], [0.0, -sin_x, cos_x]];
-    let rot_y = [[cos_y, 0.0, -sin_y], [0.0, 1.0, 0.0], [sin_y, 0.0, cos_y]];
-    let r = product(rot_y, rot_x);
-    let proj_z = [
-        [r[2][2], 0.0, -r[0][2]],
-        [0.0, r[2][2], -r[1][2]],
-        [0.0, 0.0, 1.0],
-    ];
-    product(proj_z, r)
+    let r = rotation(sin_x, cos_x, sin_y, cos_y);
+    product(plane_projection(r), r)
+}
+
+fn is_singular(h: [[f64; 3]; 3]) -> bool
+    ensures { λ r. ⌜ r ≡ eq (determinantOf h) plusZero ⌝ }
+{
+    determinant(h) == 0.0
 }
 
 // A determinant of either zero is refused; a NaN or an infinity is not zero, and passes.
 pub fn tilt_verdict(h: [[f64; 3]; 3]) -> Tilt
     ensures { λ r. ⌜ r ≡ tiltVerdict h ⌝ }
 {
-    if determinant(h) == 0.0 {
+    if is_singular(h) {
         Tilt::Refused(15)
     } else {
         Tilt::Invertible
@@ -61,7 +85,7 @@ fn homogeneous_entry(h: [[f64; 3]; 3], p: Pt2, i: usize) -> f64
     requires { ⌜ i < 3 ⌝ }
     ensures { λ r. ⌜ r ≡ homogeneous h p i ⌝ }
 {
-    h[i][0] * p.x + h[i][1] * p.y + h[i][2] * 1.0
+    entry(h, i, 0) * p.x + entry(h, i, 1) * p.y + entry(h, i, 2) * 1.0
 }
 
 fn forward_depth(z: f64) -> f64

@@ -38,14 +38,16 @@ unfoldable pub singular : Jacobian → Bool
 singular j = eq (jacobianDeterminant j) plusZero || not (isFinite (jacobianDeterminant j))
 
 -- the inverse Jacobian times the error
-unfoldable pub newtonStep : Estimate → Pt2
-newtonStep e =
-    let j = e .jacobian in
+unfoldable pub stepOf : Jacobian → Pt2 → Pt2
+stepOf j error =
     let det = jacobianDeterminant j in
     record {
-      x = (j .yy *₆₄ e .error .x -₆₄ j .xy *₆₄ e .error .y) /₆₄ det;
-      y = (j .xx *₆₄ e .error .y -₆₄ j .yx *₆₄ e .error .x) /₆₄ det;
+      x = (j .yy *₆₄ error .x -₆₄ j .xy *₆₄ error .y) /₆₄ det;
+      y = (j .xx *₆₄ error .y -₆₄ j .yx *₆₄ error .x) /₆₄ det;
     }
+
+abbrev pub newtonStep : Estimate → Pt2
+newtonStep e = stepOf (e .jacobian) (e .error)
 
 -- an estimate is taken in place of e where its squared residual is finite and lower
 unfoldable pub improves : Estimate → Estimate → Bool

@@ -2,7 +2,10 @@
 // Each function equals its rule, rounded operation by operation, for every input.
 
 ghost use mathlib.Core.Path.{_≡_};
-ghost use Rattle.undistortion.specs.Undistortion.{estimateAt, singular, newtonStep, improves, trials, smallStep, afterTrials, newtonTurn, lastStep, newtonUndistorted, undistorted};
+ghost use mathlib.Core.Bool.{cond};
+ghost use lib.Dec.{eqb};
+ghost use Rattle.distortion.specs.Distortion.{squaredNorm};
+ghost use Rattle.undistortion.specs.Undistortion.{minusPoint, halved, estimateAt, jacobianDeterminant, singular, stepOf, improves, trials, smallStep, afterTrials, newtonTurn, lastStep, newtonUndistorted, undistorted};
 use distortion::BrownConrady5;
 use distortion::Jacobian;
 use distortion::distort_with_jacobian;
@@ -28,36 +31,50 @@ pub enum Turn {
     Next(Estimate),
 }
 
+fn squared_norm(p: Pt2) -> f64
+    ensures { λ r. ⌜ r ≡ squaredNorm p ⌝ }
+{
+    p.x * p.x + p.y * p.y
+}
+
+fn difference(p: Pt2, q: Pt2) -> Pt2
+    ensures { λ r. ⌜ r ≡ minusPoint p q ⌝ }
+{
+    Pt2 {
+        x: p.x - q.x,
+        y: p.y - q.y,
+    }
+}
+
 fn estimate_at(b: BrownConrady5, target: Pt2, p: Pt2) -> Estimate
     ensures { λ r. ⌜ r ≡ estimateAt b target p ⌝ }
 {
     let at = distort_with_jacobian(b, p);
-    let point = at.point;
     let jacobian = at.jacobian;
-    let error = Pt2 {
-        x: point.x - target.x,
-        y: point.y - target.y,
-    };
     Estimate {
         point: p,
-        error,
+        error: difference(at.point, target),
         jacobian,
     }
+}
+
+fn jacobian_determinant(j: Jacobian) -> f64
+    ensures { λ r. ⌜ r ≡ jacobianDeterminant j ⌝ }
+{
+    j.xx * j.yy - j.xy * j.yx
 }
 
 fn is_singular(j: Jacobian) -> bool
     ensures { λ r. ⌜ r ≡ singular j ⌝ }
 {
-    let det = j.xx * j.yy - j.xy * j.yx;
+    let det = jacobian_determinant(j);
     det == 0.0 || !float::is_finite(det)
 }
 
-fn newton_step(e: Estimate) -> Pt2
-    ensures { λ r. ⌜ r ≡ newtonStep e ⌝ }
+fn newton_step(j: Jacobian, error: Pt2) -> Pt2
+    ensures { λ r. ⌜ r ≡ stepOf j error ⌝ }
 {
-    let j = e.jacobian;
-    let error = e.error;
-    let det = j.xx * j.yy - j.xy * j.yx;
+    let det = jacobian_determinant(j);
     Pt2 {
         x: (j.yy * error.x - j.xy * error.y) / det,
         y: (j.xx * error.y - j.yx * error.x) / det,
@@ -67,32 +84,31 @@ fn newton_step(e: Estimate) -> Pt2
 fn is_better(next: Estimate, e: Estimate) -> bool
     ensures { λ r. ⌜ r ≡ improves next e ⌝ }
 {
-    let to = next.error;
-    let from = e.error;
-    let lower = to.x * to.x + to.y * to.y;
-    float::is_finite(lower) && lower < from.x * from.x + from.y * from.y
+    let lower = squared_norm(next.error);
+    float::is_finite(lower) && lower < squared_norm(e.error)
+}
+
+fn half_of(p: Pt2) -> Pt2
+    ensures { λ r. ⌜ r ≡ halved p ⌝ }
+{
+    Pt2 {
+        x: p.x * 0.5,
+        y: p.y * 0.5,
+    }
 }
 
 // The first of 30 steps, each half of the one before, after which the estimate is better.
 fn line_search(b: BrownConrady5, target: Pt2, e: Estimate, first: Pt2) -> Search
     ensures { λ r. ⌜ r ≡ trials 30 b target e first ⌝ }
 {
-    let from = e.point;
     let mut step = first;
     let mut left: u32 = 30;
     while left > 0 {
-        let to = Pt2 {
-            x: from.x - step.x,
-            y: from.y - step.y,
-        };
-        let next = estimate_at(b, target, to);
+        let next = estimate_at(b, target, difference(e.point, step));
         if is_better(next, e) {
             return Search::Accepted(next, step);
         }
-        step = Pt2 {
-            x: step.x * 0.5,
-            y: step.y * 0.5,
-        };
+        step = half_of(step);
         left -= 1;
     }
     Search::Exhausted
@@ -104,7 +120,7 @@ fn is_small(step: Pt2, p: Pt2) -> bool
 {
     // 2 ^ -100
     let tolerance = 7.888609052210118e-31;
-    step.x * step.x + step.y * step.y <= tolerance * (1.0 + p.x * p.x + p.y * p.y)
+    squared_norm(step) <= tolerance * (1.0 + p.x * p.x + p.y * p.y)
 }
 
 fn after_trials(found: Search) -> Turn
@@ -125,29 +141,23 @@ fn after_trials(found: Search) -> Turn
 fn newton_turn(b: BrownConrady5, target: Pt2, e: Estimate) -> Turn
     ensures { λ r. ⌜ r ≡ newtonTurn b target e ⌝ }
 {
-    let error = e.error;
-    if error.x * error.x + error.y * error.y == 0.0 {
+    if squared_norm(e.error) == 0.0 {
         return Turn::Ended;
     }
     if is_singular(e.jacobian) {
         return Turn::Ended;
     }
-    after_trials(line_search(b, target, e, newton_step(e)))
+    after_trials(line_search(b, target, e, newton_step(e.jacobian, e.error)))
 }
 
 // One Newton step more, which the turns' tests do not see.
 fn last_step(e: Estimate) -> Pt2
     ensures { λ r. ⌜ r ≡ lastStep e ⌝ }
 {
-    let p = e.point;
     if is_singular(e.jacobian) {
-        return p;
+        return e.point;
     }
-    let step = newton_step(e);
-    Pt2 {
-        x: p.x - step.x,
-        y: p.y - step.y,
-    }
+    difference(e.point, newton_step(e.jacobian, e.error))
 }
 
 fn newton_undistort(b: BrownConrady5, n_dist: Pt2, max_iters: u32) -> Pt2
@@ -194,14 +204,25 @@ fn undistort_numbers(
     )
 }
 
+// The number of turns: 0 stands for 20.
+fn turns(iters: u32) -> u32
+    ensures { λ r. ⌜ r ≡ cond (eqb iters 0) 20 iters ⌝ }
+{
+    if iters == 0 { 20 } else { iters }
+}
+
 // The point whose distortion is `n_dist`, as far as `iters` turns of Newton's method find it; 0 stands for 20.
 pub fn undistort(b: BrownConrady5, iters: u32, n_dist: Pt2) -> Pt2
     ensures { λ r. ⌜ r ≡ undistorted b iters «n_dist» ⌝ }
 {
-    let x = n_dist.x;
-    let y = n_dist.y;
-    if iters == 0 {
-        return undistort_numbers(b.k1, b.k2, b.k3, b.p1, b.p2, x, y, 20);
-    }
-    undistort_numbers(b.k1, b.k2, b.k3, b.p1, b.p2, x, y, iters)
+    undistort_numbers(
+        b.k1,
+        b.k2,
+        b.k3,
+        b.p1,
+        b.p2,
+        n_dist.x,
+        n_dist.y,
+        turns(iters),
+    )
 }

@@ -1,6 +1,6 @@
 -- `homography::points_refusal` meets its contract: `pastK` says that with its first K conditions passed the answer is that of the rest. Assumes nothing.
 use borrow.Author.Needs.{needs}
-use borrow.Author.Tests.{lt-ltb, le-ltb, eq-eqb, ne-eqb}
+use borrow.Author.Tests.{lt-ltb, le-ltb}
 use mathlib.Core.Bool.{not}
 use mathlib.Core.Path.{_≡_, sym, ap, _∙_}
 use Prim.Native.Nat.{ℕ, _*_}
@@ -45,30 +45,6 @@ start5 c = start4 (c .before .before)
 past5 : (c : tie.Else5) → from 0 (start5 c) ≡ from 5 (start5 c)
 past5 c = past4 (c .before .before) ∙ passes (ap not (sym (c .before .all-finite2 .ensures)) ∙ c .if5 .left) _ _
 
-abbrev start6 : tie.Else6 → tie.Start
-start6 c = start5 (c .before)
-
-past6 : (c : tie.Else6) → from 0 (start6 c) ≡ from 6 (start6 c)
-past6 c = past5 (c .before) ∙ passes (le-ltb (length (start5 (c .before) .args .src .now)) 8 (c .if6 .left)) _ _
-
-abbrev start7 : tie.Else7 → tie.Start
-start7 c = start6 (c .before)
-
-past7 : (c : tie.Else7) → from 0 (start7 c) ≡ from 7 (start7 c)
-past7 c = past6 (c .before) ∙ passes (let a = start6 (c .before) .args in ap not (eq-eqb (length (a .dst .now)) (length (a .src .now)) (c .if7 .left))) _ _
-
-abbrev start8 : tie.Else8 → tie.Start
-start8 c = start7 (c .before .before)
-
-past8 : (c : tie.Else8) → from 0 (start8 c) ≡ from 8 (start8 c)
-past8 c = past7 (c .before .before) ∙ passes (sym (c .before .collinear .ensures) ∙ c .if8 .left) _ _
-
-abbrev start9 : tie.Else9 → tie.Start
-start9 c = start8 (c .before .before)
-
-past9 : (c : tie.Else9) → from 0 (start9 c) ≡ from 9 (start9 c)
-past9 c = past8 (c .before .before) ∙ passes (sym (c .before .collinear2 .ensures) ∙ c .if9 .left) _ _
-
 bad-length-requires : tie.Need-bad-length-requires
 bad-length-requires c κs = search needs
 
@@ -99,26 +75,11 @@ all-finite-requires-2 c κs = search needs
 returns-5 : tie.Need-returns-5
 returns-5 c = sym (past4 (c .before .before) ∙ refuses (ap not (sym (c .before .all-finite2 .ensures)) ∙ c .if5 .taken) _ _)
 
+place-refusal-requires : tie.Need-place-refusal-requires
+place-refusal-requires c κs = search needs
+
 returns-6 : tie.Need-returns-6
-returns-6 c = sym (past5 (c .before) ∙ refuses (lt-ltb (length (start5 (c .before) .args .src .now)) 8 (c .if6 .taken)) _ _)
-
-returns-7 : tie.Need-returns-7
-returns-7 c = sym (past6 (c .before) ∙ refuses (let a = start6 (c .before) .args in ap not (ne-eqb (length (a .dst .now)) (length (a .src .now)) (c .if7 .taken))) _ _)
-
-collinear-requires : tie.Need-collinear-requires
-collinear-requires c κs = search needs
-
-returns-8 : tie.Need-returns-8
-returns-8 c = sym (past7 (c .before .before) ∙ refuses (sym (c .before .collinear .ensures) ∙ c .if8 .taken) _ _)
-
-collinear-requires-2 : tie.Need-collinear-requires-2
-collinear-requires-2 c κs = search needs
-
-returns-9 : tie.Need-returns-9
-returns-9 c = sym (past8 (c .before .before) ∙ refuses (sym (c .before .collinear2 .ensures) ∙ c .if9 .taken) _ _)
-
-returns-10 : tie.Need-returns-10
-returns-10 c = sym (past9 c)
+returns-6 c = c .place-refusal .ensures ∙ sym (past5 (c .before))
 
 pub points-refusal-spec : {M : Type 1} → statement M
 points-refusal-spec =
@@ -134,10 +95,5 @@ points-refusal-spec =
     returns-4
     all-finite-requires-2
     returns-5
-    returns-6
-    returns-7
-    collinear-requires
-    returns-8
-    collinear-requires-2
-    returns-9
-    returns-10)
+    place-refusal-requires
+    returns-6)

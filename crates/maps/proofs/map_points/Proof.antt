@@ -19,20 +19,20 @@ abbrev μ-loop : tie.MeasureT-loop
 loop-holds : tie.Need-loop-holds Inv-loop μ-loop
 loop-holds c = (search needs, (search needs, (search needs, sym (front-none _ _ _))))
 
-mul-t9 : tie.Need-mul-t9 Inv-loop μ-loop
-mul-t9 c = search needs
+mul-t8 : tie.Need-mul-t8 Inv-loop μ-loop
+mul-t8 c = search needs
 
-shared-slice-read-t12 : tie.Need-shared-slice-read-t12 Inv-loop μ-loop
-shared-slice-read-t12 c = search needs
+shared-slice-read-t11 : tie.Need-shared-slice-read-t11 Inv-loop μ-loop
+shared-slice-read-t11 c = search needs
 
-add-t13 : tie.Need-add-t13 Inv-loop μ-loop
-add-t13 c = search needs
+add-t12 : tie.Need-add-t12 Inv-loop μ-loop
+add-t12 c = search needs
 
-mul-t14 : tie.Need-mul-t14 Inv-loop μ-loop
-mul-t14 c = search needs
+mul-t13 : tie.Need-mul-t13 Inv-loop μ-loop
+mul-t13 c = search needs
 
-shared-slice-read-t16 : tie.Need-shared-slice-read-t16 Inv-loop μ-loop
-shared-slice-read-t16 c = search needs
+shared-slice-read-t15 : tie.Need-shared-slice-read-t15 Inv-loop μ-loop
+shared-slice-read-t15 c = search needs
 
 map-point-requires : tie.Need-map-point-requires Inv-loop μ-loop
 map-point-requires c κs = search needs
@@ -84,11 +84,11 @@ map-points-spec =
     Inv-loop
     μ-loop
     loop-holds
-    mul-t9
-    shared-slice-read-t12
-    add-t13
-    mul-t14
-    shared-slice-read-t16
+    mul-t8
+    shared-slice-read-t11
+    add-t12
+    mul-t13
+    shared-slice-read-t15
     map-point-requires
     mul-to
     slice-write-to

@@ -1,22 +1,22 @@
 -- `maps::refusal` meets its contract, test by test, and by those of `tilt_verdict` and `tilt_number`. Assumes nothing.
-use borrow.Author.Tests.{eq-eqb, ne-eqb, lt-ltb, le-ltb}
 use borrow.Author.Needs.{needs}
+use mathlib.Core.Path.{sym, _∙_}
+use borrow.Author.Tests.{lt-ltb, le-ltb}
 use Rattle.sensor.specs.Verdict.{tilt-number}
 use Rattle.maps.specs.Maps.{refusalOf}
 use Rattle.maps.proofs.refusal.Statement.{statement}
 use Rattle.maps.proofs.refusal.Tie as tie
 
+bad-length-requires : tie.Need-bad-length-requires
+bad-length-requires c κs = search needs
+
 returns : tie.Need-returns
 unfolding refusalOf
-returns c = simp (eq-eqb _ _ (c .if1 .taken))
+returns c = simp (sym (c .before .bad-length .ensures) ∙ c .if1 .taken)
 
 returns-2 : tie.Need-returns-2
 unfolding refusalOf
-returns-2 c = simp (ne-eqb _ _ (c .before .if1 .left), lt-ltb _ _ (c .if2 .taken))
-
-returns-3 : tie.Need-returns-3
-unfolding refusalOf
-returns-3 c = simp (ne-eqb _ _ (c .before .before .if1 .left), le-ltb _ _ (c .before .if2 .left), lt-ltb _ _ (c .if3 .taken))
+returns-2 c = simp (sym (c .before .before .bad-length .ensures) ∙ c .before .if1 .left, lt-ltb _ _ (c .if2 .taken))
 
 tilt-verdict-requires : tie.Need-tilt-verdict-requires
 tilt-verdict-requires c κs = search needs
@@ -24,11 +24,17 @@ tilt-verdict-requires c κs = search needs
 tilt-number-requires : tie.Need-tilt-number-requires
 tilt-number-requires c κs = search needs
 
-returns-4 : tie.Need-returns-4
+returns-3 : tie.Need-returns-3
 unfolding refusalOf
-returns-4 c = simp (ne-eqb _ _ (c .before .before .before .before .if1 .left), le-ltb _ _ (c .before .before .before .if2 .left), le-ltb _ _ (c .before .before .if3 .left), c .tilt-number .ensures, c .before .tilt-verdict .ensures, tilt-number)
+returns-3 c = simp (sym (c .before .before .before .before .bad-length .ensures) ∙ c .before .before .before .if1 .left, le-ltb _ _ (c .before .before .if2 .left), c .tilt-number .ensures, c .before .tilt-verdict .ensures, tilt-number)
 
 pub refusal-spec : {M : Type 1} → statement M
 refusal-spec =
     tie.close
-    (tie.spec returns returns-2 returns-3 tilt-verdict-requires tilt-number-requires returns-4)
+    (tie.spec
+    bad-length-requires
+    returns
+    returns-2
+    tilt-verdict-requires
+    tilt-number-requires
+    returns-3)

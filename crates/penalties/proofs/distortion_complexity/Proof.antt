@@ -1,13 +1,15 @@
--- `penalties::distortion_complexity` meets its contract: its operations are the definition's. Assumes nothing.
-use mathlib.Core.Path.{refl}
+-- `penalties::distortion_complexity` meets its contract, by that of `radial_complexity`. Assumes nothing.
+use borrow.Author.Needs.{needs}
 use Rattle.penalties.specs.Penalties.{distortionPenalty}
 use Rattle.penalties.proofs.distortion_complexity.Statement.{statement}
 use Rattle.penalties.proofs.distortion_complexity.Tie as tie
 
+radial-complexity-requires : tie.Need-radial-complexity-requires
+radial-complexity-requires c κs = search needs
+
 returns : tie.Need-returns
 unfolding distortionPenalty
-returns c = refl
+returns c = rw (c .before .before .radial-complexity .ensures)
 
 pub distortion-complexity-spec : {M : Type 1} → statement M
-distortion-complexity-spec =
-    tie.close (tie.spec returns)
+distortion-complexity-spec = tie.close (tie.spec radial-complexity-requires returns)

@@ -1,13 +1,15 @@
--- `penalties::tilt_complexity` meets its contract: its operations are the definition's. Assumes nothing.
-use mathlib.Core.Path.{refl}
+-- `penalties::tilt_complexity` meets its contract, by that of `squared_tilt`. Assumes nothing.
+use borrow.Author.Needs.{needs}
 use Rattle.penalties.specs.Penalties.{tiltPenalty}
 use Rattle.penalties.proofs.tilt_complexity.Statement.{statement}
 use Rattle.penalties.proofs.tilt_complexity.Tie as tie
 
+squared-tilt-requires : tie.Need-squared-tilt-requires
+squared-tilt-requires c κs = search needs
+
 returns : tie.Need-returns
 unfolding tiltPenalty
-returns c = refl
+returns c = rw (c .squared-tilt .ensures)
 
 pub tilt-complexity-spec : {M : Type 1} → statement M
-tilt-complexity-spec =
-    tie.close (tie.spec returns)
+tilt-complexity-spec = tie.close (tie.spec squared-tilt-requires returns)

@@ -1,6 +1,5 @@
 -- `roots::sqrt` meets its contract. Assumes nothing.
 use mathlib.Core.Path.{_∙_, subst}
-use native.Mathlib.Omega.{arith}
 use Rattle.operand.specs.Operand.{Decomposed}
 use borrow.Author.Needs.{needs}
 use Rattle.roots.proofs.sqrt.Statement.{statement}
@@ -15,32 +14,19 @@ enum-known-r c = search needs
 enum-known-s : tie.Need-enum-known-s
 enum-known-s c = search needs
 
-reciprocal-root-requires : tie.Need-reciprocal-root-requires
-reciprocal-root-requires c κs =
-    let d = subst (Decomposed (c .before .before .before .before .args .x)) (c .before .s .given .1) (c .before .before .before .decompose .ensures) in
-    omega arith
-
-rounded-requires : tie.Need-rounded-requires
-rounded-requires c κs =
-    let d = subst (Decomposed (c .before .before .before .before .before .args .x)) (c .before .before .s .given .1) (c .before .before .before .before .decompose .ensures) in
-    (d .0, c .reciprocal-root .ensures)
+estimated-requires : tie.Need-estimated-requires
+estimated-requires c κs =
+    subst (Decomposed (c .before .before .before .before .args .x)) (c .before .s .given .1) (c .before .before .before .decompose .ensures) .0
 
 returns : tie.Need-returns
 returns c = subst (Decomposed (c .before .before .before .before .args .x)) (c .before .r .given .1) (c .before .before .before .decompose .ensures)
 
 returns-2 : tie.Need-returns-2
 returns-2 c =
-    let d = subst (Decomposed (c .before .before .before .before .before .before .args .x)) (c .before .before .before .s .given .1) (c .before .before .before .before .before .decompose .ensures) in
-    c .rounded .ensures ∙ d .1
+    let d = subst (Decomposed (c .before .before .before .before .before .args .x)) (c .before .before .s .given .1) (c .before .before .before .before .decompose .ensures) in
+    c .estimated .ensures ∙ d .1
 
 pub sqrt-spec : {M : Type 1} → statement M
 sqrt-spec =
     tie.close
-    (tie.spec
-    decompose-requires
-    enum-known-r
-    enum-known-s
-    reciprocal-root-requires
-    rounded-requires
-    returns
-    returns-2)
+    (tie.spec decompose-requires enum-known-r enum-known-s estimated-requires returns returns-2)

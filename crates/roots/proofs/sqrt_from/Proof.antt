@@ -1,6 +1,5 @@
 -- `roots::sqrt_from` meets its contract. Assumes nothing.
 use mathlib.Core.Path.{_∙_, subst}
-use native.Mathlib.Omega.{arith}
 use Rattle.operand.specs.Operand.{Decomposed}
 use borrow.Author.Needs.{needs}
 use Rattle.roots.proofs.sqrt_from.Statement.{statement}
@@ -15,10 +14,9 @@ enum-known-r c = search needs
 enum-known-s : tie.Need-enum-known-s
 enum-known-s c = search needs
 
-rounded-requires : tie.Need-rounded-requires
-rounded-requires c κs =
-    let d = subst (Decomposed (c .before .before .before .before .args .x)) (c .before .s .given .1) (c .before .before .before .decompose .ensures) in
-    (d .0, omega arith)
+guessed-requires : tie.Need-guessed-requires
+guessed-requires c κs =
+    subst (Decomposed (c .before .before .before .before .args .x)) (c .before .s .given .1) (c .before .before .before .decompose .ensures) .0
 
 returns : tie.Need-returns
 returns c = subst (Decomposed (c .before .before .before .before .args .x)) (c .before .r .given .1) (c .before .before .before .decompose .ensures)
@@ -26,9 +24,9 @@ returns c = subst (Decomposed (c .before .before .before .before .args .x)) (c .
 returns-2 : tie.Need-returns-2
 returns-2 c =
     let d = subst (Decomposed (c .before .before .before .before .before .args .x)) (c .before .before .s .given .1) (c .before .before .before .before .decompose .ensures) in
-    c .rounded .ensures ∙ d .1
+    c .guessed .ensures ∙ d .1
 
 pub sqrt-from-spec : {M : Type 1} → statement M
 sqrt-from-spec =
     tie.close
-    (tie.spec decompose-requires enum-known-r enum-known-s rounded-requires returns returns-2)
+    (tie.spec decompose-requires enum-known-r enum-known-s guessed-requires returns returns-2)

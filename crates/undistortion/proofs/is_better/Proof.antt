@@ -1,20 +1,34 @@
--- `undistortion::is_better` meets its contract, by that of `is_finite`. Assumes nothing.
-use mathlib.Core.Path.{sym, _∙_}
+-- `undistortion::is_better` meets its contract, by those of `squared_norm` and `is_finite`. Assumes nothing.
 use borrow.Author.Needs.{needs}
+use mathlib.Core.Path.{sym, ap, _∙_}
+use Rattle.float.specs.Float.{isFinite}
 use Rattle.undistortion.specs.Undistortion.{improves}
 use Rattle.undistortion.proofs.is_better.Statement.{statement}
 use Rattle.undistortion.proofs.is_better.Tie as tie
 
+squared-norm-requires : tie.Need-squared-norm-requires
+squared-norm-requires c κs = search needs
+
 is-finite-requires : tie.Need-is-finite-requires
 is-finite-requires c κs = search needs
 
+squared-norm-requires-2 : tie.Need-squared-norm-requires-2
+squared-norm-requires-2 c κs = search needs
+
 returns : tie.Need-returns
 unfolding improves
-returns c = simp (sym (c .before .before .before .is-finite .ensures) ∙ c .before .before .if1 .taken)
+returns c = let f = c .before .before in let n = f .before .squared-norm .ensures in rw (c .squared-norm2 .ensures, n) (simp (ap isFinite (sym n) ∙ sym (f .is-finite .ensures) ∙ c .before .if1 .taken))
 
 returns-2 : tie.Need-returns-2
 unfolding improves
-returns-2 c = simp (sym (c .before .is-finite .ensures) ∙ c .if1 .left, c .if1 .left)
+returns-2 c = let f = c .before in simp (ap isFinite (sym (f .before .squared-norm .ensures)) ∙ sym (f .is-finite .ensures) ∙ c .if1 .left, c .if1 .left)
 
 pub is-better-spec : {M : Type 1} → statement M
-is-better-spec = tie.close (tie.spec is-finite-requires returns returns-2)
+is-better-spec =
+    tie.close
+    (tie.spec
+    squared-norm-requires
+    is-finite-requires
+    squared-norm-requires-2
+    returns
+    returns-2)

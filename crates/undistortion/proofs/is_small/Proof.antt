@@ -1,12 +1,15 @@
--- `undistortion::is_small` meets its contract: the code computes the formula. Assumes nothing.
-use mathlib.Core.Path.{refl}
+-- `undistortion::is_small` meets its contract, by that of `squared_norm`. Assumes nothing.
+use borrow.Author.Needs.{needs}
 use Rattle.undistortion.specs.Undistortion.{smallStep}
 use Rattle.undistortion.proofs.is_small.Statement.{statement}
 use Rattle.undistortion.proofs.is_small.Tie as tie
 
+squared-norm-requires : tie.Need-squared-norm-requires
+squared-norm-requires c κs = search needs
+
 returns : tie.Need-returns
 unfolding smallStep
-returns c = refl
+returns c = rw (c .before .before .squared-norm .ensures)
 
 pub is-small-spec : {M : Type 1} → statement M
-is-small-spec = tie.close (tie.spec returns)
+is-small-spec = tie.close (tie.spec squared-norm-requires returns)

@@ -1,6 +1,6 @@
--- `undistortion::last_step` meets its contract, by those of `is_singular` and `newton_step`. Assumes nothing.
-use mathlib.Core.Path.{sym, _∙_}
+-- `undistortion::last_step` meets its contract, by those of its callees. Assumes nothing.
 use borrow.Author.Needs.{needs}
+use mathlib.Core.Path.{sym, _∙_}
 use Rattle.undistortion.specs.Undistortion.{lastStep}
 use Rattle.undistortion.proofs.last_step.Statement.{statement}
 use Rattle.undistortion.proofs.last_step.Tie as tie
@@ -10,14 +10,24 @@ is-singular-requires c κs = search needs
 
 returns : tie.Need-returns
 unfolding lastStep
-returns c = simp (sym (c .before .is-singular .ensures) ∙ c .if1 .taken)
+returns c = simp (sym (c .before .before .is-singular .ensures) ∙ c .before .if1 .taken)
 
 newton-step-requires : tie.Need-newton-step-requires
 newton-step-requires c κs = search needs
 
+difference-requires : tie.Need-difference-requires
+difference-requires c κs = search needs
+
 returns-2 : tie.Need-returns-2
 unfolding lastStep
-returns-2 c = simp (sym (c .before .before .before .before .before .before .is-singular .ensures) ∙ c .before .before .before .before .before .if1 .left, c .before .before .before .before .newton-step .ensures)
+returns-2 c = simp (sym (c .before .before .before .is-singular .ensures) ∙ c .before .before .if1 .left, c .difference .ensures, c .before .newton-step .ensures)
 
 pub last-step-spec : {M : Type 1} → statement M
-last-step-spec = tie.close (tie.spec is-singular-requires returns newton-step-requires returns-2)
+last-step-spec =
+    tie.close
+    (tie.spec
+    is-singular-requires
+    returns
+    newton-step-requires
+    difference-requires
+    returns-2)

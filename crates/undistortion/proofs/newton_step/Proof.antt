@@ -1,12 +1,15 @@
--- `undistortion::newton_step` meets its contract: the code computes the formula. Assumes nothing.
-use mathlib.Core.Path.{refl}
-use Rattle.undistortion.specs.Undistortion.{newtonStep}
+-- `undistortion::newton_step` meets its contract, by that of `jacobian_determinant`. Assumes nothing.
+use borrow.Author.Needs.{needs}
+use Rattle.undistortion.specs.Undistortion.{stepOf}
 use Rattle.undistortion.proofs.newton_step.Statement.{statement}
 use Rattle.undistortion.proofs.newton_step.Tie as tie
 
+jacobian-determinant-requires : tie.Need-jacobian-determinant-requires
+jacobian-determinant-requires c κs = search needs
+
 returns : tie.Need-returns
-unfolding newtonStep
-returns c = refl
+unfolding stepOf
+returns c = rw (c .before .before .before .before .before .before .before .before .jacobian-determinant .ensures)
 
 pub newton-step-spec : {M : Type 1} → statement M
-newton-step-spec = tie.close (tie.spec returns)
+newton-step-spec = tie.close (tie.spec jacobian-determinant-requires returns)

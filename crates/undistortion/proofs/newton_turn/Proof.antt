@@ -1,20 +1,23 @@
--- `undistortion::newton_turn` meets its contract, by those of `is_singular` and `after_trials`. Assumes nothing.
-use mathlib.Core.Path.{sym, _∙_}
+-- `undistortion::newton_turn` meets its contract, by those of its callees. Assumes nothing.
 use borrow.Author.Needs.{needs}
+use mathlib.Core.Path.{sym, _∙_}
 use Rattle.undistortion.specs.Undistortion.{newtonTurn}
 use Rattle.undistortion.proofs.newton_turn.Statement.{statement}
 use Rattle.undistortion.proofs.newton_turn.Tie as tie
 
+squared-norm-requires : tie.Need-squared-norm-requires
+squared-norm-requires c κs = search needs
+
 returns : tie.Need-returns
 unfolding newtonTurn
-returns c = simp (c .if1 .taken)
+returns c = simp (rw (c .before .squared-norm .ensures) at (c .if1 .taken))
 
 is-singular-requires : tie.Need-is-singular-requires
 is-singular-requires c κs = search needs
 
 returns-2 : tie.Need-returns-2
 unfolding newtonTurn
-returns-2 c = simp (c .before .before .if1 .left, sym (c .before .is-singular .ensures) ∙ c .if2 .taken)
+returns-2 c = let z = c .before .before in simp (rw (z .before .squared-norm .ensures) at (z .if1 .left), sym (c .before .is-singular .ensures) ∙ c .if2 .taken)
 
 newton-step-requires : tie.Need-newton-step-requires
 newton-step-requires c κs = search needs
@@ -27,12 +30,13 @@ after-trials-requires c κs = search needs
 
 returns-3 : tie.Need-returns-3
 unfolding newtonTurn
-returns-3 c = simp (c .before .before .before .before .before .if1 .left, sym (c .before .before .before .before .is-singular .ensures) ∙ c .before .before .before .if2 .left, c .after-trials .ensures, c .before .line-search .ensures, c .before .before .newton-step .ensures)
+returns-3 c = let s = c .before .before .before in let z = s .before .before in simp (rw (z .before .squared-norm .ensures) at (z .if1 .left), sym (s .before .is-singular .ensures) ∙ s .if2 .left, c .after-trials .ensures, c .before .line-search .ensures, c .before .before .newton-step .ensures)
 
 pub newton-turn-spec : {M : Type 1} → statement M
 newton-turn-spec =
     tie.close
     (tie.spec
+    squared-norm-requires
     returns
     is-singular-requires
     returns-2
