@@ -1,57 +1,55 @@
-// The operations on lists of points and on the conic.
-use crate::fields::point_reply;
-use crate::fields::with_intrinsics;
-use centre::Center;
-use homography::LineTest;
-use stored::fields::list_at;
+// The operations that answer one point.
+use models::intrinsics;
+use models::math::Pt2;
+use replay_fields::structs::distortion_at;
+use replay_fields::structs::intrinsics_at;
+use replay_fields::structs::iterations_at;
+use replay_fields::structs::point_at;
+use stored::expected::met;
 use stored::fields::number_at;
+use stored::fields::plus;
 use stored::operations;
-use stored::replies::Reply;
-use stored::replies::word_reply;
-use zhang::Conic;
-use zhang::Estimate;
 
-fn collinear_reply(points: &[f64]) -> Reply {
-    match homography::points_are_collinear(points) {
-        LineTest::Refused(number) => word_reply(number),
-        LineTest::Collinear(is_line) => {
-            if is_line {
-                return word_reply(1);
-            }
-            word_reply(0)
-        }
-    }
+fn row_at(x: &[f64], i: usize) -> [f64; 3] {
+    [
+        number_at(x, i),
+        number_at(x, plus(i, 1)),
+        number_at(x, plus(i, 2)),
+    ]
 }
 
-fn center_reply(points: &[f64]) -> Reply {
-    match centre::observed_pixel_center(points) {
-        Center::Refused(number) => word_reply(number),
-        Center::At(center) => point_reply(center),
-    }
+// The input's first nine numbers.
+pub fn matrix_of(x: &[f64]) -> [[f64; 3]; 3] {
+    [row_at(x, 0), row_at(x, 3), row_at(x, 6)]
 }
 
-fn conic_reply(x: &[f64]) -> Reply {
-    let b = Conic {
-        b11: number_at(x, 0),
-        b12: number_at(x, 1),
-        b22: number_at(x, 2),
-        b13: number_at(x, 3),
-        b23: number_at(x, 4),
-        b33: number_at(x, 5),
-    };
-    match zhang::from_homographies(b) {
-        Estimate::Refused(number) => word_reply(number),
-        Estimate::Camera(k) => with_intrinsics(word_reply(0), k),
-    }
-}
-
-pub fn reply_of(operation: usize, x: &[f64]) -> Reply {
+pub fn point_of(operation: usize, x: &[f64]) -> Pt2 {
     match operation {
-        // points = 0 or 1; or 17
-        operations::POINTS_ARE_COLLINEAR => collinear_reply(list_at(x, 0)),
-        // points = x y; or 17
-        operations::OBSERVED_PIXEL_CENTER => center_reply(list_at(x, 0)),
-        // six numbers b = 0, fx fy cx cy; or 16
-        _ => conic_reply(x),
+        // fx fy cx cy u v = x y
+        operations::PIXEL_TO_SENSOR => intrinsics::pixel_to_sensor(
+            intrinsics_at(x, 0),
+            point_at(x, 4),
+        ),
+        // fx fy cx cy x y = u v
+        operations::SENSOR_TO_PIXEL => intrinsics::sensor_to_pixel(
+            intrinsics_at(x, 0),
+            point_at(x, 4),
+        ),
+        // nine entries, x y = x y
+        operations::APPLY_HOMOGRAPHY => sensor::apply_homography(matrix_of(x), point_at(x, 9)),
+        // nine entries of the inverse, x y = x y
+        operations::APPLY_HOMOGRAPHY_INVERSE => sensor::apply_homography_inverse(
+            matrix_of(x),
+            point_at(x, 9),
+        ),
+        // k1 k2 k3 p1 p2 x y = x y
+        operations::DISTORT => distortion::distort(distortion_at(x, 0), point_at(x, 5)),
+        // k1 k2 k3 p1 p2 iterations x y = x y
+        _ => undistortion::undistort(distortion_at(x, 0), iterations_at(x, 5), point_at(x, 6)),
     }
+}
+
+pub fn met_point(x: &[f64], at: usize, p: Pt2) -> usize {
+    let numbers = [p.x, p.y];
+    met(x, at, &numbers)
 }

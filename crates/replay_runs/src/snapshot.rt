@@ -1,64 +1,58 @@
-// Whether a call changed a number of the run, by bits.
-use crate::replies::with_candidate;
+// Whether a call changed a number of the run, by bits; a NaN has one word here.
+use crate::replies::candidate_numbers;
 use best::Best;
 use models::math::Pt2;
-use replay_leaves::fields::with_intrinsics;
 use search::run::Options;
 use search::run::Place;
 use search::run::Run;
 use search::run::Waiting;
-use stored::replies::Reply;
-use stored::replies::no_reply;
-use stored::replies::pair_reply;
-use stored::replies::with_number;
-use stored::replies::with_whole;
+use seeds::CandidateSeed;
+use stored::words::is_same;
 use stored::words::same_numbers;
 
-fn with_bool(reply: Reply, is_set: bool) -> Reply {
-    if is_set {
-        return with_whole(reply, 1);
-    }
-    with_whole(reply, 0)
+fn is_same_options(a: Options, b: Options) -> bool {
+    (a.refine_rounds == b.refine_rounds)
+        & is_same(a.refine_step, b.refine_step)
+        & is_same(a.max_abs_tilt, b.max_abs_tilt)
 }
 
-fn option_numbers(options: Options, center: Pt2) -> Reply {
-    let tilt = pair_reply(options.refine_step, options.max_abs_tilt);
-    let rounds = with_whole(tilt, options.refine_rounds);
-    with_number(with_number(rounds, center.x), center.y)
+fn is_same_point(a: Pt2, b: Pt2) -> bool {
+    is_same(a.x, b.x) & is_same(a.y, b.y)
 }
 
-fn place_numbers(place: Place) -> Reply {
-    let round = with_whole(with_whole(no_reply(), place.demand), place.round);
-    let len = with_whole(with_number(round, place.step), place.len);
-    let number = with_whole(with_whole(len, place.at), place.number);
-    with_bool(number, place.over)
+fn is_same_place(a: Place, b: Place) -> bool {
+    (a.demand == b.demand)
+        & (a.round == b.round)
+        & is_same(a.step, b.step)
+        & (a.len == b.len)
+        & (a.at == b.at)
+        & (a.number == b.number)
+        & (a.over == b.over)
 }
 
-fn waiting_numbers(waiting: Waiting) -> Reply {
-    let seed = waiting.seed;
+fn seed_numbers(seed: CandidateSeed) -> [f64; 6] {
+    let k = seed.reference_k;
     let sensor = seed.sensor;
-    let tilts = pair_reply(sensor.tilt_x, sensor.tilt_y);
-    with_bool(with_intrinsics(tilts, seed.reference_k), waiting.is_waiting)
+    [k.fx, k.fy, k.cx, k.cy, sensor.tilt_x, sensor.tilt_y]
 }
 
-fn best_numbers(best: Best) -> Reply {
-    with_bool(with_candidate(no_reply(), best.candidate), best.found)
+fn is_same_waiting(a: Waiting, b: Waiting) -> bool {
+    let x = seed_numbers(a.seed);
+    let y = seed_numbers(b.seed);
+    (a.is_waiting == b.is_waiting) & same_numbers(&x, &y)
 }
 
-fn is_same(a: Reply, b: Reply) -> bool {
-    let x = a.numbers;
-    let y = b.numbers;
-    same_numbers(&x, &y)
+fn is_same_best(a: Best, b: Best) -> bool {
+    let x = candidate_numbers(a.candidate);
+    let y = candidate_numbers(b.candidate);
+    (a.found == b.found) & same_numbers(&x, &y)
 }
 
-// Whether the two runs have the same bits; a NaN has one word here.
 pub fn is_same_run(a: Run, b: Run) -> bool {
-    is_same(
-        option_numbers(a.options, a.center),
-        option_numbers(b.options, b.center),
-    )
-        & is_same(place_numbers(a.place), place_numbers(b.place))
-        & is_same(waiting_numbers(a.waiting), waiting_numbers(b.waiting))
-        & is_same(best_numbers(a.round_best), best_numbers(b.round_best))
-        & is_same(best_numbers(a.run_best), best_numbers(b.run_best))
+    is_same_options(a.options, b.options)
+        & is_same_point(a.center, b.center)
+        & is_same_place(a.place, b.place)
+        & is_same_waiting(a.waiting, b.waiting)
+        & is_same_best(a.round_best, b.round_best)
+        & is_same_best(a.run_best, b.run_best)
 }

@@ -1,7 +1,8 @@
-// Start's inputs in a case: views; x tilts; y tilts; rounds, step, bound; decomposition seeds; base camera; observed centre.
-ghost use Prim.Native.Nat.{_≤_};
-use replay_leaves::fields::intrinsics_at;
-use replay_leaves::fields::point_at;
+// Start with a case's inputs.
+use replay_fields::start::base_at;
+use replay_fields::start::options_at;
+use replay_fields::structs::intrinsics_at;
+use replay_fields::structs::point_at;
 use search::run::Options;
 use search_start::Started;
 use stored::fields::list_at;
@@ -9,27 +10,6 @@ use stored::fields::list_end;
 use stored::fields::number_at;
 use stored::fields::plus;
 use stored::fields::whole_at;
-
-// What Start leaves: its reply and the list.
-pub struct Begun {
-    pub started: Started,
-    pub list: [f64; 4096],
-}
-
-// Where the inputs that begin at `at` have their options, behind two lists.
-fn options_at(x: &[f64], at: usize) -> usize {
-    list_end(x, list_end(x, plus(at, 1)))
-}
-
-// Where they have their base camera, behind the options and a list.
-fn base_at(x: &[f64], at: usize) -> usize {
-    list_end(x, plus(options_at(x, at), 3))
-}
-
-// Where they end.
-pub fn start_end(x: &[f64], at: usize) -> usize {
-    plus(base_at(x, at), 6)
-}
 
 fn options_of(x: &[f64], at: usize) -> Options {
     Options {
@@ -39,7 +19,8 @@ fn options_of(x: &[f64], at: usize) -> Options {
     }
 }
 
-fn start(x: &[f64], at: usize, list: &mut [f64]) -> Started {
+// Start with the inputs at `at`.
+pub fn start(x: &[f64], at: usize, list: &mut [f64]) -> Started {
     let tilt_x = plus(at, 1);
     let options = options_at(x, at);
     let base = base_at(x, at);
@@ -53,13 +34,4 @@ fn start(x: &[f64], at: usize, list: &mut [f64]) -> Started {
         point_at(x, plus(base, 4)),
         list,
     )
-}
-
-// Start with the inputs at `at` and the first n numbers of the list.
-pub fn begin(x: &[f64], at: usize, given: [f64; 4096], n: usize) -> Begun
-    requires { ⌜ n ≤ 4096 ⌝ }
-{
-    let mut list = given;
-    let started = start(x, at, &mut list[0..n]);
-    Begun { started, list }
 }

@@ -1,9 +1,8 @@
-// What an operation reads from a case's input. Every word stands there as the number of its bits, a whole number too.
+// What an operation reads from a case's numbers, its inputs and behind them what it expects. Every word stands there as the number of its
+// bits, a whole number too.
 //
-// A read past the end gives 0, so that no caller has to show where a list ends: an index that wraps is such a place too. The length of
-// an input is tested before its operation is called.
-ghost use mathlib.Core.Path.{_≡_};
-ghost use lib.ListN.{length};
+// A read past the end gives 0, so that no caller has to show where a list ends: an index that wraps is such a place too. How many
+// inputs there are is tested against the operation's form.
 ghost use Prim.Native.Nat.{_≤_};
 use crate::words::bits;
 
@@ -32,16 +31,21 @@ pub fn whole_at(numbers: &[f64], i: usize) -> usize {
     bits(number_at(numbers, i)) as usize
 }
 
+// The numbers from `at` on.
+pub fn rest(numbers: &[f64], at: usize) -> &[f64] {
+    if at <= numbers.len() {
+        return &numbers[at..];
+    }
+    &numbers[0..0]
+}
+
 // The n numbers from `from` on; none where there are not so many.
 pub fn part(numbers: &[f64], from: usize, n: usize) -> &[f64] {
-    if numbers.len() < from {
-        return &numbers[0..0];
+    let tail = rest(numbers, from);
+    if tail.len() < n {
+        return &tail[0..0];
     }
-    if numbers.len() - from < n {
-        return &numbers[0..0];
-    }
-    let end = from + n;
-    &numbers[from..end]
+    &tail[0..n]
 }
 
 // The list whose length stands at `at`.
@@ -52,11 +56,4 @@ pub fn list_at(numbers: &[f64], at: usize) -> &[f64] {
 // Where the list whose length stands at `at` ends.
 pub fn list_end(numbers: &[f64], at: usize) -> usize {
     plus(plus(at, 1), whole_at(numbers, at))
-}
-
-// Room for a case's numbers.
-pub fn case_room() -> [f64; 16384]
-    ensures { λ r. ⌜ 16384 ≡ length r ⌝ }
-{
-    [0.0; 16384]
 }

@@ -17,7 +17,7 @@ pub fn wide(x: u8) -> u64
 }
 
 // The value of a lower-case hexadecimal digit, and 16 for any other byte.
-fn digit(byte: u8) -> u64
+pub fn digit(byte: u8) -> u64
     ensures { λ r. ⌜ (r ≡ digitOf byte) × (r ≤ 16) ⌝ }
 {
     if byte < b'0' {
@@ -83,7 +83,7 @@ pub fn bits(x: f64) -> u64
 }
 
 // Whether two numbers have the same bits; a NaN has one word here.
-fn is_same(x: f64, y: f64) -> bool
+pub fn is_same(x: f64, y: f64) -> bool
     ensures { λ r. ⌜ r ≡ alike x y ⌝ }
 {
     bits(x) == bits(y)

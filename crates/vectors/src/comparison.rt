@@ -1,97 +1,86 @@
 // The comparison of a stored file's cases with what the proved crates answer.
-use stored::case_line::Case;
-use stored::case_line::parse;
-use stored::fields::case_room;
+use stored::expected::MALFORMED;
+use stored::expected::MISSED;
 use stored::fields::part;
 use stored::operations;
-use stored::replies::Answer;
-use stored::report::AT_END;
-use stored::report::Outcome;
-use stored::report::Tally;
-use stored::report::counted;
-use stored::report::ended;
-use stored::report::no_cases;
-use stored::text::is_whole_line;
-use stored::text::line_at;
-use stored::words::same_numbers;
+use stored_files::case_line::read_line;
+use stored_files::case_line::second_word;
+use stored_files::header::first_case;
+use stored_files::text::is_whole_line;
+use stored_files::text::line_at;
+use stored_files::text::next_line;
+use stored_report::DAMAGED;
+use stored_report::DIFFERENT;
+use stored_report::LONG;
+use stored_report::SAME;
+use stored_report::SHORT;
+use stored_report::Tally;
+use stored_report::counted;
+use stored_report::no_cases;
 
-// The outcome where the first n numbers of the output are the answer.
-fn compared(expected: &[f64], output: &[f64], n: usize) -> Outcome {
-    if same_numbers(expected, part(output, 0, n)) {
-        return Outcome::Same;
+// How far an operation meets what is expected of its n inputs; an unknown one does not.
+fn met(operation: usize, guess: u64, x: &[f64], n: usize) -> usize {
+    if operation <= operations::CONIC_TO_CAMERA {
+        return replay_leaves::met(operation, guess, x, n);
     }
-    Outcome::Different
+    if operation <= operations::LOCAL_SEED_GRID {
+        return replay_lists::met(operation, x, n);
+    }
+    if operation <= operations::CALLS {
+        return replay_runs::met(operation, x, n);
+    }
+    MISSED
 }
 
-fn leaf_outcome(operation: usize, line: &[u8], input: &[f64], expected: &[f64]) -> Outcome {
-    let reply = replay_leaves::reply(operation, line, input);
-    let numbers = reply.numbers;
-    if reply.count == 0 {
-        return Outcome::Damaged;
+// What becomes of a case with so many numbers.
+fn outcome(met: usize, count: usize) -> u8 {
+    if met == count {
+        return SAME;
     }
-    compared(expected, &numbers, reply.count)
+    if met == MALFORMED {
+        return DAMAGED;
+    }
+    DIFFERENT
 }
 
-fn answer_of(operation: usize, input: &[f64]) -> Answer {
-    if operation < operations::SEED_LISTS {
-        return replay_leaves::lists::answer(operation, input);
+// What becomes of a case by its line. Every word takes 17 bytes, and `=` with its space 2, of which the line's end spares one.
+fn line_outcome(operation: usize, line: &[u8]) -> u8 {
+    let mut numbers = [0.0; 16384];
+    let inputs_end = read_line(line, &mut numbers);
+    if inputs_end == 0 {
+        return DAMAGED;
     }
-    replay_runs::answer(operation, input)
+    let count = line.len() / 17;
+    let x = part(&numbers, 0, count);
+    outcome(met(operation, second_word(line), x, inputs_end / 17), count)
 }
 
-fn answer_outcome(operation: usize, input: &[f64], expected: &[f64]) -> Outcome {
-    let answer = answer_of(operation, input);
-    let numbers = answer.numbers;
-    if !answer.is_good {
-        return Outcome::Damaged;
-    }
-    compared(expected, &numbers, answer.count)
-}
-
-// The outcome of a case whose line has its form, and whose numbers those are. One of an unknown operation counts as different.
-fn numbers_outcome(operation: usize, line: &[u8], case: Case, numbers: &[f64]) -> Outcome {
-    let input = part(numbers, 0, case.inputs);
-    let expected = part(numbers, case.inputs, case.outputs);
-    if operation < operations::UNTILT_POINTS {
-        return leaf_outcome(operation, line, input, expected);
-    }
-    if operation < operations::UNKNOWN {
-        return answer_outcome(operation, input, expected);
-    }
-    Outcome::Different
-}
-
-// The outcome of a case's line.
-fn line_outcome(operation: usize, line: &[u8]) -> Outcome {
-    let mut numbers = case_room();
-    let case = parse(line, &mut numbers);
-    if !case.is_good {
-        return Outcome::Damaged;
-    }
-    numbers_outcome(operation, line, case, &numbers)
-}
-
-// The outcome of the case whose line begins at `at`.
-fn case_outcome(operation: usize, text: &[u8], at: usize) -> Outcome {
+// What becomes of the case whose line begins at `at`.
+fn case_outcome(operation: usize, text: &[u8], at: usize) -> u8 {
     if at == text.len() {
-        return Outcome::Short;
+        return SHORT;
     }
     if !is_whole_line(text, at) {
-        return Outcome::Damaged;
+        return DAMAGED;
     }
     line_outcome(operation, line_at(text, at))
 }
 
-// Compares the cases of a file, of which the header says how many there are; the first begins at `from`.
-pub fn compare_cases(operation: usize, text: &[u8], from: usize, count: u64) -> Tally {
-    let mut tally = no_cases(from);
+// Compares the cases of a file, of which the header says how many there are.
+pub fn compare_cases(operation: usize, text: &[u8], count: u64) -> Tally {
+    let mut tally = no_cases();
+    let mut at = first_case(text);
     let mut i: u64 = 0;
     while i < count {
-        tally = counted(tally, case_outcome(operation, text, tally.at), text);
-        if tally.left != AT_END {
+        tally = counted(tally, case_outcome(operation, text, at));
+        if tally.left != SAME {
             return tally;
         }
+        at = next_line(text, at);
         i += 1;
     }
-    ended(tally, text)
+    if at != text.len() {
+        tally.left = LONG;
+    }
+    tally
 }

@@ -6,23 +6,25 @@
 mod comparison;
 
 use comparison::compare_cases;
-use stored::header::is_named;
-use stored::header::name_of;
-use stored::header::read_header;
 use stored::operations;
-use stored::report::write;
-use stored::report::write_report;
+use stored_files::header::NO_COUNT;
+use stored_files::header::case_count;
+use stored_files::header::is_named;
+use stored_files::header::name_of;
+use stored_files::names::named;
+use stored_report::write;
+use stored_report::write_report;
 
 // Compares the cases of a file with a good header, and writes what became of them.
 fn report_cases(text: &[u8]) {
-    let header = read_header(text);
-    if !header.is_good {
+    let count = case_count(text);
+    if count == NO_COUNT {
         write(b": the header is damaged\n");
         return;
     }
-    let operation = operations::named(name_of(text));
-    let tally = compare_cases(operation, text, header.end, header.count);
-    write_report(tally, operation < operations::UNKNOWN, header.count);
+    let operation = named(name_of(text));
+    let tally = compare_cases(operation, text, count);
+    write_report(tally, operation < operations::UNKNOWN, count);
 }
 
 fn report_text(text: &[u8]) {

@@ -5,13 +5,16 @@ use Rattle.vectors.proofs.comparison.compare_cases.Statement.{statement
 use Rattle.vectors.proofs.comparison.compare_cases.Tie as tie
 
 abbrev Inv-loop : tie.InvT-loop
-Inv-loop operation text from count tally₀ i₀ tally i = i ≤ count
+Inv-loop operation text count tally₀ at₀ i₀ tally at i = i ≤ count
 
 abbrev μ-loop : tie.MeasureT-loop
-μ-loop operation text from count tally₀ i₀ tally i = count - i
+μ-loop operation text count tally₀ at₀ i₀ tally at i = count - i
 
 no-cases-requires : tie.Need-no-cases-requires Inv-loop μ-loop
 no-cases-requires c κs = search needs
+
+first-case-requires : tie.Need-first-case-requires Inv-loop μ-loop
+first-case-requires c κs = search needs
 
 loop-holds : tie.Need-loop-holds Inv-loop μ-loop
 loop-holds c = search needs
@@ -25,6 +28,9 @@ counted-requires c κs = search needs
 returns : tie.Need-returns Inv-loop μ-loop
 returns c = search needs
 
+next-line-requires : tie.Need-next-line-requires Inv-loop μ-loop
+next-line-requires c κs = search needs
+
 add-i : tie.Need-add-i Inv-loop μ-loop
 add-i c = search needs
 
@@ -34,11 +40,11 @@ loop-less c = search needs
 loop-again : tie.Need-loop-again Inv-loop μ-loop
 loop-again c = search needs
 
-ended-requires : tie.Need-ended-requires Inv-loop μ-loop
-ended-requires c κs = search needs
-
 returns-2 : tie.Need-returns-2 Inv-loop μ-loop
 returns-2 c = search needs
+
+returns-3 : tie.Need-returns-3 Inv-loop μ-loop
+returns-3 c = search needs
 
 pub compare-cases-spec : {M : Type 1} → statement M
 compare-cases-spec =
@@ -47,12 +53,14 @@ compare-cases-spec =
     Inv-loop
     μ-loop
     no-cases-requires
+    first-case-requires
     loop-holds
     case-outcome-requires
     counted-requires
     returns
+    next-line-requires
     add-i
     loop-less
     loop-again
-    ended-requires
-    returns-2)
+    returns-2
+    returns-3)
