@@ -60,10 +60,7 @@ pub fn no_best() -> Best
 pub fn is_better(candidate: Candidate, current: Best) -> bool
     ensures { λ r. ⌜ r ≡ isBetter candidate current ⌝ }
 {
-    if !current.found {
-        return true;
-    }
-    candidate.score < current.candidate.score
+    !current.found | (candidate.score < current.candidate.score)
 }
 
 // The best after one more candidate.

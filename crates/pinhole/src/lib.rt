@@ -27,38 +27,38 @@ pub fn damp_seed_distortion(distortion: BrownConrady5) -> BrownConrady5
 }
 
 // The camera as it is checked and scored.
-pub fn damped_camera(found: PinholeCamera) -> PinholeCamera
+pub fn damped_camera(mut found: PinholeCamera) -> PinholeCamera
     ensures { λ r. ⌜ r ≡ dampedCamera found ⌝ }
 {
-    let k = found.k;
-    let dist = damp_seed_distortion(found.dist);
-    PinholeCamera { k: k, dist: dist }
+    found.dist = damp_seed_distortion(found.dist);
+    found
 }
 
 fn finite_intrinsics(k: FxFyCxCy) -> bool
     ensures { λ r. ⌜ r ≡ finiteIntrinsics k ⌝ }
 {
-    float::is_finite(k.fx)
-        & float::is_finite(k.fy)
-        & float::is_finite(k.cx)
-        & float::is_finite(k.cy)
+    let mut finite = float::is_finite(k.fx);
+    finite = finite & float::is_finite(k.fy);
+    finite = finite & float::is_finite(k.cx);
+    finite & float::is_finite(k.cy)
 }
 
 fn finite_distortion(distortion: BrownConrady5) -> bool
     ensures { λ r. ⌜ r ≡ finiteDistortion distortion ⌝ }
 {
-    float::is_finite(distortion.k1)
-        & float::is_finite(distortion.k2)
-        & float::is_finite(distortion.k3)
-        & float::is_finite(distortion.p1)
-        & float::is_finite(distortion.p2)
+    let mut finite = float::is_finite(distortion.k1);
+    finite = finite & float::is_finite(distortion.k2);
+    finite = finite & float::is_finite(distortion.k3);
+    finite = finite & float::is_finite(distortion.p1);
+    finite & float::is_finite(distortion.p2)
 }
 
 // Whether every number of the camera is finite and both focal lengths are above 0.
 pub fn validate_camera(camera: PinholeCamera) -> bool
     ensures { λ r. ⌜ r ≡ validCamera camera ⌝ }
 {
-    let k = camera.k;
-    let dist = camera.dist;
-    finite_intrinsics(k) & finite_distortion(dist) & (0.0 < k.fx) & (0.0 < k.fy)
+    finite_intrinsics(camera.k)
+        & finite_distortion(camera.dist)
+        & (0.0 < camera.k.fx)
+        & (0.0 < camera.k.fy)
 }

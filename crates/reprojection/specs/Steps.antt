@@ -13,6 +13,7 @@ use lib.Ieee.{Float, nan}
 use Rattle.float.specs.Binary64.{_+₆₄_}
 use Rattle.float.specs.Float.{isFinite}
 use Rattle.matrix.specs.Matrix.{Matrix}
+use Rattle.models.specs.declared.math.Pt2.{Pt2}
 use Rattle.reprojection.specs.Rows.{rowsOf, rowError, isCounted, countedErrors, noErrors, summed, errorSum}
 use Rattle.pinhole.specs.declared.PinholeCamera.{PinholeCamera}
 use Rattle.reprojection.specs.declared.Row.{Row}
@@ -36,6 +37,10 @@ pub row-counted : (s : ErrorSum) (c : PinholeCamera) (h : Matrix) (r : Row)
     → eqb (r .flag) 1 ≡ true → isFinite (rowError c h r) ≡ true → record { sum = s .sum +₆₄ rowError c h r; count = (s .count + 1) % 2 ^ 64 } ≡ addRow s c h r
 unfolding addRow isCounted
 row-counted s c h r b f = simp (b, f)
+
+-- the point whose two numbers start at this place
+abbrev pub pointAt : List Float → ℕ → Pt2
+pointAt numbers at = record { x = getD numbers at nan; y = getD numbers (at + 1) nan }
 
 -- row i of the two lists
 unfoldable pub rowAt : List Float → List ℕ → ℕ → Row
@@ -97,33 +102,6 @@ pub record Passed (c : PinholeCamera) (h : Matrix) (rows : List Row) (i : ℕ) (
 pub passed-none : (c : PinholeCamera) (h : Matrix) (rows : List Row) → Passed c h rows 0 noErrors
 unfolding errorSum
 passed-none c h rows = record { few = omega arith; rest = refl }
-
-add-row : (s : ErrorSum) (c : PinholeCamera) (h : Matrix) (r : Row) (rs : List Row)
-    → s .count + 1 < 2 ^ 64 → summed (addRow s c h r) (countedErrors c h rs) ≡ summed s (countedErrors c h (r ∷ rs))
-unfolding addRow countedErrors summed
-add-row s c h r rs small =
-    let e = rowError c h r in
-    let es = countedErrors c h rs in
-    elim (isCounted c h r) as (λ (v : Bool). summed (cond v (record { sum = s .sum +₆₄ e; count = (s .count + 1) % 2 ^ 64 }) s) es ≡ summed s (cond v (e ∷ es) es)) [
-      | true ↦ rw (mod-eq-of-lt small)
-      | false ↦ refl
-    ]
-
-count-row : (s : ErrorSum) (c : PinholeCamera) (h : Matrix) (r : Row) → addRow s c h r .count ≤ s .count + 1
-unfolding addRow
-count-row s c h r =
-    elim (isCounted c h r) as (λ (v : Bool). cond v (record { sum = s .sum +₆₄ rowError c h r; count = (s .count + 1) % 2 ^ 64 }) s .count ≤ s .count + 1) [
-      | true ↦ omega arith
-      | false ↦ omega arith
-    ]
-
-pub passed-more : (c : PinholeCamera) (h : Matrix) (rows : List Row) (i : ℕ) (s : ErrorSum) (r : Row)
-    → i < length rows → i + 1 < 2 ^ 64 → getD rows i r ≡ r → Passed c h rows i s → Passed c h rows (i + 1) (addRow s c h r)
-passed-more c h rows i s r below small at p =
-    record {
-      few = omega (arith, count-row s c h r);
-      rest = rw (add-one i) (add-row s c h r (drop (suc i) rows) (omega arith) ∙ (rw (drop-cons rows i r below, at) at (p .rest)));
-    }
 
 pub passed-all : (c : PinholeCamera) (h : Matrix) (rows : List Row) (s : ErrorSum) → Passed c h rows (length rows) s → s ≡ errorSum c h rows
 unfolding countedErrors summed

@@ -4,8 +4,8 @@
 ghost use mathlib.Core.Path.{_≡_};
 ghost use Prim.Native.Nat.{_+_, _*_, _≤_, _<_};
 ghost use lib.ListN.{length};
-ghost use Rattle.reprojection.specs.Rows.{rowsOf, tiltMatrix, projected, distanceOf, rowError, errorSum, meanOf};
-ghost use Rattle.reprojection.specs.Steps.{addRow, rowAt};
+ghost use Rattle.reprojection.specs.Rows.{rowsOf, tiltMatrix, projected, distanceOf, rowError, noErrors, errorSum, meanOf};
+ghost use Rattle.reprojection.specs.Steps.{addRow, pointAt, rowAt};
 use distortion::distort;
 use models::intrinsics::sensor_to_pixel;
 use models::math::Pt2;
@@ -49,9 +49,7 @@ pub fn mean_reproj_error(total: ErrorSum) -> f64
 fn project_point(camera: PinholeCamera, h: [[f64; 3]; 3], ideal: Pt2) -> Pt2
     ensures { λ r. ⌜ r ≡ projected camera h ideal ⌝ }
 {
-    let k = camera.k;
-    let dist = camera.dist;
-    sensor_to_pixel(k, apply_homography(h, distort(dist, ideal)))
+    sensor_to_pixel(camera.k, apply_homography(h, distort(camera.dist, ideal)))
 }
 
 fn distance(p: Pt2, q: Pt2) -> f64
@@ -65,9 +63,7 @@ fn distance(p: Pt2, q: Pt2) -> f64
 fn reproj_error(camera: PinholeCamera, h: [[f64; 3]; 3], row: Row) -> f64
     ensures { λ r. ⌜ r ≡ rowError camera h row ⌝ }
 {
-    let ideal = row.ideal;
-    let seen = row.seen;
-    distance(project_point(camera, h, ideal), seen)
+    distance(project_point(camera, h, row.ideal), row.seen)
 }
 
 // One more row: a point in front of the camera with a finite error is counted.
@@ -103,20 +99,25 @@ fn with_row(total: ErrorSum, camera: PinholeCamera, h: [[f64; 3]; 3], row: Row) 
     lent
 }
 
+fn point_at(numbers: &[f64], at: usize) -> Pt2
+    requires { ⌜ at + 2 ≤ length (now numbers) ⌝ }
+    ensures { λ r. ⌜ r ≡ pointAt (now (numbers .entry)) at ⌝ }
+{
+    Pt2 {
+        x: numbers[at],
+        y: numbers[at + 1],
+    }
+}
+
 fn read_row(rows: &[f64], flags: &[u8], i: usize) -> Row
     requires { ⌜ (4 * i + 4 ≤ length (now rows)) × (i < length (now flags)) ⌝ }
     ensures { λ r. ⌜ r ≡ rowAt (now (rows .entry)) (now (flags .entry)) i ⌝ }
 {
-    let at = 4 * i;
+    let ideal = point_at(rows, 4 * i);
+    let seen = point_at(rows, 4 * i + 2);
     Row {
-        ideal: Pt2 {
-            x: rows[at],
-            y: rows[at + 1],
-        },
-        seen: Pt2 {
-            x: rows[at + 2],
-            y: rows[at + 3],
-        },
+        ideal,
+        seen,
         flag: flags[i],
     }
 }
@@ -132,6 +133,13 @@ fn row_count(rows: &[f64], flags: &[u8]) -> usize
     flags.len()
 }
 
+// Nothing is counted yet.
+fn no_errors() -> ErrorSum
+    ensures { λ r. ⌜ r ≡ noErrors ⌝ }
+{
+    ErrorSum { sum: 0.0, count: 0 }
+}
+
 // Sum and count of the errors of all rows.
 pub fn reproj_error_sum(
     camera: PinholeCamera,
@@ -142,7 +150,7 @@ pub fn reproj_error_sum(
     ensures { λ r. ⌜ r ≡ errorSum camera h (rowsOf (now (rows .entry)) (now (flags .entry))) ⌝ }
 {
     let n = row_count(rows, flags);
-    let mut total = ErrorSum { sum: 0.0, count: 0 };
+    let mut total = no_errors();
     let mut i = 0;
     while i < n {
         let row = read_row(rows, flags, i);

@@ -74,13 +74,10 @@ fn solved_refusal(trig: TiltTrig, rows: &[f64], flags: &[u8]) -> u8
 pub fn finding_refusal(finding: Finding, rows: &[f64], flags: &[u8]) -> u8
     ensures { λ r. ⌜ r ≡ findingRefusal finding (now (rows .entry)) (now (flags .entry)) ⌝ }
 {
-    match finding {
-        Finding::Failed => 0,
-        Finding::Solved(solved) => {
-            let trig = solved.trig;
-            solved_refusal(trig, rows, flags)
-        }
-    }
+    let Finding::Solved(solved) = finding else {
+        return 0;
+    };
+    solved_refusal(solved.trig, rows, flags)
 }
 
 // The outcome of a solved camera, damped before it is checked.
@@ -93,13 +90,11 @@ fn evaluate_candidate(
 ) -> Outcome
     ensures { λ r. ⌜ r ≡ evaluated solved sensor center (now (rows .entry)) (now (flags .entry)) ⌝ }
 {
-    let found = solved.camera;
-    let trig = solved.trig;
-    let camera = damped_camera(found);
+    let camera = damped_camera(solved.camera);
     if !validate_camera(camera) {
         return Outcome::Skipped(2);
     }
-    let mean = mean_of_rows(camera, trig, rows, flags);
+    let mean = mean_of_rows(camera, solved.trig, rows, flags);
     if !float::is_finite(mean) {
         return Outcome::Skipped(3);
     }
@@ -121,8 +116,8 @@ pub fn finding_outcome(
 ) -> Outcome
     ensures { λ r. ⌜ r ≡ outcomeOf finding sensor center (now (rows .entry)) (now (flags .entry)) ⌝ }
 {
-    match finding {
-        Finding::Failed => Outcome::Skipped(1),
-        Finding::Solved(solved) => evaluate_candidate(solved, sensor, center, rows, flags),
-    }
+    let Finding::Solved(solved) = finding else {
+        return Outcome::Skipped(1);
+    };
+    evaluate_candidate(solved, sensor, center, rows, flags)
 }

@@ -60,19 +60,16 @@ fn has_place(place: Place, waiting: Waiting) -> bool
 pub fn is_sound(run: Run) -> bool
     ensures { λ r. ⌜ r ≡ sound run ⌝ }
 {
-    let options = run.options;
-    let place = run.place;
-    let waiting = run.waiting;
-    if 512 < place.len {
+    if 512 < run.place.len {
         return false;
     }
-    (options.refine_rounds <= 16)
-        & (place.round <= options.refine_rounds)
-        & (place.number <= 656)
-        & (6 * place.len <= place.demand)
-        & (54 <= place.demand)
-        & (place.demand <= 3072)
-        & has_place(place, waiting)
+    (run.options.refine_rounds <= 16)
+        & (run.place.round <= run.options.refine_rounds)
+        & (run.place.number <= 656)
+        & (6 * run.place.len <= run.place.demand)
+        & (54 <= run.place.demand)
+        & (run.place.demand <= 3072)
+        & has_place(run.place, run.waiting)
 }
 
 // No seed waits.
@@ -97,143 +94,90 @@ pub fn nobody() -> Waiting
 }
 
 // The run with a seed that waits for its answer.
-pub fn awaiting(run: Run, seed: CandidateSeed) -> Run
+pub fn awaiting(mut run: Run, seed: CandidateSeed) -> Run
     ensures { λ r. ⌜ r ≡ Rattle.search.specs.Record.awaiting run seed ⌝ }
 {
-    let options = run.options;
-    let center = run.center;
-    let place = run.place;
-    let round_best = run.round_best;
-    let run_best = run.run_best;
-    Run {
-        options,
-        center,
-        place,
-        waiting: Waiting {
-            is_waiting: true,
-            seed,
-        },
-        round_best,
-        run_best,
-    }
+    let waiting = Waiting {
+        is_waiting: true,
+        seed,
+    };
+    run.waiting = waiting;
+    run
 }
 
 // A best after the outcome of the candidate with this number and these tilts.
 fn with_outcome(best: Best, number: usize, sensor: ScheimpflugParams, outcome: Outcome) -> Best
     ensures { λ r. ⌜ r ≡ Rattle.search.specs.Record.withOutcome best number sensor outcome ⌝ }
 {
-    match outcome {
-        Outcome::Skipped(_) => best,
-        Outcome::Scored(scoring) => {
-            let camera = scoring.camera;
-            best::improved(
-                best,
-                Candidate {
-                    number,
-                    camera,
-                    sensor,
-                    mean_reproj_error: scoring.mean,
-                    score: scoring.score,
-                },
-            )
-        }
-    }
+    let Outcome::Scored(scoring) = outcome else {
+        return best;
+    };
+    let camera = scoring.camera;
+    best::improved(
+        best,
+        Candidate {
+            number,
+            camera,
+            sensor,
+            mean_reproj_error: scoring.mean,
+            score: scoring.score,
+        },
+    )
 }
 
 // The waiting seed's outcome is entered: nothing waits, and the place moves on by one.
-pub fn entered(run: Run, outcome: Outcome) -> Run
+pub fn entered(mut run: Run, outcome: Outcome) -> Run
     requires { ⌜ (run .place .at < 512) × (run .place .number ≤ 656) ⌝ }
     ensures { λ r. ⌜ r ≡ Rattle.search.specs.Record.entered run outcome ⌝ }
 {
-    let options = run.options;
-    let center = run.center;
-    let place = run.place;
-    let waiting = run.waiting;
-    let seed = waiting.seed;
-    let sensor = seed.sensor;
-    let round_best = run.round_best;
-    let run_best = run.run_best;
-    Run {
-        options,
-        center,
-        place: Place {
-            demand: place.demand,
-            round: place.round,
-            step: place.step,
-            len: place.len,
-            at: place.at + 1,
-            number: place.number + 1,
-            over: place.over,
-        },
-        waiting: nobody(),
-        round_best: with_outcome(round_best, place.number, sensor, outcome),
-        run_best: with_outcome(run_best, place.number, sensor, outcome),
-    }
+    run.round_best = with_outcome(
+        run.round_best,
+        run.place.number,
+        run.waiting.seed.sensor,
+        outcome,
+    );
+    run.run_best = with_outcome(
+        run.run_best,
+        run.place.number,
+        run.waiting.seed.sensor,
+        outcome,
+    );
+    run.waiting = nobody();
+    let at = run.place.at + 1;
+    run.place.at = at;
+    let number = run.place.number + 1;
+    run.place.number = number;
+    run
 }
 
 // The step of the next round's list: refine_step for round 1's, then half of the last one.
 pub fn next_step(run: Run) -> f64
     ensures { λ r. ⌜ r ≡ nextStep run ⌝ }
 {
-    let options = run.options;
-    let place = run.place;
-    if place.round == 0 {
-        return options.refine_step;
+    if run.place.round == 0 {
+        return run.options.refine_step;
     }
-    place.step * 0.5
+    run.place.step * 0.5
 }
 
 // The run at the start of its next round, whose list has this many seeds.
-pub fn opened(run: Run, len: usize) -> Run
+pub fn opened(mut run: Run, len: usize) -> Run
     requires { ⌜ run .place .round < 16 ⌝ }
     ensures { λ r. ⌜ r ≡ Rattle.search.specs.Record.opened run len ⌝ }
 {
-    let options = run.options;
-    let center = run.center;
-    let place = run.place;
-    let waiting = run.waiting;
-    let run_best = run.run_best;
-    Run {
-        options,
-        center,
-        place: Place {
-            demand: place.demand,
-            round: place.round + 1,
-            step: next_step(run),
-            len,
-            at: 0,
-            number: place.number,
-            over: place.over,
-        },
-        waiting,
-        round_best: best::no_best(),
-        run_best,
-    }
+    let step = next_step(run);
+    let round = run.place.round + 1;
+    run.place.round = round;
+    run.place.step = step;
+    run.place.len = len;
+    run.place.at = 0;
+    run.round_best = best::no_best();
+    run
 }
 
-pub fn ended(run: Run) -> Run
+pub fn ended(mut run: Run) -> Run
     ensures { λ r. ⌜ r ≡ Rattle.search.specs.Record.ended run ⌝ }
 {
-    let options = run.options;
-    let center = run.center;
-    let place = run.place;
-    let waiting = run.waiting;
-    let round_best = run.round_best;
-    let run_best = run.run_best;
-    Run {
-        options,
-        center,
-        place: Place {
-            demand: place.demand,
-            round: place.round,
-            step: place.step,
-            len: place.len,
-            at: place.at,
-            number: place.number,
-            over: true,
-        },
-        waiting,
-        round_best,
-        run_best,
-    }
+    run.place.over = true;
+    run
 }

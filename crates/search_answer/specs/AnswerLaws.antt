@@ -11,10 +11,12 @@ use Rattle.common.specs.Tests.{both-true}
 use Rattle.common.specs.RefusalLaws.{refuses-none}
 use Rattle.seeds.specs.declared.CandidateSeed.{CandidateSeed}
 use Rattle.seeds.specs.Layout.{laid, six, Leaves}
+use Rattle.seeds.specs.Rules.{offsets, nextList}
 use Rattle.score.specs.declared.Finding.{Finding}
 use Rattle.score.specs.declared.Outcome.{Outcome}
 use Rattle.best.specs.declared.Best.{Best}
-use Rattle.search.specs.Record.{sound, entered, opened, ended}
+use Rattle.best.specs.declared.Candidate.{Candidate}
+use Rattle.search.specs.Record.{sound, entered, nextStep, opened, ended}
 use Rattle.search_answer.specs.Answer.{Left, left, answerRefusal, orElse, nextSeeds, openRound, closeRound, enterDef}
 use Rattle.search.specs.declared.run.Run.{Run}
 
@@ -25,6 +27,12 @@ unless-zero n = go (eqb n 0) refl
     go : (b : Bool) → eqb n 0 ≡ b → cond (not (eqb n 0)) n 0 ≡ n
     go true h = rw h (sym (eqb-true n 0 h))
     go false h = rw h
+
+-- ---- the seeds at the next round's step are its list
+pub next-seeds-are : (r : Run) (c : Candidate) (s : Float) (l m : List Float) (n : ℕ) → s ≡ nextStep r
+    → Leaves six 6 (nextList (offsets s) (offsets s) (c .sensor) (c .camera .k) (r .options .«max_abs_tilt»)) l m n → Leaves six 6 (nextSeeds r c) l m n
+unfolding nextSeeds
+next-seeds-are r c s l m n is h = rw (← is) h
 
 -- ---- the end of a round, one list at a time
 open-some : (r : Run) (l m : List Float) (n : ℕ) (ss : List CandidateSeed) (rest : Left) → Leaves six 6 ss l m n → (n ≡ 0 → ⊥) → openRound r l ss rest ≡ left (opened r n) m
@@ -53,18 +61,27 @@ unfolding closeRound
 close-open zero r l b m len p e f h z = absurd (omega arith)
 close-open (suc k) r l b m len p e f h z = rw (← e, f) (open-some r l m len (nextSeeds r (b .candidate)) _ h z)
 
-pub close-empty : (n : ℕ) (r : Run) (l : List Float) (b : Best) (m : List Float) (len : ℕ) → 0 < n → b ≡ orElse (r .«round_best») (r .«run_best») → b .found ≡ true
+pub opened-rounds : (r e : Run) (n : ℕ) → e ≡ opened r n → (e .options ≡ r .options) × (e .place .round ≡ r .place .round + 1)
+unfolding opened
+opened-rounds r e n is = (ap (λ (x : Run). x .options) is, ap (λ (x : Run). x .place .round) is)
+
+close-next : (n : ℕ) (r : Run) (l : List Float) (b : Best) (m : List Float) (len : ℕ) → 0 < n → b ≡ orElse (r .«round_best») (r .«run_best») → b .found ≡ true
     → Leaves six 6 (nextSeeds r (b .candidate)) l m len → len ≡ 0 → closeRound n r l ≡ closeRound (n - 1) (opened r 0) m
 unfolding closeRound
-close-empty zero r l b m len p e f h z = absurd (omega arith)
-close-empty (suc k) r l b m len p e f h z =
+close-next zero r l b m len p e f h z = absurd (omega arith)
+close-next (suc k) r l b m len p e f h z =
     let one-less : suc k - 1 ≡ k = omega arith in
     let q = open-none r l m len (nextSeeds r (b .candidate)) (closeRound k (opened r 0) l) h z in
     rw (← e, f, one-less, q .1) (q .0)
 
-pub opened-round : (r : Run) (n : ℕ) → opened r n .place .round ≡ r .place .round + 1
+pub close-empty : (r o : Run) (l : List Float) (b : Best) (m : List Float) (len : ℕ) → r .place .round < r .options .«refine_rounds» → b ≡ orElse (r .«round_best») (r .«run_best»)
+    → b .found ≡ true → Leaves six 6 (nextSeeds r (b .candidate)) l m len → len ≡ 0 → o ≡ opened r len
+    → closeRound (r .options .«refine_rounds» - r .place .round) r l ≡ closeRound (o .options .«refine_rounds» - o .place .round) o m
 unfolding opened
-opened-round r n = refl
+close-empty r o l b m len p e f h z is =
+    let n = r .options .«refine_rounds» in
+    let one-more : n - (r .place .round + 1) ≡ n - r .place .round - 1 = omega arith in
+    rw (is, z, one-more) (close-next (n - r .place .round) r l b m len (omega arith) e f h z)
 
 -- ---- Answer where none of its refusals holds
 pub record Answerable (r : Run) (n : ℕ) : Type 0 where

@@ -5,10 +5,11 @@ ghost use mathlib.Core.Bool.{true};
 ghost use Prim.Native.Nat.{_-_, _≤_};
 ghost use lib.ListN.{length};
 ghost use Rattle.seeds.specs.Layout.{Leaves, six};
+ghost use Rattle.seeds.specs.Rules.{offsets, nextList};
 ghost use Rattle.search.specs.Record.{sound};
-ghost use Rattle.search_answer.specs.Answer.{answerRefusal, orElse, nextSeeds, closeRound, enterDef, replyOf, answerDef};
+ghost use Rattle.search_answer.specs.Answer.{answerRefusal, orElse, closeRound, enterDef, replyOf, answerDef};
 use best::Best;
-use best::Candidate;
+use models::intrinsics::FxFyCxCy;
 use score::Finding;
 use score::Outcome;
 use search::run::Run;
@@ -17,6 +18,7 @@ use search::run::entered;
 use search::run::is_sound;
 use search::run::next_step;
 use search::run::opened;
+use sensor::ScheimpflugParams;
 
 pub enum Answered {
     Scored(f64),
@@ -33,12 +35,10 @@ pub struct AnswerReply {
 fn answer_refusal(run: Run, list_len: usize, finding: Finding, rows: &[f64], flags: &[u8]) -> u8
     ensures { λ r. ⌜ r ≡ answerRefusal run «list_len» finding (now (rows .entry)) (now (flags .entry)) ⌝ }
 {
-    let place = run.place;
-    let waiting = run.waiting;
-    if !(is_sound(run) & waiting.is_waiting) {
+    if !(is_sound(run) & run.waiting.is_waiting) {
         return 12;
     }
-    if list_len < place.demand {
+    if list_len < run.place.demand {
         return 10;
     }
     score::finding_refusal(finding, rows, flags)
@@ -54,71 +54,62 @@ fn or_else(first: Best, second: Best) -> Best
     second
 }
 
-// Writes the seeds around a candidate, with its camera, and says how many there are.
-fn next_seeds(run: Run, candidate: Candidate, list: &mut [f64]) -> usize
+// Writes the seeds at this step around the tilts, with the camera, and says how many there are.
+fn next_seeds(
+    step: f64,
+    max_abs_tilt: f64,
+    reference_k: FxFyCxCy,
+    sensor: ScheimpflugParams,
+    list: &mut [f64],
+) -> usize
     requires { ⌜ 54 ≤ length (now list) ⌝ }
-    ensures { λ r. ⌜ Leaves six 6 (nextSeeds run candidate) (now (list .entry)) (now (list .exit)) r ⌝ }
+    ensures { λ r. ⌜ Leaves six 6 (nextList (offsets step) (offsets step) sensor «reference_k» «max_abs_tilt») (now (list .entry)) (now (list .exit)) r ⌝ }
 {
-    let step = next_step(run);
-    let offsets_x = [-step, 0.0, step];
-    let offsets_y = [-step, 0.0, step];
-    let options = run.options;
-    let camera = candidate.camera;
-    let k = camera.k;
-    let sensor = candidate.sensor;
-    seed_grids::local_seed_grid(
-        k,
-        sensor,
-        &offsets_x,
-        &offsets_y,
-        options.max_abs_tilt,
-        list,
-    )
+    let offsets = [-step, 0.0, step];
+    seed_grids::local_seed_grid(reference_k, sensor, &offsets, &offsets, max_abs_tilt, list)
 }
 
 // The end of a round: the next list that has a seed, or the end of the run. An empty list ends its round at once.
-fn close_round(run: Run, list: &mut [f64]) -> Run
+fn close_round(mut run: Run, list: &mut [f64]) -> Run
     requires { ⌜ (run .place .round ≤ run .options .«refine_rounds») × (run .options .«refine_rounds» ≤ 16) ⌝ }
     requires { ⌜ 54 ≤ length (now list) ⌝ }
     ensures { λ r. ⌜ r ≡ closeRound (run .options .«refine_rounds» - run .place .round) run (now (list .entry)) .run ⌝ }
     ensures { λ r. ⌜ now (list .exit) ≡ closeRound (run .options .«refine_rounds» - run .place .round) run (now (list .entry)) .list ⌝ }
 {
-    let options = run.options;
-    let place = run.place;
-    let mut rounds_left = options.refine_rounds - place.round;
-    let mut current = run;
-    while 0 < rounds_left {
-        let round_best = current.round_best;
-        let run_best = current.run_best;
-        let best = or_else(round_best, run_best);
+    while run.place.round < run.options.refine_rounds {
+        let best = or_else(run.round_best, run.run_best);
         if !best.found {
-            return ended(current);
+            break;
         }
-        let candidate = best.candidate;
-        let len = next_seeds(current, candidate, list);
+        let step = next_step(run);
+        let len = next_seeds(
+            step,
+            run.options.max_abs_tilt,
+            best.candidate.camera.k,
+            best.candidate.sensor,
+            list,
+        );
+        run = opened(run, len);
         if len != 0 {
-            return opened(current, len);
+            return run;
         }
-        current = opened(current, 0);
-        rounds_left -= 1;
     }
-    ended(current)
+    ended(run)
 }
 
 // Enters an outcome for the waiting seed: the round goes on, or ends with its last seed.
-pub fn enter(run: Run, list: &mut [f64], outcome: Outcome) -> Run
+pub fn enter(mut run: Run, list: &mut [f64], outcome: Outcome) -> Run
     requires { ⌜ sound run ≡ true ⌝ }
     requires { ⌜ run .waiting .«is_waiting» ≡ true ⌝ }
     requires { ⌜ run .place .demand ≤ length (now list) ⌝ }
     ensures { λ r. ⌜ r ≡ enterDef run (now (list .entry)) outcome .run ⌝ }
     ensures { λ r. ⌜ now (list .exit) ≡ enterDef run (now (list .entry)) outcome .list ⌝ }
 {
-    let after = entered(run, outcome);
-    let place = after.place;
-    if place.at < place.len {
-        return after;
+    run = entered(run, outcome);
+    if run.place.len <= run.place.at {
+        run = close_round(run, list);
     }
-    close_round(after, list)
+    run
 }
 
 fn reply_of(outcome: Outcome) -> Answered
@@ -131,7 +122,7 @@ fn reply_of(outcome: Outcome) -> Answered
 }
 
 pub fn answer(
-    run: Run,
+    mut run: Run,
     finding: Finding,
     rows: &[f64],
     flags: &[u8],
@@ -141,19 +132,17 @@ pub fn answer(
     ensures { λ r. ⌜ now (list .exit) ≡ answerDef run finding (now (rows .entry)) (now (flags .entry)) (now (list .entry)) .list ⌝ }
 {
     let number = answer_refusal(run, list.len(), finding, rows, flags);
-    if number != 0 {
-        return AnswerReply {
-            reply: Answered::Refused(number),
-            run,
-        };
+    let mut reply = Answered::Refused(number);
+    if number == 0 {
+        let outcome = score::finding_outcome(
+            finding,
+            run.waiting.seed.sensor,
+            run.center,
+            rows,
+            flags,
+        );
+        reply = reply_of(outcome);
+        run = enter(run, list, outcome);
     }
-    let waiting = run.waiting;
-    let seed = waiting.seed;
-    let sensor = seed.sensor;
-    let center = run.center;
-    let outcome = score::finding_outcome(finding, sensor, center, rows, flags);
-    AnswerReply {
-        reply: reply_of(outcome),
-        run: enter(run, list, outcome),
-    }
+    AnswerReply { reply, run }
 }

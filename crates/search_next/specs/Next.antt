@@ -9,6 +9,7 @@ use Rattle.common.specs.Refusal.{Check, _when_, firstRefusal}
 use Rattle.seeds.specs.Layout.{seedAt}
 use Rattle.search.specs.Record.{sound, awaiting}
 use Rattle.search.specs.declared.run.Run.{Run}
+use Rattle.search_next.specs.declared.Handed.{Handed}
 use Rattle.search_next.specs.declared.Handed.the-variants.{Candidate, Over, Refused}
 use Rattle.search_next.specs.declared.NextReply.{NextReply}
 
@@ -23,6 +24,10 @@ nextChecks r n =
 
 abbrev pub nextRefusal : Run → ℕ → ℕ
 nextRefusal r n = firstRefusal (nextChecks r n)
+
+-- the reply: a refusal's number, Over, or the next candidate's number
+abbrev pub replyBy : ℕ → Bool → ℕ → Handed
+replyBy n over number = cond (eqb n 0) (cond over Over (Candidate number)) (Refused n)
 
 -- The list's next seed is handed out under the next number, and the run keeps its six numbers. Once the run has a result: Over.
 unfoldable pub nextDef : Run → List Float → NextReply

@@ -1,7 +1,7 @@
 // Next hands out the list's next seed, and the seed call beside it returns that seed's six numbers as a part of the caller's list.
 
 ghost use mathlib.Core.Path.{_≡_};
-ghost use Rattle.search_next.specs.Next.{nextRefusal, nextDef, seedLent, seedPart};
+ghost use Rattle.search_next.specs.Next.{nextRefusal, replyBy, nextDef, seedLent, seedPart};
 use search::run::Run;
 use search::run::awaiting;
 use search::run::is_sound;
@@ -21,55 +21,50 @@ pub struct NextReply {
 fn next_refusal(run: Run, list_len: usize) -> u8
     ensures { λ r. ⌜ r ≡ nextRefusal run «list_len» ⌝ }
 {
-    let place = run.place;
-    let waiting = run.waiting;
-    let best = run.run_best;
     if !is_sound(run) {
         return 11;
     }
-    if waiting.is_waiting {
+    if run.waiting.is_waiting {
         return 9;
     }
-    if list_len < place.demand {
+    if list_len < run.place.demand {
         return 10;
     }
-    if place.over & !best.found {
+    if run.place.over & !run.run_best.found {
         return 11;
     }
     0
 }
 
-pub fn next(run: Run, list: &[f64]) -> NextReply
+// The reply, by the refusal's number, whether the run is over, and the next candidate's number.
+fn reply_by(refusal: u8, over: bool, number: usize) -> Handed
+    ensures { λ r. ⌜ r ≡ replyBy refusal over number ⌝ }
+{
+    if refusal != 0 {
+        return Handed::Refused(refusal);
+    }
+    if over {
+        return Handed::Over;
+    }
+    Handed::Candidate(number)
+}
+
+pub fn next(mut run: Run, list: &[f64]) -> NextReply
     ensures { λ r. ⌜ r ≡ nextDef run (now (list .entry)) ⌝ }
 {
-    let number = next_refusal(run, list.len());
-    if number != 0 {
-        return NextReply {
-            reply: Handed::Refused(number),
-            run,
-        };
+    let refusal = next_refusal(run, list.len());
+    let reply = reply_by(refusal, run.place.over, run.place.number);
+    if (refusal == 0) & !run.place.over {
+        run = awaiting(run, seed_lists::seed_at(list, run.place.at));
     }
-    let place = run.place;
-    if place.over {
-        return NextReply {
-            reply: Handed::Over,
-            run,
-        };
-    }
-    let seed = seed_lists::seed_at(list, place.at);
-    NextReply {
-        reply: Handed::Candidate(place.number),
-        run: awaiting(run, seed),
-    }
+    NextReply { reply, run }
 }
 
 // Whether a seed waits, and the list is long enough.
 fn is_seed_lent(run: Run, list_len: usize) -> bool
     ensures { λ r. ⌜ r ≡ seedLent run «list_len» ⌝ }
 {
-    let place = run.place;
-    let waiting = run.waiting;
-    is_sound(run) & waiting.is_waiting & (place.demand <= list_len)
+    is_sound(run) & run.waiting.is_waiting & (run.place.demand <= list_len)
 }
 
 // The waiting seed's six numbers as they stand in the caller's list, or an empty part.
@@ -79,8 +74,7 @@ pub fn seed(run: Run, list: &[f64]) -> &[f64]
     if !is_seed_lent(run, list.len()) {
         return &list[0..0];
     }
-    let place = run.place;
-    let from = 6 * place.at;
+    let from = 6 * run.place.at;
     let to = from + 6;
     &list[from..to]
 }

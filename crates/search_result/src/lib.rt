@@ -15,15 +15,13 @@ pub enum Resulted {
 fn result_refusal(run: Run) -> u8
     ensures { λ r. ⌜ r ≡ resultRefusal run ⌝ }
 {
-    let place = run.place;
-    let best = run.run_best;
     if !is_sound(run) {
         return 11;
     }
-    if !place.over {
+    if !run.place.over {
         return 14;
     }
-    if !best.found {
+    if !run.run_best.found {
         return 11;
     }
     0
@@ -36,7 +34,6 @@ pub fn result(run: Run) -> Resulted
     if number != 0 {
         return Resulted::Refused(number);
     }
-    let best = run.run_best;
-    let candidate = best.candidate;
+    let candidate = run.run_best.candidate;
     Resulted::Result(candidate)
 }

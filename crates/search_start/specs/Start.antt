@@ -56,6 +56,17 @@ openingOf options center demand n = record {
   «run_best» = noBest;
 }
 
+-- the refusals that need only the options and the lengths of the lists
+abbrev pub optionsRefusal : ℕ → Options → ℕ → ℕ → ℕ → ℕ
+optionsRefusal views options x y d =
+    firstRefusal
+    ((1 when ltb views 3)
+    ∷ (2 when (eqb x 0 || eqb y 0))
+    ∷ (3 when not (positive (options .«max_abs_tilt»)))
+    ∷ (4 when (ltb 0 (options .«refine_rounds») && not (positive (options .«refine_step»))))
+    ∷ (5 when tooMany x y d (options .«refine_rounds»))
+    ∷ [])
+
 -- The inputs are the parameters of these parts; n is how many numbers the lent list has.
 module _ (views : ℕ) (options : Options) (xs ys decomposition : List Float) where
   abbrev pub startDemand : ℕ
@@ -73,6 +84,15 @@ module _ (views : ℕ) (options : Options) (xs ys decomposition : List Float) wh
       ∷ (7 when not (every isFinite xs && every isFinite ys))
       ∷ (8 when ltb n startDemand)
       ∷ []
+
+  -- the refusals after those of the options
+  abbrev pub listsRefusal : ℕ → ℕ
+  listsRefusal n =
+      firstRefusal
+      ((6 when not (every (goodSeed (options .«max_abs_tilt»)) (allSeeds decomposition)))
+      ∷ (7 when not (every isFinite xs && every isFinite ys))
+      ∷ (8 when ltb n startDemand)
+      ∷ [])
 
   abbrev pub startRefusal : ℕ → ℕ
   startRefusal n = firstRefusal (startChecks n)

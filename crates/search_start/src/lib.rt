@@ -1,11 +1,12 @@
 // Start opens a run: it refuses bad options, and writes round 0's list to the front of the lent list.
 
 ghost use mathlib.Core.Path.{_≡_};
-ghost use Prim.Native.Nat.{_≤_};
+ghost use Prim.Native.Nat.{_/_, _≤_};
 ghost use Rattle.common.specs.All.{every};
 ghost use Rattle.float.specs.Float.{isFinite};
 ghost use Rattle.seeds.specs.Layout.{allSeeds};
-ghost use Rattle.search_start.specs.Start.{positive, goodSeed, tooMany, demandOf, openingOf, startRefusal, startReply, startList};
+ghost use Rattle.search_start.specs.Start.{positive, goodSeed, tooMany, demandOf, openingOf, optionsRefusal, startRefusal, startReply, startList};
+ghost use Rattle.search_start.specs.declared.Started.the-variants.{Accepted};
 use models::intrinsics::FxFyCxCy;
 use models::math::Pt2;
 use search::run::Options;
@@ -29,15 +30,13 @@ fn is_positive(x: f64) -> bool
 fn is_good_seed(max_abs_tilt: f64, seed: CandidateSeed) -> bool
     ensures { λ r. ⌜ r ≡ goodSeed «max_abs_tilt» seed ⌝ }
 {
-    let k = seed.reference_k;
-    let sensor = seed.sensor;
-    is_positive(k.fx)
-        & is_positive(k.fy)
-        & float::is_finite(k.cx)
-        & float::is_finite(k.cy)
-        & float::is_finite(sensor.tilt_x)
-        & float::is_finite(sensor.tilt_y)
-        & seed_checks::in_bound(max_abs_tilt, sensor)
+    let mut good = is_positive(seed.reference_k.fx);
+    good = good & is_positive(seed.reference_k.fy);
+    good = good & float::is_finite(seed.reference_k.cx);
+    good = good & float::is_finite(seed.reference_k.cy);
+    good = good & float::is_finite(seed.sensor.tilt_x);
+    good = good & float::is_finite(seed.sensor.tilt_y);
+    good & seed_checks::in_bound(max_abs_tilt, seed.sensor)
 }
 
 fn all_good_seeds(max_abs_tilt: f64, decomposition: &[f64]) -> bool
@@ -71,21 +70,46 @@ fn all_finite(numbers: &[f64]) -> bool
 fn is_too_many(x: usize, y: usize, decomposition: usize, rounds: usize) -> bool
     ensures { λ r. ⌜ r ≡ tooMany x y decomposition rounds ⌝ }
 {
-    (16 < x) | (16 < y) | (256 < decomposition / 6) | (16 < rounds) | (decomposition % 6 != 0)
+    let mut many = (16 < x) | (16 < y);
+    many = many | (256 < decomposition / 6);
+    many = many | (16 < rounds);
+    many | (decomposition % 6 != 0)
 }
 
 // What the lent list must hold: a later round's nine seeds, and every seed that round 0 can have.
 fn demand_of(decomposition: usize, x: usize, y: usize) -> usize
-    requires { ⌜ decomposition ≤ 256 ⌝ }
+    requires { ⌜ decomposition / 6 ≤ 256 ⌝ }
     requires { ⌜ x ≤ 16 ⌝ }
     requires { ⌜ y ≤ 16 ⌝ }
-    ensures { λ r. ⌜ r ≡ demandOf decomposition x y ⌝ }
+    ensures { λ r. ⌜ r ≡ demandOf (decomposition / 6) x y ⌝ }
 {
-    let n = 6 * (decomposition + x * y);
+    let n = 6 * (decomposition / 6 + x * y);
     if n < 54 {
         return 54;
     }
     n
+}
+
+// Start's first refusals: those of the options and of the lists' lengths.
+fn options_refusal(views: usize, options: Options, x: usize, y: usize, decomposition: usize) -> u8
+    ensures { λ r. ⌜ r ≡ optionsRefusal views options x y decomposition ⌝ }
+{
+    if views < 3 {
+        return 1;
+    }
+    if (x == 0) | (y == 0) {
+        return 2;
+    }
+    if !is_positive(options.max_abs_tilt) {
+        return 3;
+    }
+    if (0 < options.refine_rounds) & !is_positive(options.refine_step) {
+        return 4;
+    }
+    if is_too_many(x, y, decomposition, options.refine_rounds) {
+        return 5;
+    }
+    0
 }
 
 // Start's refusals, of which the first that holds is returned; 0 where none does.
@@ -102,20 +126,9 @@ fn start_refusal(
     let x = tilt_x_seeds.len();
     let y = tilt_y_seeds.len();
     let numbers = decomposition.len();
-    if views < 3 {
-        return 1;
-    }
-    if (x == 0) | (y == 0) {
-        return 2;
-    }
-    if !is_positive(options.max_abs_tilt) {
-        return 3;
-    }
-    if (0 < options.refine_rounds) & !is_positive(options.refine_step) {
-        return 4;
-    }
-    if is_too_many(x, y, numbers, options.refine_rounds) {
-        return 5;
+    let number = options_refusal(views, options, x, y, numbers);
+    if number != 0 {
+        return number;
     }
     if !all_good_seeds(options.max_abs_tilt, decomposition) {
         return 6;
@@ -123,16 +136,17 @@ fn start_refusal(
     if !(all_finite(tilt_x_seeds) & all_finite(tilt_y_seeds)) {
         return 7;
     }
-    if list_len < demand_of(numbers / 6, x, y) {
+    if list_len < demand_of(numbers, x, y) {
         return 8;
     }
     0
 }
 
-// A run with this many seeds in round 0's list. It is over at once where there are none.
+// The accepted run with this many seeds in round 0's list. It is over at once where there are none.
 fn opening(options: Options, center: Pt2, demand: usize, len: usize) -> Run
     ensures { λ r. ⌜ r ≡ openingOf options center demand len ⌝ }
 {
+    let none = best::no_best();
     Run {
         options,
         center,
@@ -146,8 +160,8 @@ fn opening(options: Options, center: Pt2, demand: usize, len: usize) -> Run
             over: len == 0,
         },
         waiting: nobody(),
-        round_best: best::no_best(),
-        run_best: best::no_best(),
+        round_best: none,
+        run_best: none,
     }
 }
 
@@ -175,11 +189,7 @@ pub fn start(
     if number != 0 {
         return Started::Refused(number);
     }
-    let demand = demand_of(
-        decomposition.len() / 6,
-        tilt_x_seeds.len(),
-        tilt_y_seeds.len(),
-    );
+    let demand = demand_of(decomposition.len(), tilt_x_seeds.len(), tilt_y_seeds.len());
     let len = seed_grids::initial_seed_grid(
         decomposition,
         tilt_x_seeds,

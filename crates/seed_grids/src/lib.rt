@@ -22,7 +22,7 @@ use sensor::ScheimpflugParams;
 // One x tilt with every y offset.
 fn local_seed_row(
     seeds: &mut [f64],
-    count: usize,
+    mut count: usize,
     reference_k: FxFyCxCy,
     tilt_x: f64,
     center_y: f64,
@@ -32,17 +32,16 @@ fn local_seed_row(
     requires { ⌜ 6 * (count + length (now «offsets_y»)) ≤ length (now seeds) ⌝ }
     ensures { λ r. ⌜ Leaves six 6 (mergedInto rules.near (seedsOf count (now (seeds .entry))) (seedsWithin «max_abs_tilt» «reference_k» (map (tilts «tilt_x») (moved «center_y» (now («offsets_y» .entry)))))) (now (seeds .entry)) (now (seeds .exit)) r ⌝ }
 {
-    let mut kept = count;
     let mut j = 0;
     while j < offsets_y.len() {
         let sensor = ScheimpflugParams {
             tilt_x,
             tilt_y: center_y + offsets_y[j],
         };
-        kept = push_in_bound(seeds, kept, reference_k, sensor, max_abs_tilt);
+        count = push_in_bound(seeds, count, reference_k, sensor, max_abs_tilt);
         j += 1;
     }
-    kept
+    count
 }
 
 // The offsets around a centre, x outer, with the camera found there: those within the bound, merged. Says how many there are.
@@ -57,8 +56,6 @@ pub fn local_seed_grid(
     requires { ⌜ 6 * (length (now «offsets_x») * length (now «offsets_y»)) ≤ length (now seeds) ⌝ }
     ensures { λ r. ⌜ Leaves six 6 (nextList (now («offsets_x» .entry)) (now («offsets_y» .entry)) center «reference_k» «max_abs_tilt») (now (seeds .entry)) (now (seeds .exit)) r ⌝ }
 {
-    let center_x = center.tilt_x;
-    let center_y = center.tilt_y;
     let mut kept = 0;
     let mut i = 0;
     while i < offsets_x.len() {
@@ -66,8 +63,8 @@ pub fn local_seed_grid(
             seeds,
             kept,
             reference_k,
-            center_x + offsets_x[i],
-            center_y,
+            center.tilt_x + offsets_x[i],
+            center.tilt_y,
             offsets_y,
             max_abs_tilt,
         );
@@ -81,7 +78,7 @@ pub fn local_seed_grid(
 // One typed x tilt with every typed y tilt.
 fn seed_row(
     grid: &mut [f64],
-    count: usize,
+    mut count: usize,
     tilt_x: f64,
     y_seeds: &[f64],
     max_abs_tilt: f64,
@@ -89,17 +86,16 @@ fn seed_row(
     requires { ⌜ 2 * (count + length (now «y_seeds»)) ≤ length (now grid) ⌝ }
     ensures { λ r. ⌜ Leaves two 2 (mergedInto tiltNear (tiltsOf count (now (grid .entry))) (keep (inBound «max_abs_tilt») (map (tilts «tilt_x») (now («y_seeds» .entry))))) (now (grid .entry)) (now (grid .exit)) r ⌝ }
 {
-    let mut kept = count;
     let mut j = 0;
     while j < y_seeds.len() {
         let t = ScheimpflugParams {
             tilt_x,
             tilt_y: y_seeds[j],
         };
-        kept = push_seed(grid, kept, t, max_abs_tilt);
+        count = push_seed(grid, count, t, max_abs_tilt);
         j += 1;
     }
-    kept
+    count
 }
 
 // The typed tilts, x outer: those within the bound, merged by tilt alone.
@@ -117,10 +113,11 @@ fn seed_grid(x_seeds: &[f64], y_seeds: &[f64], max_abs_tilt: f64, grid: &mut [f6
 }
 
 // Offers the decomposition's seeds, in their order.
-fn push_decomposition(seeds: &mut [f64], decomposition: &[f64], number: usize) -> usize
-    requires { ⌜ (6 * number ≤ length (now decomposition)) × (6 * number ≤ length (now seeds)) ⌝ }
-    ensures { λ r. ⌜ Leaves six 6 (merged rules.near (seedsOf number (now (decomposition .entry)))) (now (seeds .entry)) (now (seeds .exit)) r ⌝ }
+fn push_decomposition(seeds: &mut [f64], decomposition: &[f64]) -> usize
+    requires { ⌜ 6 * (length (now decomposition) / 6) ≤ length (now seeds) ⌝ }
+    ensures { λ r. ⌜ Leaves six 6 (merged rules.near (allSeeds (now (decomposition .entry)))) (now (seeds .entry)) (now (seeds .exit)) r ⌝ }
 {
+    let number = decomposition.len() / 6;
     let mut kept = 0;
     let mut i = 0;
     while i < number {
@@ -133,7 +130,7 @@ fn push_decomposition(seeds: &mut [f64], decomposition: &[f64], number: usize) -
 // Offers the grid's tilts with the base camera, in their order.
 fn push_grid(
     seeds: &mut [f64],
-    count: usize,
+    mut count: usize,
     grid: &[f64],
     number: usize,
     base_k: FxFyCxCy,
@@ -141,13 +138,12 @@ fn push_grid(
     requires { ⌜ (2 * number ≤ length (now grid)) × (6 * (count + number) ≤ length (now seeds)) ⌝ }
     ensures { λ r. ⌜ Leaves six 6 (mergedInto rules.near (seedsOf count (now (seeds .entry))) (map (seedWith «base_k») (tiltsOf number (now (grid .entry))))) (now (seeds .entry)) (now (seeds .exit)) r ⌝ }
 {
-    let mut kept = count;
     let mut i = 0;
     while i < number {
         let sensor = tilts_at(grid, i);
-        kept = push_candidate_seed(
+        count = push_candidate_seed(
             seeds,
-            kept,
+            count,
             CandidateSeed {
                 reference_k: base_k,
                 sensor,
@@ -155,7 +151,7 @@ fn push_grid(
         );
         i += 1;
     }
-    kept
+    count
 }
 
 // The decomposition's seeds, then the typed tilts with the base camera, merged. Says how many there are.
@@ -174,6 +170,6 @@ pub fn initial_seed_grid(
 {
     let mut grid = [0.0; 512];
     let number = seed_grid(x_seeds, y_seeds, max_abs_tilt, &mut grid);
-    let count = push_decomposition(seeds, decomposition, decomposition.len() / 6);
+    let count = push_decomposition(seeds, decomposition);
     push_grid(seeds, count, &grid, number, base_k)
 }

@@ -46,14 +46,12 @@ fn put_seed(seeds: &mut [f64], i: usize, seed: CandidateSeed)
     ensures { λ r. ⌜ now (seeds .exit) ≡ sets (now (seeds .entry)) (6 * i) (six seed) ⌝ }
 {
     let at = 6 * i;
-    let k = seed.reference_k;
-    let t = seed.sensor;
-    seeds[at] = k.fx;
-    seeds[at + 1] = k.fy;
-    seeds[at + 2] = k.cx;
-    seeds[at + 3] = k.cy;
-    seeds[at + 4] = t.tilt_x;
-    seeds[at + 5] = t.tilt_y;
+    seeds[at] = seed.reference_k.fx;
+    seeds[at + 1] = seed.reference_k.fy;
+    seeds[at + 2] = seed.reference_k.cx;
+    seeds[at + 3] = seed.reference_k.cy;
+    seeds[at + 4] = seed.sensor.tilt_x;
+    seeds[at + 5] = seed.sensor.tilt_y;
 }
 
 // The first of the kept seeds that is near this one.
@@ -76,14 +74,11 @@ pub fn push_candidate_seed(seeds: &mut [f64], count: usize, seed: CandidateSeed)
     requires { ⌜ 6 * count + 6 ≤ length (now seeds) ⌝ }
     ensures { λ r. ⌜ Leaves six 6 (push rules.near (seedsOf count (now (seeds .entry))) seed) (now (seeds .entry)) (now (seeds .exit)) r ⌝ }
 {
-    let found = find_near(seeds, count, seed);
-    match found {
-        Found::At(_) => count,
-        Found::Nothing => {
-            put_seed(seeds, count, seed);
-            count + 1
-        }
-    }
+    let Found::Nothing = find_near(seeds, count, seed) else {
+        return count;
+    };
+    put_seed(seeds, count, seed);
+    count + 1
 }
 
 // The same for tilts with a camera, dropped too where they lie beyond the bound.
@@ -155,12 +150,9 @@ pub fn push_seed(grid: &mut [f64], count: usize, t: ScheimpflugParams, max_abs_t
     if !in_bound(max_abs_tilt, t) {
         return count;
     }
-    let found = find_tilt_near(grid, count, t);
-    match found {
-        Found::At(_) => count,
-        Found::Nothing => {
-            put_tilts(grid, count, t);
-            count + 1
-        }
-    }
+    let Found::Nothing = find_tilt_near(grid, count, t) else {
+        return count;
+    };
+    put_tilts(grid, count, t);
+    count + 1
 }

@@ -2,8 +2,6 @@
 // Each function equals its rule, rounded operation by operation, for every input.
 
 ghost use mathlib.Core.Path.{_≡_};
-ghost use mathlib.Core.Bool.{cond};
-ghost use lib.Dec.{eqb};
 ghost use Rattle.distortion.specs.Distortion.{squaredNorm};
 ghost use Rattle.undistortion.specs.Undistortion.{minusPoint, halved, estimateAt, jacobianDeterminant, singular, stepOf, improves, trials, smallStep, afterTrials, newtonTurn, lastStep, newtonUndistorted, undistorted};
 use distortion::BrownConrady5;
@@ -204,25 +202,15 @@ fn undistort_numbers(
     )
 }
 
-// The number of turns: 0 stands for 20.
-fn turns(iters: u32) -> u32
-    ensures { λ r. ⌜ r ≡ cond (eqb iters 0) 20 iters ⌝ }
-{
-    if iters == 0 { 20 } else { iters }
-}
-
 // The point whose distortion is `n_dist`, as far as `iters` turns of Newton's method find it; 0 stands for 20.
 pub fn undistort(b: BrownConrady5, iters: u32, n_dist: Pt2) -> Pt2
     ensures { λ r. ⌜ r ≡ undistorted b iters «n_dist» ⌝ }
 {
-    undistort_numbers(
-        b.k1,
-        b.k2,
-        b.k3,
-        b.p1,
-        b.p2,
-        n_dist.x,
-        n_dist.y,
-        turns(iters),
-    )
+    let x = n_dist.x;
+    let y = n_dist.y;
+    // With one call alone the compiler would put the numbers' function in here, and callers would hand over structs after all.
+    if iters == 0 {
+        return undistort_numbers(b.k1, b.k2, b.k3, b.p1, b.p2, x, y, 20);
+    }
+    undistort_numbers(b.k1, b.k2, b.k3, b.p1, b.p2, x, y, iters)
 }

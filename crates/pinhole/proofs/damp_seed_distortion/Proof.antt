@@ -12,7 +12,7 @@ clamp-requires-2 c κs = search needs
 
 returns : tie.Need-returns
 unfolding damped
-returns c = cc
+returns c = rw (c .before .clamp .ensures, c .clamp2 .ensures)
 
 pub damp-seed-distortion-spec : {M : Type 1} → statement M
 damp-seed-distortion-spec =

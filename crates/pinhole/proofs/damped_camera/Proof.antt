@@ -9,7 +9,7 @@ damp-seed-distortion-requires : tie.Need-damp-seed-distortion-requires
 damp-seed-distortion-requires c κs = search needs
 
 returns : tie.Need-returns
-returns c = ap (λ (d : BrownConrady5). record { k = c .before .before .args .found .k; dist = d }) (c .damp-seed-distortion .ensures)
+returns c = ap (λ (d : BrownConrady5). record { k = c .before .args .found .k; dist = d }) (c .damp-seed-distortion .ensures)
 
 pub damped-camera-spec : {M : Type 1} → statement M
 damped-camera-spec = tie.close (tie.spec damp-seed-distortion-requires returns)

@@ -21,7 +21,7 @@ is-finite-requires-5 c κs = search needs
 
 returns : tie.Need-returns
 unfolding finiteDistortion
-returns c = cc
+returns c = rw (c .before .before .before .before .is-finite .ensures, c .before .before .before .is-finite2 .ensures, c .before .before .is-finite3 .ensures, c .before .is-finite4 .ensures, c .is-finite5 .ensures)
 
 pub finite-distortion-spec : {M : Type 1} → statement M
 finite-distortion-spec =

@@ -12,7 +12,7 @@ finite-distortion-requires c κs = search needs
 
 returns : tie.Need-returns
 unfolding validCamera
-returns c = cc
+returns c = rw (c .before .before .before .finite-intrinsics .ensures, c .before .before .finite-distortion .ensures)
 
 pub validate-camera-spec : {M : Type 1} → statement M
 validate-camera-spec =

@@ -9,7 +9,7 @@ sqrt-requires c κs = search needs
 
 returns : tie.Need-returns
 unfolding distanceOf
-returns c = cc
+returns c = c .sqrt .ensures
 
 pub distance-spec : {M : Type 1} → statement M
 distance-spec =

@@ -19,7 +19,7 @@ sensor-to-pixel-requires c κs = search needs
 returns : tie.Need-returns
 unfolding projected
 returns c =
-    let a = c .before .before .before .before .before .args in
+    let a = c .before .before .before .args in
     c .sensor-to-pixel .ensures ∙ ap (sensorToPixel (a .camera .k)) (c .before .apply-homography .ensures ∙ ap (applyHomography (a .h)) (c .before .before .distort .ensures))
 
 pub project-point-spec : {M : Type 1} → statement M

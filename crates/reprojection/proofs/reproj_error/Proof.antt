@@ -15,7 +15,7 @@ distance-requires c κs = search needs
 returns : tie.Need-returns
 unfolding rowError
 returns c =
-    let a = c .before .before .before .before .args in
+    let a = c .before .before .args in
     c .distance .ensures ∙ ap (λ (p : Pt2). distanceOf p (a .row .seen)) (c .before .project-point .ensures)
 
 pub reproj-error-spec : {M : Type 1} → statement M

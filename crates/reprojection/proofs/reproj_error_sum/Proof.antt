@@ -1,17 +1,54 @@
 -- `reprojection::reproj_error_sum` meets its contract. The loop's invariant: the sum and count are those of the first i rows.
 -- The measure is what is left of the rows. Assumes nothing.
-use Prim.Native.Nat.{_≤_, _<_, _-_}
-use mathlib.Core.Path.{_≡_}
+use Prim.Native.Nat.{ℕ, suc, _+_, _%_, _^_, _≤_, _<_, _-_}
+use mathlib.Core.Path.{_≡_, refl, _∙_}
+use mathlib.Core.Bool.{Bool, true, false, cond}
+use mathlib.Core.List.{List, _∷_}
+use native.Mathlib.Nat.{mod-eq-of-lt}
+use native.Mathlib.Numerals.{add-one}
 use native.Mathlib.Omega.{arith}
 use borrow.Author.Needs.{needs}
-use lib.ListN.{length}
-use Rattle.reprojection.specs.Rows.{rowsOf}
-use Rattle.reprojection.specs.Steps.{Passed, passed-none, passed-more, passed-all, rowAt, row-at}
+use lib.ListN.{length, getD, drop}
+use lib.Seq.{drop-cons}
+use Rattle.float.specs.Binary64.{_+₆₄_}
+use Rattle.matrix.specs.Matrix.{Matrix}
+use Rattle.pinhole.specs.declared.PinholeCamera.{PinholeCamera}
+use Rattle.reprojection.specs.Rows.{rowsOf, rowError, isCounted, countedErrors, summed}
+use Rattle.reprojection.specs.Steps.{addRow, Passed, passed-none, passed-all, rowAt, row-at}
+use Rattle.reprojection.specs.declared.Row.{Row}
+use Rattle.reprojection.specs.declared.ErrorSum.{ErrorSum}
 use Rattle.reprojection.proofs.reproj_error_sum.Statement.{statement}
 use Rattle.reprojection.proofs.reproj_error_sum.Tie as tie
-use Rattle.reprojection.proofs.reproj_error_sum.Reads as reads
-use Rattle.reprojection.proofs.reproj_error_sum.Lts as lts
 
+-- ---- one more row
+add-row : (s : ErrorSum) (c : PinholeCamera) (h : Matrix) (r : Row) (rs : List Row)
+    → s .count + 1 < 2 ^ 64 → summed (addRow s c h r) (countedErrors c h rs) ≡ summed s (countedErrors c h (r ∷ rs))
+unfolding addRow countedErrors summed
+add-row s c h r rs small =
+    let e = rowError c h r in
+    let es = countedErrors c h rs in
+    elim (isCounted c h r) as (λ (v : Bool). summed (cond v (record { sum = s .sum +₆₄ e; count = (s .count + 1) % 2 ^ 64 }) s) es ≡ summed s (cond v (e ∷ es) es)) [
+      | true ↦ rw (mod-eq-of-lt small)
+      | false ↦ refl
+    ]
+
+count-row : (s : ErrorSum) (c : PinholeCamera) (h : Matrix) (r : Row) → addRow s c h r .count ≤ s .count + 1
+unfolding addRow
+count-row s c h r =
+    elim (isCounted c h r) as (λ (v : Bool). cond v (record { sum = s .sum +₆₄ rowError c h r; count = (s .count + 1) % 2 ^ 64 }) s .count ≤ s .count + 1) [
+      | true ↦ omega arith
+      | false ↦ omega arith
+    ]
+
+passed-more : (c : PinholeCamera) (h : Matrix) (rows : List Row) (i : ℕ) (s : ErrorSum) (r : Row)
+    → i < length rows → i + 1 < 2 ^ 64 → getD rows i r ≡ r → Passed c h rows i s → Passed c h rows (i + 1) (addRow s c h r)
+passed-more c h rows i s r below small at p =
+    record {
+      few = omega (arith, count-row s c h r);
+      rest = rw (add-one i) (add-row s c h r (drop (suc i) rows) (omega arith) ∙ (rw (drop-cons rows i r below, at) at (p .rest)));
+    }
+
+-- ---- the loop
 abbrev Inv-loop : tie.InvT-loop
 Inv-loop camera h rows flags n total₀ i₀ total i = (i ≤ n) × Passed camera h (rowsOf rows flags) i total
 
@@ -21,8 +58,11 @@ abbrev μ-loop : tie.MeasureT-loop
 row-count-requires : tie.Need-row-count-requires Inv-loop μ-loop
 row-count-requires c κs = search needs
 
+no-errors-requires : tie.Need-no-errors-requires Inv-loop μ-loop
+no-errors-requires c κs = search needs
+
 loop-holds : tie.Need-loop-holds Inv-loop μ-loop
-loop-holds c = (omega arith, passed-none _ _ _)
+loop-holds c = (omega arith, rw (c .no-errors .ensures) (passed-none _ _ _))
 
 read-row-requires : tie.Need-read-row-requires Inv-loop μ-loop
 read-row-requires c κs = (omega arith, omega arith)
@@ -38,7 +78,7 @@ loop-less c = omega arith
 
 loop-again : tie.Need-loop-again Inv-loop μ-loop
 loop-again c =
-    let args = c .before .before .before .before .before .before .before .args in
+    let args = c .before .before .before .before .before .before .before .before .args in
     let ns = args .rows .now in
     let fs = args .flags .now in
     let i = c .before .before .before .loop .i in
@@ -54,7 +94,7 @@ loop-again c =
 
 returns : tie.Need-returns Inv-loop μ-loop
 returns c =
-    let args = c .before .before .before .before .before .args in
+    let args = c .before .before .before .before .before .before .args in
     let rows = rowsOf (args .rows .now) (args .flags .now) in
     let e : c .before .loop .i ≡ length rows = omega arith in
     passed-all (args .camera) (args .h) rows (c .before .loop .total) (rw e at (c .before .loop .inv .1))
@@ -66,6 +106,7 @@ reproj-error-sum-spec =
     Inv-loop
     μ-loop
     row-count-requires
+    no-errors-requires
     loop-holds
     read-row-requires
     with-row-requires

@@ -19,7 +19,7 @@ validate-camera-requires c κs = search needs
 
 returns : tie.Need-returns
 returns c =
-    let a = c .before .before .before .before .before .before .before .args in
+    let a = c .before .before .before .before .before .args in
     let valid = ap validCamera (sym (c .before .before .damped-camera .ensures)) ∙ sym (c .before .validate-camera .ensures) ∙ not-true _ (c .if1 .taken) in
     sym (invalid-skips (a .solved) (a .sensor) (a .center) (a .rows .now) (a .flags .now) valid)
 
@@ -32,7 +32,7 @@ is-finite-requires c κs = search needs
 returns-2 : tie.Need-returns-2
 unfolding meanWith
 returns-2 c =
-    let a = c .before .before .before .before .before .before .before .before .before .before .args in
+    let a = c .before .before .before .before .before .before .before .before .args in
     let camera = sym (c .before .before .before .before .before .damped-camera .ensures) in
     let valid = ap validCamera camera ∙ sym (c .before .before .before .before .validate-camera .ensures) ∙ not-false _ (c .before .before .before .if1 .left) in
     let mean = ap (λ (k : PinholeCamera). meanOf (errorSum k (tiltMatrix (a .solved .trig)) (rowsOf (a .rows .now) (a .flags .now)))) camera ∙ sym (c .before .before .mean-of-rows .ensures) in
@@ -45,7 +45,7 @@ candidate-score-requires c κs = search needs
 returns-3 : tie.Need-returns-3
 unfolding meanWith scoringOf
 returns-3 c =
-    let a = c .before .before .before .before .before .before .before .before .before .before .before .args in
+    let a = c .before .before .before .before .before .before .before .before .before .args in
     let camera = sym (c .before .before .before .before .before .before .damped-camera .ensures) in
     let valid = ap validCamera camera ∙ sym (c .before .before .before .before .before .validate-camera .ensures) ∙ not-false _ (c .before .before .before .before .if1 .left) in
     let mean = ap (λ (k : PinholeCamera). meanOf (errorSum k (tiltMatrix (a .solved .trig)) (rowsOf (a .rows .now) (a .flags .now)))) camera ∙ sym (c .before .before .before .mean-of-rows .ensures) in

@@ -4,18 +4,18 @@ use Rattle.score.specs.Evaluation.{outcomeOf}
 use Rattle.score.proofs.finding_outcome.Statement.{statement}
 use Rattle.score.proofs.finding_outcome.Tie as tie
 
-enum-told : tie.Need-enum-told
-enum-told c = search needs
-
 enum-known-finding : tie.Need-enum-known-finding
 enum-known-finding c = search needs
 
-evaluate-candidate-requires : tie.Need-evaluate-candidate-requires
-evaluate-candidate-requires c κs = search needs
+enum-told : tie.Need-enum-told
+enum-told c = search needs
 
 returns : tie.Need-returns
 unfolding outcomeOf
 returns c = search needs
+
+evaluate-candidate-requires : tie.Need-evaluate-candidate-requires
+evaluate-candidate-requires c κs = search needs
 
 returns-2 : tie.Need-returns-2
 unfolding outcomeOf
@@ -23,4 +23,4 @@ returns-2 c = rw (c .before .before .finding .given .1) (c .evaluate-candidate .
 
 pub finding-outcome-spec : {M : Type 1} → statement M
 finding-outcome-spec =
-    tie.close (tie.spec enum-told enum-known-finding evaluate-candidate-requires returns returns-2)
+    tie.close (tie.spec enum-known-finding enum-told returns evaluate-candidate-requires returns-2)

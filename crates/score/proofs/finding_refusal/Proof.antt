@@ -4,23 +4,23 @@ use Rattle.score.specs.Evaluation.{findingRefusal}
 use Rattle.score.proofs.finding_refusal.Statement.{statement}
 use Rattle.score.proofs.finding_refusal.Tie as tie
 
-enum-told : tie.Need-enum-told
-enum-told c = search needs
-
 enum-known-finding : tie.Need-enum-known-finding
 enum-known-finding c = search needs
 
-solved-refusal-requires : tie.Need-solved-refusal-requires
-solved-refusal-requires c κs = search needs
+enum-told : tie.Need-enum-told
+enum-told c = search needs
 
 returns : tie.Need-returns
 unfolding findingRefusal
 returns c = search needs
 
+solved-refusal-requires : tie.Need-solved-refusal-requires
+solved-refusal-requires c κs = search needs
+
 returns-2 : tie.Need-returns-2
 unfolding findingRefusal
-returns-2 c = rw (c .before .before .before .finding .given .1) (c .solved-refusal .ensures)
+returns-2 c = rw (c .before .before .finding .given .1) (c .solved-refusal .ensures)
 
 pub finding-refusal-spec : {M : Type 1} → statement M
 finding-refusal-spec =
-    tie.close (tie.spec enum-told enum-known-finding solved-refusal-requires returns returns-2)
+    tie.close (tie.spec enum-known-finding enum-told returns solved-refusal-requires returns-2)

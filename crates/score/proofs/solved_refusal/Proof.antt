@@ -1,15 +1,19 @@
 -- `score::solved_refusal` meets its contract: each test of the code is the definition's, in its order. Assumes nothing.
-use mathlib.Core.Path.{_≡_, sym, _∙_}
-use mathlib.Core.Bool.{true, false}
-use lib.Ieee.{eq}
+use mathlib.Core.Path.{_≡_, sym, subst, _∙_}
+use mathlib.Core.Bool.{Bool, true, false}
+use lib.Ieee.{Float, eq}
 use Rattle.float.specs.Sign.{plusZero}
-use Rattle.matrix.specs.Matrix.{determinantOf}
+use Rattle.matrix.specs.Matrix.{Matrix, determinantOf}
 use borrow.Author.Needs.{needs}
 use borrow.Author.Tests.{lt-ltb, le-ltb, eq-eqb, ne-eqb}
 use Rattle.reprojection.specs.Rows.{tiltMatrix}
+use Rattle.reprojection.specs.declared.TiltTrig.{TiltTrig}
 use Rattle.score.specs.Evaluation.{solvedRefusal}
 use Rattle.score.proofs.solved_refusal.Statement.{statement}
 use Rattle.score.proofs.solved_refusal.Tie as tie
+
+is-zero : (trig : TiltTrig) {m : Matrix} {d : Float} (b : Bool) → m ≡ tiltMatrix trig → d ≡ determinantOf m → eq d plusZero ≡ b → eq (determinantOf (tiltMatrix trig)) plusZero ≡ b
+is-zero trig b p q r = subst (λ (m : Matrix). eq (determinantOf m) plusZero ≡ b) p (subst (λ (x : Float). eq x plusZero ≡ b) q r)
 
 returns : tie.Need-returns
 unfolding solvedRefusal
@@ -43,7 +47,7 @@ returns-4 c =
     let few = c .before .before .before .before .before .before .if1 .left in
     let fours = c .before .before .before .before .before .if2 .left in
     let flags = sym (c .before .before .before .before .any-above-one .ensures) ∙ c .before .before .before .if3 .left in
-    let tilt : eq (determinantOf (tiltMatrix (c .before .before .before .before .before .before .before .before .before .args .trig))) plusZero ≡ true = cc in
+    let tilt = is-zero (c .before .before .before .before .before .before .before .before .before .args .trig) true (c .before .before .tilt-matrix .ensures) (c .before .determinant .ensures) (c .if4 .taken) in
     simp (le-ltb _ _ few, eq-eqb _ _ fours, flags, tilt)
 
 returns-5 : tie.Need-returns-5
@@ -52,7 +56,7 @@ returns-5 c =
     let few = c .before .before .before .before .before .before .if1 .left in
     let fours = c .before .before .before .before .before .if2 .left in
     let flags = sym (c .before .before .before .before .any-above-one .ensures) ∙ c .before .before .before .if3 .left in
-    let tilt : eq (determinantOf (tiltMatrix (c .before .before .before .before .before .before .before .before .before .args .trig))) plusZero ≡ false = cc in
+    let tilt = is-zero (c .before .before .before .before .before .before .before .before .before .args .trig) false (c .before .before .tilt-matrix .ensures) (c .before .determinant .ensures) (c .if4 .left) in
     simp (le-ltb _ _ few, eq-eqb _ _ fours, flags, tilt)
 
 pub solved-refusal-spec : {M : Type 1} → statement M

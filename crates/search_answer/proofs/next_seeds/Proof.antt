@@ -1,12 +1,8 @@
--- `search_answer::next_seeds` meets its contract: the two lists of offsets are the definition's. Assumes nothing.
+-- `search_answer::next_seeds` meets its contract: the list of offsets is the definition's. Assumes nothing.
 use borrow.Author.Needs.{needs}
 use Rattle.seeds.specs.Rules.{offsets}
-use Rattle.search_answer.specs.Answer.{nextSeeds}
 use Rattle.search_answer.proofs.next_seeds.Statement.{statement}
 use Rattle.search_answer.proofs.next_seeds.Tie as tie
-
-next-step-requires : tie.Need-next-step-requires
-next-step-requires c κs = search needs
 
 slice-aggregate-local-seed-grid : tie.Need-slice-aggregate-local-seed-grid
 slice-aggregate-local-seed-grid c = search needs
@@ -21,14 +17,13 @@ same-length : tie.Need-same-length
 same-length c = search needs
 
 returns : tie.Need-returns
-unfolding nextSeeds offsets
-returns c = rw (← (c .before .before .before .before .before .before .before .before .before .before .next-step .ensures)) (c .before .before .local-seed-grid .ensures)
+unfolding offsets
+returns c = c .before .before .local-seed-grid .ensures
 
 pub next-seeds-spec : {M : Type 1} → statement M
 next-seeds-spec =
     tie.close
     (tie.spec
-    next-step-requires
     slice-aggregate-local-seed-grid
     slice-aggregate-local-seed-grid-2
     local-seed-grid-requires

@@ -9,7 +9,7 @@ is-sound-requires c κs = search needs
 
 returns : tie.Need-returns
 unfolding seedLent
-returns c = cc
+returns c = rw (c .before .before .is-sound .ensures)
 
 pub is-seed-lent-spec : {M : Type 1} → statement M
 is-seed-lent-spec = tie.close (tie.spec is-sound-requires returns)

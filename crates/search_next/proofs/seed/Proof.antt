@@ -27,18 +27,18 @@ returns : tie.Need-returns
 unfolding seedPart
 returns c = simp (sym (c .before .before .is-seed-lent .ensures) ∙ not-true _ (c .before .if1 .taken))
 
-in-list : (c : tie.After-struct-known) → 6 * c .before .before .before .before .before .args .run .place .at + 6 ≤ length (now (c .before .before .before .before .before .args .list))
-in-list c = seed-in-list _ _ (sym (c .before .before .before .is-seed-lent .ensures) ∙ not-false _ (c .before .before .if1 .left))
+in-list : (c : tie.After-struct-known) → 6 * c .before .before .before .before .args .run .place .at + 6 ≤ length (now (c .before .before .before .before .args .list))
+in-list c = seed-in-list _ _ (sym (c .before .before .is-seed-lent .ensures) ∙ not-false _ (c .before .if1 .left))
 
 mul-from : tie.Need-mul-from
-mul-from c = omega (arith, in-list c, c .before .before .before .before .before .good)
+mul-from c = omega (arith, in-list c, c .before .before .before .before .good)
 
 add-to : tie.Need-add-to
-add-to c = omega (arith, in-list c, c .before .before .before .before .before .good)
+add-to c = omega (arith, in-list c, c .before .before .before .before .good)
 
 mul-result : tie.Need-mul-result
 mul-result c =
-    let h : 6 * c .before .before .before .before .before .args .run .place .at < length (now (c .before .before .before .before .before .args .list)) = omega (arith, in-list c) in
+    let h : 6 * c .before .before .before .before .args .run .place .at < length (now (c .before .before .before .before .args .list)) = omega (arith, in-list c) in
     search needs
 
 sub-result-2 : tie.Need-sub-result-2
@@ -55,7 +55,7 @@ sub-six i = omega arith
 
 returns-2 : tie.Need-returns-2
 unfolding seedPart
-returns-2 c = simp (sym (c .before .before .before .before .is-seed-lent .ensures) ∙ not-false _ (c .before .before .before .if1 .left)) (rw (sub-six (c .before .before .before .before .before .before .args .run .place .at)))
+returns-2 c = simp (sym (c .before .before .before .is-seed-lent .ensures) ∙ not-false _ (c .before .before .if1 .left)) (rw (sub-six (c .before .before .before .before .before .args .run .place .at)))
 
 pub seed-spec : {M : Type 1} → statement M
 seed-spec =

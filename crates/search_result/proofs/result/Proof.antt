@@ -15,7 +15,7 @@ returns c = simp (sym (c .before .result-refusal .ensures), ne-eqb _ _ (c .if1 .
 
 returns-2 : tie.Need-returns-2
 unfolding resultDef
-returns-2 c = simp (sym (c .before .before .before .result-refusal .ensures), c .before .before .if1 .left)
+returns-2 c = simp (sym (c .before .before .result-refusal .ensures), c .before .if1 .left)
 
 pub result-spec : {M : Type 1} → statement M
 result-spec = tie.close (tie.spec result-refusal-requires returns returns-2)

@@ -27,7 +27,16 @@ in-bound-requires c κs = search needs
 
 returns : tie.Need-returns
 unfolding goodSeed
-returns c = cc
+returns c =
+    rw (
+      c .before .before .before .before .before .before .is-positive .ensures,
+      c .before .before .before .before .before .is-positive2 .ensures,
+      c .before .before .before .before .is-finite .ensures,
+      c .before .before .before .is-finite2 .ensures,
+      c .before .before .is-finite3 .ensures,
+      c .before .is-finite4 .ensures,
+      c .in-bound .ensures,
+    )
 
 pub is-good-seed-spec : {M : Type 1} → statement M
 is-good-seed-spec =

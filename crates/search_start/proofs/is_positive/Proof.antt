@@ -7,7 +7,7 @@ is-finite-requires : tie.Need-is-finite-requires
 is-finite-requires c κs = search needs
 
 returns : tie.Need-returns
-returns c = cc
+returns c = rw (c .is-finite .ensures)
 
 pub is-positive-spec : {M : Type 1} → statement M
 is-positive-spec = tie.close (tie.spec is-finite-requires returns)

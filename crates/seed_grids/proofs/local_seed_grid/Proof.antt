@@ -20,12 +20,12 @@ use Rattle.seed_grids.proofs.local_seed_grid.Statement.{statement}
 use Rattle.seed_grids.proofs.local_seed_grid.Tie as tie
 
 abbrev Inv-loop : tie.InvT-loop
-Inv-loop reference-k offsets-x offsets-y max-abs-tilt seeds₀ center-x center-y kept₀ i₀ seeds kept i =
+Inv-loop reference-k center offsets-x offsets-y max-abs-tilt seeds₀ kept₀ i₀ seeds kept i =
     (i ≤ length offsets-x)
-    × Merging six 6 near [] (seedsWithin max-abs-tilt reference-k (pairs (moved center-x (take i offsets-x)) (moved center-y offsets-y))) seeds₀ seeds kept (i * length offsets-y)
+    × Merging six 6 near [] (seedsWithin max-abs-tilt reference-k (pairs (moved (center .«tilt_x») (take i offsets-x)) (moved (center .«tilt_y») offsets-y))) seeds₀ seeds kept (i * length offsets-y)
 
 abbrev μ-loop : tie.MeasureT-loop
-μ-loop reference-k offsets-x offsets-y max-abs-tilt seeds₀ center-x center-y kept₀ i₀ seeds kept i =
+μ-loop reference-k center offsets-x offsets-y max-abs-tilt seeds₀ kept₀ i₀ seeds kept i =
     length offsets-x - i
 
 loop-holds : tie.Need-loop-holds Inv-loop μ-loop
@@ -40,7 +40,7 @@ shared-slice-read-local-seed-row c = search needs
 
 local-seed-row-requires : tie.Need-local-seed-row-requires Inv-loop μ-loop
 local-seed-row-requires c κs =
-    let b = c .before .before .before in
+    let b = c .before .before .before .before in
     let a = b .before .before .before .before .args in
     let y = length (a .offsets-y .now) in
     let h : suc (b .loop .i) ≤ length (a .offsets-x .now) = search needs in
@@ -55,7 +55,7 @@ loop-less c = search needs
 loop-again : tie.Need-loop-again Inv-loop μ-loop
 loop-again c =
     let p = c .before .before in
-    let b = p .before .before .before .before in
+    let b = p .before .before .before .before .before in
     let a = b .before .before .before .before .args in
     let i = b .loop .i in
     let ds = a .offsets-x .now in

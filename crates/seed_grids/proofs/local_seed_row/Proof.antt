@@ -20,12 +20,12 @@ use Rattle.seed_grids.proofs.local_seed_row.Statement.{statement}
 use Rattle.seed_grids.proofs.local_seed_row.Tie as tie
 
 abbrev Inv-loop : tie.InvT-loop
-Inv-loop seeds₀ count reference-k tilt-x center-y offsets-y max-abs-tilt kept₀ j₀ seeds kept j =
+Inv-loop seeds₀ count₀ reference-k tilt-x center-y offsets-y max-abs-tilt j₀ seeds count j =
     (j ≤ length offsets-y)
-    × Merging six 6 near (seedsOf count seeds₀) (seedsWithin max-abs-tilt reference-k (map (tilts tilt-x) (moved center-y (take j offsets-y)))) seeds₀ seeds kept (count + j)
+    × Merging six 6 near (seedsOf count₀ seeds₀) (seedsWithin max-abs-tilt reference-k (map (tilts tilt-x) (moved center-y (take j offsets-y)))) seeds₀ seeds count (count₀ + j)
 
 abbrev μ-loop : tie.MeasureT-loop
-μ-loop seeds₀ count reference-k tilt-x center-y offsets-y max-abs-tilt kept₀ j₀ seeds kept j = length offsets-y - j
+μ-loop seeds₀ count₀ reference-k tilt-x center-y offsets-y max-abs-tilt j₀ seeds count j = length offsets-y - j
 
 loop-holds : tie.Need-loop-holds Inv-loop μ-loop
 unfolding keep
@@ -33,11 +33,11 @@ loop-holds c =
     let a = c .before .before .args in
     (search needs, rw add-zero (merging-start seeds-layout near (a .seeds .now) (a .count) (search needs)))
 
-mul-t11 : tie.Need-mul-t11 Inv-loop μ-loop
-mul-t11 c = search needs
+mul-t10 : tie.Need-mul-t10 Inv-loop μ-loop
+mul-t10 c = search needs
 
-shared-slice-read-t14 : tie.Need-shared-slice-read-t14 Inv-loop μ-loop
-shared-slice-read-t14 c = search needs
+shared-slice-read-t13 : tie.Need-shared-slice-read-t13 Inv-loop μ-loop
+shared-slice-read-t13 c = search needs
 
 push-in-bound-requires : tie.Need-push-in-bound-requires Inv-loop μ-loop
 push-in-bound-requires c κs = search needs
@@ -64,7 +64,7 @@ loop-again c =
       search needs,
       rw (add-one j)
           (merging-more seeds-layout near (seedsOf (a .count) l) xs (seedsWithin max k one) (seedsWithin max k (map (tilts (a .tilt-x)) (moved (a .center-y) (take (suc j) ds))))
-          l (b .loop .seeds) (p .push-in-bound .last .0) (b .loop .kept) (p .push-in-bound .result) (a .count + j) (a .count + suc j)
+          l (b .loop .seeds) (p .push-in-bound .last .0) (b .loop .count) (p .push-in-bound .result) (a .count + j) (a .count + suc j)
           (b .loop .inv .1) (p .push-in-bound .ensures) (search needs) (omega (arith, within-length max k one)) (local-row-more max k (a .tilt-x) (a .center-y) ds j h)),
     )
 
@@ -85,8 +85,8 @@ local-seed-row-spec =
     Inv-loop
     μ-loop
     loop-holds
-    mul-t11
-    shared-slice-read-t14
+    mul-t10
+    shared-slice-read-t13
     push-in-bound-requires
     add-j
     loop-less

@@ -1,14 +1,14 @@
 -- `seed_grids::push_decomposition` meets its contract. The loop's invariant: the first i seeds have been offered. Assumes nothing.
 use mathlib.Core.Path.{_≡_, sym, ap, _∙_}
 use mathlib.Core.List.{[], _∷_, _++_}
-use Prim.Native.Nat.{suc, _≤_, _-_}
+use Prim.Native.Nat.{suc, _/_, _≤_, _-_}
 use native.Mathlib.Numerals.{add-one}
 use native.Mathlib.Omega.{arith}
 use borrow.Author.Needs.{needs}
-use lib.ListN.{take}
+use lib.ListN.{length, take}
 use lib.Seq.{take-all}
 use Rattle.seeds.specs.declared.CandidateSeed.{CandidateSeed}
-use Rattle.seeds.specs.Layout.{six, seedsOf, readFrom}
+use Rattle.seeds.specs.Layout.{six, seedsOf, allSeeds, readFrom}
 use Rattle.seeds.specs.LayoutLaws.{seeds-layout, seeds-take, read-length}
 use Rattle.seeds.specs.Merge.{mergedInto}
 use Rattle.seeds.specs.Rules.{near}
@@ -47,8 +47,8 @@ loop-again c =
     let b = q .before .before .before in
     let a = b .before .before .before .args in
     let i = b .loop .i in
-    let n = a .number in
     let d = a .decomposition .now in
+    let n = length d / 6 in
     let s = q .seed-at .result in (
       search needs,
       rw (add-one i)
@@ -65,7 +65,7 @@ returns : tie.Need-returns Inv-loop μ-loop
 returns c =
     let b = c .before in
     let a = b .before .before .before .args in
-    let ss = seedsOf (a .number) (a .decomposition .now) in
+    let ss = allSeeds (a .decomposition .now) in
     let e : take (b .loop .i) ss ≡ ss = take-all (b .loop .i) ss (rw read-length (search needs)) in
     rw e at (b .loop .inv .1 .leaves)
 

@@ -18,11 +18,11 @@ use Rattle.seed_grids.proofs.push_grid.Statement.{statement}
 use Rattle.seed_grids.proofs.push_grid.Tie as tie
 
 abbrev Inv-loop : tie.InvT-loop
-Inv-loop seeds₀ count grid number base-k kept₀ i₀ seeds kept i =
-    (i ≤ number) × Merging six 6 near (seedsOf count seeds₀) (map (seedWith base-k) (take i (tiltsOf number grid))) seeds₀ seeds kept (count + i)
+Inv-loop seeds₀ count₀ grid number base-k i₀ seeds count i =
+    (i ≤ number) × Merging six 6 near (seedsOf count₀ seeds₀) (map (seedWith base-k) (take i (tiltsOf number grid))) seeds₀ seeds count (count₀ + i)
 
 abbrev μ-loop : tie.MeasureT-loop
-μ-loop seeds₀ count grid number base-k kept₀ i₀ seeds kept i = number - i
+μ-loop seeds₀ count₀ grid number base-k i₀ seeds count i = number - i
 
 loop-holds : tie.Need-loop-holds Inv-loop μ-loop
 loop-holds c =
@@ -56,7 +56,7 @@ loop-again c =
       search needs,
       rw (add-one i)
           (merging-more seeds-layout near (seedsOf (a .count) (a .seeds .now)) xs (seedWith k (q .tilts-at .result) ∷ []) (map (seedWith k) (take (suc i) ts))
-          (a .seeds .now) (b .loop .seeds) (p .push-candidate-seed .last .0) (b .loop .kept) (p .push-candidate-seed .result) (a .count + i) (a .count + suc i)
+          (a .seeds .now) (b .loop .seeds) (p .push-candidate-seed .last .0) (b .loop .count) (p .push-candidate-seed .result) (a .count + i) (a .count + suc i)
           (b .loop .inv .1) (p .push-candidate-seed .ensures) (search needs) (omega arith)
           (ap (map (seedWith k)) (tilts-take (a .number) i g (search needs))
           ∙ map-append (seedWith k) (take i ts) (tiltsAt g i ∷ [])

@@ -20,11 +20,11 @@ use Rattle.seed_grids.proofs.seed_row.Statement.{statement}
 use Rattle.seed_grids.proofs.seed_row.Tie as tie
 
 abbrev Inv-loop : tie.InvT-loop
-Inv-loop grid₀ count tilt-x y-seeds max-abs-tilt kept₀ j₀ grid kept j =
-    (j ≤ length y-seeds) × Merging two 2 tiltNear (tiltsOf count grid₀) (keep (inBound max-abs-tilt) (map (tilts tilt-x) (take j y-seeds))) grid₀ grid kept (count + j)
+Inv-loop grid₀ count₀ tilt-x y-seeds max-abs-tilt j₀ grid count j =
+    (j ≤ length y-seeds) × Merging two 2 tiltNear (tiltsOf count₀ grid₀) (keep (inBound max-abs-tilt) (map (tilts tilt-x) (take j y-seeds))) grid₀ grid count (count₀ + j)
 
 abbrev μ-loop : tie.MeasureT-loop
-μ-loop grid₀ count tilt-x y-seeds max-abs-tilt kept₀ j₀ grid kept j = length y-seeds - j
+μ-loop grid₀ count₀ tilt-x y-seeds max-abs-tilt j₀ grid count j = length y-seeds - j
 
 loop-holds : tie.Need-loop-holds Inv-loop μ-loop
 unfolding keep
@@ -32,11 +32,11 @@ loop-holds c =
     let a = c .before .before .args in
     (search needs, rw add-zero (merging-start tilts-layout tiltNear (a .grid .now) (a .count) (search needs)))
 
-mul-t9 : tie.Need-mul-t9 Inv-loop μ-loop
-mul-t9 c = search needs
+mul-t8 : tie.Need-mul-t8 Inv-loop μ-loop
+mul-t8 c = search needs
 
-shared-slice-read-t12 : tie.Need-shared-slice-read-t12 Inv-loop μ-loop
-shared-slice-read-t12 c = search needs
+shared-slice-read-t11 : tie.Need-shared-slice-read-t11 Inv-loop μ-loop
+shared-slice-read-t11 c = search needs
 
 push-seed-requires : tie.Need-push-seed-requires Inv-loop μ-loop
 push-seed-requires c κs = search needs
@@ -61,7 +61,7 @@ loop-again c =
       rw (add-one j)
           (merging-more tilts-layout tiltNear (tiltsOf (a .count) (a .grid .now)) (keep (inBound max) (map (tilts x) (take j ys))) (keep (inBound max) one)
           (keep (inBound max) (map (tilts x) (take (suc j) ys)))
-          (a .grid .now) (b .loop .grid) (p .push-seed .last .0) (b .loop .kept) (p .push-seed .result) (a .count + j) (a .count + suc j)
+          (a .grid .now) (b .loop .grid) (p .push-seed .last .0) (b .loop .count) (p .push-seed .result) (a .count + j) (a .count + suc j)
           (b .loop .inv .1) (p .push-seed .ensures) (search needs) (omega (arith, keep-length (inBound max) one)) (row-more max x ys j (search needs))),
     )
 
@@ -82,8 +82,8 @@ seed-row-spec =
     Inv-loop
     μ-loop
     loop-holds
-    mul-t9
-    shared-slice-read-t12
+    mul-t8
+    shared-slice-read-t11
     push-seed-requires
     add-j
     loop-less

@@ -18,12 +18,6 @@ enum-told c = search needs
 enum-told-2 : tie.Need-enum-told-2
 enum-told-2 c = search needs
 
-put-seed-requires : tie.Need-put-seed-requires
-put-seed-requires c κs = search needs
-
-add-result : tie.Need-add-result
-add-result c = search needs
-
 same-length : tie.Need-same-length
 same-length c = search needs
 
@@ -32,20 +26,27 @@ returns c =
     let a = c .before .before .before .before .before .args in
     let l = a .seeds .now in
     let n = a .count in
-    let e = sym (c .before .before .find-near .ensures) ∙ c .enum-told .given .1 in
-    push-drops seeds-layout near l n (a .seed) (search needs) (first-at near 0 (c .enum-told .given .0 .0) (seedsOf n l) (a .seed) e)
+    let e = sym (c .before .before .find-near .ensures) ∙ c .enum-told2 .given .1 in
+    push-drops seeds-layout near l n (a .seed) (search needs) (first-at near 0 (c .enum-told2 .given .0 .0) (seedsOf n l) (a .seed) e)
+
+put-seed-requires : tie.Need-put-seed-requires
+put-seed-requires c κs = search needs
+
+add-result : tie.Need-add-result
+add-result c = search needs
 
 same-length-2 : tie.Need-same-length-2
 same-length-2 c = search needs
 
 returns-2 : tie.Need-returns-2
 returns-2 c =
-    let b = c .before .before in
-    let a = b .before .before .before .before .before .before .before .args in
+    let p = c .before .before in
+    let q = p .before .before .before .before in
+    let a = q .before .before .before .args in
     let l = a .seeds .now in
     let n = a .count in
-    let e = sym (b .before .before .before .before .find-near .ensures) ∙ b .before .before .enum-told2 .given .1 in
-    push-stores seeds-layout near l (b .put-seed .last .0) n (a .seed) (search needs) (first-nothing near 0 (seedsOf n l) (a .seed) e) (b .put-seed .ensures)
+    let e = sym (q .find-near .ensures) ∙ p .before .before .enum-told .given .1 in
+    push-stores seeds-layout near l (p .put-seed .last .0) n (a .seed) (search needs) (first-nothing near 0 (seedsOf n l) (a .seed) e) (p .put-seed .ensures)
 
 pub push-candidate-seed-spec : {M : Type 1} → statement M
 push-candidate-seed-spec =
@@ -54,9 +55,9 @@ push-candidate-seed-spec =
     find-near-requires
     enum-told
     enum-told-2
-    put-seed-requires
-    add-result
     same-length
     returns
+    put-seed-requires
+    add-result
     same-length-2
     returns-2)

@@ -31,12 +31,6 @@ enum-told c = search needs
 enum-told-2 : tie.Need-enum-told-2
 enum-told-2 c = search needs
 
-put-tilts-requires : tie.Need-put-tilts-requires
-put-tilts-requires c κs = search needs
-
-add-result : tie.Need-add-result
-add-result c = search needs
-
 same-length : tie.Need-same-length
 same-length c = search needs
 
@@ -48,8 +42,14 @@ returns-2 c =
     let l = a .grid .now in
     let n = a .count in
     let e : inBound (a .max-abs-tilt) (a .t) ≡ true = sym (b .before .in-bound .ensures) ∙ not-false _ (b .if1 .left) in
-    let f = sym (c .before .before .find-tilt-near .ensures) ∙ c .enum-told .given .1 in
-    simp e (push-drops tilts-layout tiltNear l n (a .t) (search needs) (first-at tiltNear 0 (c .enum-told .given .0 .0) (tiltsOf n l) (a .t) f))
+    let f = sym (c .before .before .find-tilt-near .ensures) ∙ c .enum-told2 .given .1 in
+    simp e (push-drops tilts-layout tiltNear l n (a .t) (search needs) (first-at tiltNear 0 (c .enum-told2 .given .0 .0) (tiltsOf n l) (a .t) f))
+
+put-tilts-requires : tie.Need-put-tilts-requires
+put-tilts-requires c κs = search needs
+
+add-result : tie.Need-add-result
+add-result c = search needs
 
 same-length-2 : tie.Need-same-length-2
 same-length-2 c = search needs
@@ -64,7 +64,7 @@ returns-3 c =
     let l = a .grid .now in
     let n = a .count in
     let e : inBound (a .max-abs-tilt) (a .t) ≡ true = sym (b .before .in-bound .ensures) ∙ not-false _ (b .if1 .left) in
-    let f = sym (q .find-tilt-near .ensures) ∙ p .before .before .enum-told2 .given .1 in
+    let f = sym (q .find-tilt-near .ensures) ∙ p .before .before .enum-told .given .1 in
     simp e (push-stores tilts-layout tiltNear l (p .put-tilts .last .0) n (a .t) (search needs) (first-nothing tiltNear 0 (tiltsOf n l) (a .t) f) (p .put-tilts .ensures))
 
 pub push-seed-spec : {M : Type 1} → statement M
@@ -76,9 +76,9 @@ push-seed-spec =
     find-tilt-near-requires
     enum-told
     enum-told-2
-    put-tilts-requires
-    add-result
     same-length
     returns-2
+    put-tilts-requires
+    add-result
     same-length-2
     returns-3)

@@ -66,7 +66,7 @@ same-length c = search needs
 
 returns : tie.Need-returns
 returns c =
-    let i = c .before .before .args .i in
+    let i = c .args .i in
     let e1 : 6 * i + 1 ≡ suc (6 * i) = omega arith in
     let e2 : 6 * i + 2 ≡ suc (suc (6 * i)) = omega arith in
     let e3 : 6 * i + 3 ≡ suc (suc (suc (6 * i))) = omega arith in

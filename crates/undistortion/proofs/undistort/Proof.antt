@@ -1,18 +1,24 @@
--- `undistortion::undistort` meets its contract, by those of `turns` and `undistort_numbers`. Assumes nothing.
+-- `undistortion::undistort` meets its contract, by that of `newton_undistort`. Assumes nothing.
+use borrow.Author.Tests.{eq-eqb, ne-eqb}
 use borrow.Author.Needs.{needs}
 use Rattle.undistortion.specs.Undistortion.{undistorted}
 use Rattle.undistortion.proofs.undistort.Statement.{statement}
 use Rattle.undistortion.proofs.undistort.Tie as tie
-
-turns-requires : tie.Need-turns-requires
-turns-requires c κs = search needs
 
 undistort-numbers-requires : tie.Need-undistort-numbers-requires
 undistort-numbers-requires c κs = search needs
 
 returns : tie.Need-returns
 unfolding undistorted
-returns c = rw (c .undistort-numbers .ensures, c .before .turns .ensures)
+returns c = simp (eq-eqb _ _ (c .before .if1 .taken), c .undistort-numbers .ensures)
+
+undistort-numbers-requires-2 : tie.Need-undistort-numbers-requires-2
+undistort-numbers-requires-2 c κs = search needs
+
+returns-2 : tie.Need-returns-2
+unfolding undistorted
+returns-2 c = simp (ne-eqb _ _ (c .before .if1 .left), c .undistort-numbers2 .ensures)
 
 pub undistort-spec : {M : Type 1} → statement M
-undistort-spec = tie.close (tie.spec turns-requires undistort-numbers-requires returns)
+undistort-spec =
+    tie.close (tie.spec undistort-numbers-requires returns undistort-numbers-requires-2 returns-2)

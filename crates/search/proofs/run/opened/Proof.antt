@@ -4,18 +4,18 @@ use Rattle.search.specs.Record.{opened}
 use Rattle.search.proofs.run.opened.Statement.{statement}
 use Rattle.search.proofs.run.opened.Tie as tie
 
-add-t8 : tie.Need-add-t8
-add-t8 c = search needs
-
 next-step-requires : tie.Need-next-step-requires
 next-step-requires c κs = search needs
+
+add-round : tie.Need-add-round
+add-round c = search needs
 
 no-best-requires : tie.Need-no-best-requires
 no-best-requires c κs = search needs
 
 returns : tie.Need-returns
 unfolding opened
-returns c = cc
+returns c = rw (c .no-best .ensures, c .before .before .before .before .before .before .next-step .ensures)
 
 pub opened-spec : {M : Type 1} → statement M
-opened-spec = tie.close (tie.spec add-t8 next-step-requires no-best-requires returns)
+opened-spec = tie.close (tie.spec next-step-requires add-round no-best-requires returns)

@@ -4,18 +4,18 @@ use Rattle.search.specs.Record.{withOutcome}
 use Rattle.search.proofs.run.with_outcome.Statement.{statement}
 use Rattle.search.proofs.run.with_outcome.Tie as tie
 
-enum-told : tie.Need-enum-told
-enum-told c = search needs
-
 enum-known-outcome : tie.Need-enum-known-outcome
 enum-known-outcome c = search needs
 
-improved-requires : tie.Need-improved-requires
-improved-requires c κs = search needs
+enum-told : tie.Need-enum-told
+enum-told c = search needs
 
 returns : tie.Need-returns
 unfolding withOutcome
 returns c = simp (c .enum-told .given .1)
+
+improved-requires : tie.Need-improved-requires
+improved-requires c κs = search needs
 
 returns-2 : tie.Need-returns-2
 unfolding withOutcome
@@ -23,4 +23,4 @@ returns-2 c = simp (c .before .before .before .outcome .given .1) (c .improved .
 
 pub with-outcome-spec : {M : Type 1} → statement M
 with-outcome-spec =
-    tie.close (tie.spec enum-told enum-known-outcome improved-requires returns returns-2)
+    tie.close (tie.spec enum-known-outcome enum-told returns improved-requires returns-2)
