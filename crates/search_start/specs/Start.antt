@@ -1,7 +1,7 @@
 -- Start, as a function of its inputs and the lent list: refusals in their order, then round 0's list and the run. Definitions only.
 use Prim.Native.Nat.{ℕ, _+_, _*_, _/_, _%_}
 use mathlib.Core.Bool.{Bool, not, _&&_, _||_, cond}
-use mathlib.Core.List.{List, [], _∷_}
+use mathlib.Core.List.{List, [], _∷_, _++_}
 use lib.Dec.{ltb, eqb}
 use lib.ListN.{length}
 use lib.Ieee.{Float, lt}
@@ -56,43 +56,30 @@ openingOf options center demand n = record {
   «run_best» = noBest;
 }
 
--- the refusals that need only the options and the lengths of the lists
-abbrev pub optionsRefusal : ℕ → Options → ℕ → ℕ → ℕ → ℕ
-optionsRefusal views options x y d =
-    firstRefusal
-    ((1 when ltb views 3)
+-- 01, 'Start', in its order: the refusals that need only the options and the lengths of the lists, and those that read the lists
+abbrev pub optionsChecks : ℕ → Options → ℕ → ℕ → ℕ → List Check
+optionsChecks views options x y d =
+    (1 when ltb views 3)
     ∷ (2 when (eqb x 0 || eqb y 0))
     ∷ (3 when not (positive (options .«max_abs_tilt»)))
     ∷ (4 when (ltb 0 (options .«refine_rounds») && not (positive (options .«refine_step»))))
     ∷ (5 when tooMany x y d (options .«refine_rounds»))
-    ∷ [])
+    ∷ []
 
 -- The inputs are the parameters of these parts; n is how many numbers the lent list has.
 module _ (views : ℕ) (options : Options) (xs ys decomposition : List Float) where
   abbrev pub startDemand : ℕ
   startDemand = demandOf (length decomposition / 6) (length xs) (length ys)
 
-  -- 01, 'Start', in its order
-  abbrev pub startChecks : ℕ → List Check
-  startChecks n =
-      (1 when ltb views 3)
-      ∷ (2 when (eqb (length xs) 0 || eqb (length ys) 0))
-      ∷ (3 when not (positive (options .«max_abs_tilt»)))
-      ∷ (4 when (ltb 0 (options .«refine_rounds») && not (positive (options .«refine_step»))))
-      ∷ (5 when tooMany (length xs) (length ys) (length decomposition) (options .«refine_rounds»))
-      ∷ (6 when not (every (goodSeed (options .«max_abs_tilt»)) (allSeeds decomposition)))
+  abbrev pub listsChecks : ℕ → List Check
+  listsChecks n =
+      (6 when not (every (goodSeed (options .«max_abs_tilt»)) (allSeeds decomposition)))
       ∷ (7 when not (every isFinite xs && every isFinite ys))
       ∷ (8 when ltb n startDemand)
       ∷ []
 
-  -- the refusals after those of the options
-  abbrev pub listsRefusal : ℕ → ℕ
-  listsRefusal n =
-      firstRefusal
-      ((6 when not (every (goodSeed (options .«max_abs_tilt»)) (allSeeds decomposition)))
-      ∷ (7 when not (every isFinite xs && every isFinite ys))
-      ∷ (8 when ltb n startDemand)
-      ∷ [])
+  abbrev pub startChecks : ℕ → List Check
+  startChecks n = optionsChecks views options (length xs) (length ys) (length decomposition) ++ listsChecks n
 
   abbrev pub startRefusal : ℕ → ℕ
   startRefusal n = firstRefusal (startChecks n)

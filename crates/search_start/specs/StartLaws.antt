@@ -11,10 +11,11 @@ use lib.ListN.{length}
 use lib.Ieee.{Float}
 use Rattle.common.specs.All.{every}
 use Rattle.common.specs.Tests.{both-false}
+use Rattle.common.specs.Refusal.{firstRefusal}
 use Rattle.common.specs.RefusalLaws.{refuses-none}
 use Rattle.float.specs.Float.{isFinite}
 use Rattle.seeds.specs.Layout.{allSeeds}
-use Rattle.search_start.specs.Start.{positive, goodSeed, tooMany, demandOf, startDemand, optionsRefusal, listsRefusal, startRefusal}
+use Rattle.search_start.specs.Start.{positive, goodSeed, tooMany, demandOf, startDemand, optionsChecks, listsChecks, startRefusal}
 use Rattle.search.specs.declared.run.Options.{Options}
 
 pub record Sizes (x y d rounds : ℕ) : Type 0 where
@@ -63,14 +64,14 @@ neither r l h = go (eqb r 0) refl
     go true e = (eqb-true r 0 e, rw e at h)
     go false e = absurd (eqb-false r 0 e (rw e at h))
 
-module _ (views : ℕ) (options : Options) (xs ys decomposition : List Float) (n r : ℕ) (is : r ≡ optionsRefusal views options (length xs) (length ys) (length decomposition)) where
-  first : startRefusal views options xs ys decomposition n ≡ cond (eqb r 0) (listsRefusal views options xs ys decomposition n) r
+module _ (views : ℕ) (options : Options) (xs ys decomposition : List Float) (n r : ℕ) (is : r ≡ firstRefusal (optionsChecks views options (length xs) (length ys) (length decomposition))) where
+  first : startRefusal views options xs ys decomposition n ≡ cond (eqb r 0) (firstRefusal (listsChecks views options xs ys decomposition n)) r
   first = rw is (first-five (ltb views 3) (eqb (length xs) 0 || eqb (length ys) 0) (not (positive (options .«max_abs_tilt»))) (ltb 0 (options .«refine_rounds») && not (positive (options .«refine_step»))) (tooMany (length xs) (length ys) (length decomposition) (options .«refine_rounds»)) _)
 
   pub options-refused : (r ≡ 0 → ⊥) → startRefusal views options xs ys decomposition n ≡ r
   options-refused h = first ∙ rw (ne-eqb _ _ h)
 
-  pub options-passed : r ≡ 0 → startRefusal views options xs ys decomposition n ≡ listsRefusal views options xs ys decomposition n
+  pub options-passed : r ≡ 0 → startRefusal views options xs ys decomposition n ≡ firstRefusal (listsChecks views options xs ys decomposition n)
   options-passed h = first ∙ rw h
 
   pub sizes-fit : r ≡ 0 → Sizes (length xs) (length ys) (length decomposition) (options .«refine_rounds»)
@@ -89,7 +90,7 @@ pub record Passed (views : ℕ) (options : Options) (xs ys decomposition : List 
 pub start-passed : (views : ℕ) (options : Options) (xs ys decomposition : List Float) (n : ℕ)
     → startRefusal views options xs ys decomposition n ≡ 0 → Passed views options xs ys decomposition n
 start-passed views options xs ys decomposition n h =
-    let p = neither (optionsRefusal views options (length xs) (length ys) (length decomposition)) (listsRefusal views options xs ys decomposition n) (sym (first views options xs ys decomposition n _ refl) ∙ h) in
+    let p = neither (firstRefusal (optionsChecks views options (length xs) (length ys) (length decomposition))) (firstRefusal (listsChecks views options xs ys decomposition n)) (sym (first views options xs ys decomposition n _ refl) ∙ h) in
     let h6 = refuses-none (not (every (goodSeed (options .«max_abs_tilt»)) (allSeeds decomposition))) 6 _ (omega arith) (p .1) in
     let h7 = refuses-none (not (every isFinite xs && every isFinite ys)) 7 _ (omega arith) (h6 .1) .1 in
     let h8 = refuses-none (ltb n (startDemand views options xs ys decomposition)) 8 _ (omega arith) h7 .0 in

@@ -2,10 +2,11 @@
 
 ghost use mathlib.Core.Path.{_≡_};
 ghost use Prim.Native.Nat.{_/_, _≤_};
+ghost use Rattle.common.specs.Refusal.{firstRefusal};
 ghost use Rattle.common.specs.All.{every};
 ghost use Rattle.float.specs.Float.{isFinite};
 ghost use Rattle.seeds.specs.Layout.{allSeeds};
-ghost use Rattle.search_start.specs.Start.{positive, goodSeed, tooMany, demandOf, openingOf, optionsRefusal, startRefusal, startReply, startList};
+ghost use Rattle.search_start.specs.Start.{positive, goodSeed, tooMany, demandOf, openingOf, optionsChecks, startRefusal, startReply, startList};
 ghost use Rattle.search_start.specs.declared.Started.the-variants.{Accepted};
 use models::intrinsics::FxFyCxCy;
 use models::math::Pt2;
@@ -92,7 +93,7 @@ fn demand_of(decomposition: usize, x: usize, y: usize) -> usize
 
 // Start's first refusals: those of the options and of the lists' lengths.
 fn options_refusal(views: usize, options: Options, x: usize, y: usize, decomposition: usize) -> u8
-    ensures { λ r. ⌜ r ≡ optionsRefusal views options x y decomposition ⌝ }
+    ensures { λ r. ⌜ r ≡ firstRefusal (optionsChecks views options x y decomposition) ⌝ }
 {
     if views < 3 {
         return 1;

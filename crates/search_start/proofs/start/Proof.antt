@@ -20,12 +20,14 @@ returns c =
 
 demand-of-requires : tie.Need-demand-of-requires
 demand-of-requires c κs =
-    let h = start-passed (c .before .before .before .before .before .before .args .views) (c .before .before .before .before .before .before .args .options) (now (c .before .before .before .before .before .before .args .tilt-x-seeds)) (now (c .before .before .before .before .before .before .args .tilt-y-seeds)) (now (c .before .before .before .before .before .before .args .decomposition)) _ (sym (c .before .start-refusal .ensures) ∙ c .if1 .left) in
+    let a = c .before .before .before .before .before .before .args in
+    let h = start-passed (a .views) (a .options) (now (a .tilt-x-seeds)) (now (a .tilt-y-seeds)) (now (a .decomposition)) _ (sym (c .before .start-refusal .ensures) ∙ c .if1 .left) in
     (h .sizes .decomposition-max, (h .sizes .x-max, h .sizes .y-max))
 
 initial-seed-grid-requires : tie.Need-initial-seed-grid-requires
 initial-seed-grid-requires c κs =
-    let h = start-passed (c .before .before .before .before .before .before .before .before .args .views) (c .before .before .before .before .before .before .before .before .args .options) (now (c .before .before .before .before .before .before .before .before .args .tilt-x-seeds)) (now (c .before .before .before .before .before .before .before .before .args .tilt-y-seeds)) (now (c .before .before .before .before .before .before .before .before .args .decomposition)) _ (sym (c .before .before .before .start-refusal .ensures) ∙ c .before .before .if1 .left) in
+    let a = c .before .before .before .before .before .before .before .before .args in
+    let h = start-passed (a .views) (a .options) (now (a .tilt-x-seeds)) (now (a .tilt-y-seeds)) (now (a .decomposition)) _ (sym (c .before .before .before .start-refusal .ensures) ∙ c .before .before .if1 .left) in
     ((h .sizes .x-max, h .sizes .y-max), le-trans (demand-covers _ _ _) (h .demand-fits))
 
 opening-requires : tie.Need-opening-requires

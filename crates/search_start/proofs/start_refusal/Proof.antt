@@ -10,13 +10,17 @@ options-refusal-requires : tie.Need-options-refusal-requires
 options-refusal-requires c κs = search needs
 
 returns : tie.Need-returns
-returns c = sym (options-refused (c .before .before .before .before .before .args .views) (c .before .before .before .before .before .args .options) (c .before .before .before .before .before .args .tilt-x-seeds .now) (c .before .before .before .before .before .args .tilt-y-seeds .now) (c .before .before .before .before .before .args .decomposition .now) (c .before .before .before .before .before .args .list-len) _ (c .before .options-refusal .ensures) (c .if1 .taken))
+returns c =
+    let a = c .before .before .before .before .before .args in
+    sym (options-refused (a .views) (a .options) (a .tilt-x-seeds .now) (a .tilt-y-seeds .now) (a .decomposition .now) (a .list-len) _ (c .before .options-refusal .ensures) (c .if1 .taken))
 
 all-good-seeds-requires : tie.Need-all-good-seeds-requires
 all-good-seeds-requires c κs = search needs
 
 returns-2 : tie.Need-returns-2
-returns-2 c = sym (options-passed (c .before .before .before .before .before .before .before .args .views) (c .before .before .before .before .before .before .before .args .options) (c .before .before .before .before .before .before .before .args .tilt-x-seeds .now) (c .before .before .before .before .before .before .before .args .tilt-y-seeds .now) (c .before .before .before .before .before .before .before .args .decomposition .now) (c .before .before .before .before .before .before .before .args .list-len) _ (c .before .before .before .options-refusal .ensures) (c .before .before .if1 .left) ∙ rw (sym (c .before .all-good-seeds .ensures) ∙ not-true _ (c .if2 .taken)))
+returns-2 c =
+    let a = c .before .before .before .before .before .before .before .args in
+    sym (options-passed (a .views) (a .options) (a .tilt-x-seeds .now) (a .tilt-y-seeds .now) (a .decomposition .now) (a .list-len) _ (c .before .before .before .options-refusal .ensures) (c .before .before .if1 .left) ∙ rw (sym (c .before .all-good-seeds .ensures) ∙ not-true _ (c .if2 .taken)))
 
 all-finite-requires : tie.Need-all-finite-requires
 all-finite-requires c κs = search needs
@@ -26,19 +30,22 @@ all-finite-requires-2 c κs = search needs
 
 returns-3 : tie.Need-returns-3
 returns-3 c =
+    let a = c .before .before .before .before .before .before .before .before .before .before .args in
     sym
-    (options-passed (c .before .before .before .before .before .before .before .before .before .before .args .views) (c .before .before .before .before .before .before .before .before .before .before .args .options) (c .before .before .before .before .before .before .before .before .before .before .args .tilt-x-seeds .now) (c .before .before .before .before .before .before .before .before .before .before .args .tilt-y-seeds .now) (c .before .before .before .before .before .before .before .before .before .before .args .decomposition .now) (c .before .before .before .before .before .before .before .before .before .before .args .list-len) _ (c .before .before .before .before .before .before .options-refusal .ensures) (c .before .before .before .before .before .if1 .left)
+    (options-passed (a .views) (a .options) (a .tilt-x-seeds .now) (a .tilt-y-seeds .now) (a .decomposition .now) (a .list-len) _ (c .before .before .before .before .before .before .options-refusal .ensures) (c .before .before .before .before .before .if1 .left)
     ∙ rw (sym (c .before .before .before .before .all-good-seeds .ensures) ∙ not-false _ (c .before .before .before .if2 .left), sym (c .before .before .all-finite .ensures), sym (c .before .all-finite2 .ensures), c .if3 .taken))
 
 demand-of-requires : tie.Need-demand-of-requires
 demand-of-requires c κs =
-    let h = sizes-fit (c .before .before .before .before .before .before .before .before .before .before .args .views) (c .before .before .before .before .before .before .before .before .before .before .args .options) (c .before .before .before .before .before .before .before .before .before .before .args .tilt-x-seeds .now) (c .before .before .before .before .before .before .before .before .before .before .args .tilt-y-seeds .now) (c .before .before .before .before .before .before .before .before .before .before .args .decomposition .now) (c .before .before .before .before .before .before .before .before .before .before .args .list-len) _ (c .before .before .before .before .before .before .options-refusal .ensures) (c .before .before .before .before .before .if1 .left) in
+    let a = c .before .before .before .before .before .before .before .before .before .before .args in
+    let h = sizes-fit (a .views) (a .options) (a .tilt-x-seeds .now) (a .tilt-y-seeds .now) (a .decomposition .now) (a .list-len) _ (c .before .before .before .before .before .before .options-refusal .ensures) (c .before .before .before .before .before .if1 .left) in
     (h .decomposition-max, (h .x-max, h .y-max))
 
 returns-4 : tie.Need-returns-4
 returns-4 c =
+    let a = c .before .before .before .before .before .before .before .before .before .before .before .before .args in
     sym
-    (options-passed (c .before .before .before .before .before .before .before .before .before .before .before .before .args .views) (c .before .before .before .before .before .before .before .before .before .before .before .before .args .options) (c .before .before .before .before .before .before .before .before .before .before .before .before .args .tilt-x-seeds .now) (c .before .before .before .before .before .before .before .before .before .before .before .before .args .tilt-y-seeds .now) (c .before .before .before .before .before .before .before .before .before .before .before .before .args .decomposition .now) (c .before .before .before .before .before .before .before .before .before .before .before .before .args .list-len) _ (c .before .before .before .before .before .before .before .before .options-refusal .ensures) (c .before .before .before .before .before .before .before .if1 .left)
+    (options-passed (a .views) (a .options) (a .tilt-x-seeds .now) (a .tilt-y-seeds .now) (a .decomposition .now) (a .list-len) _ (c .before .before .before .before .before .before .before .before .options-refusal .ensures) (c .before .before .before .before .before .before .before .if1 .left)
     ∙ rw (
       sym (c .before .before .before .before .before .before .all-good-seeds .ensures) ∙ not-false _ (c .before .before .before .before .before .if2 .left),
       sym (c .before .before .before .before .all-finite .ensures),
@@ -50,8 +57,9 @@ returns-4 c =
 
 returns-5 : tie.Need-returns-5
 returns-5 c =
+    let a = c .before .before .before .before .before .before .before .before .before .before .before .before .args in
     sym
-    (options-passed (c .before .before .before .before .before .before .before .before .before .before .before .before .args .views) (c .before .before .before .before .before .before .before .before .before .before .before .before .args .options) (c .before .before .before .before .before .before .before .before .before .before .before .before .args .tilt-x-seeds .now) (c .before .before .before .before .before .before .before .before .before .before .before .before .args .tilt-y-seeds .now) (c .before .before .before .before .before .before .before .before .before .before .before .before .args .decomposition .now) (c .before .before .before .before .before .before .before .before .before .before .before .before .args .list-len) _ (c .before .before .before .before .before .before .before .before .options-refusal .ensures) (c .before .before .before .before .before .before .before .if1 .left)
+    (options-passed (a .views) (a .options) (a .tilt-x-seeds .now) (a .tilt-y-seeds .now) (a .decomposition .now) (a .list-len) _ (c .before .before .before .before .before .before .before .before .options-refusal .ensures) (c .before .before .before .before .before .before .before .if1 .left)
     ∙ rw (
       sym (c .before .before .before .before .before .before .all-good-seeds .ensures) ∙ not-false _ (c .before .before .before .before .before .if2 .left),
       sym (c .before .before .before .before .all-finite .ensures),
