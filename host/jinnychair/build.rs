@@ -1,5 +1,5 @@
 //! Links the static library of the proved crates. It is `JINNYCHAIR_STATICLIB` (a folder that holds `libcapi.a`), or is
-//! proved and built here by `rt staticlib capi`, which does nothing where nothing has changed since.
+//! proved and built here by `rt staticlib capi`, which proves no crate below `capi` again where nothing has changed since.
 
 use std::env;
 use std::path::{Path, PathBuf};
