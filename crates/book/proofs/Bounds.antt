@@ -9,17 +9,17 @@ use lib.ListN.{length, getD}
 use lib.Ieee.{Float}
 use Rattle.common.specs.Tests.{case}
 use Rattle.common.specs.All.{All, all-append, all-map}
-use Rattle.seeds.specs.declared.CandidateSeed.{CandidateSeed}
-use Rattle.seeds.specs.Rules.{inBound, offsets}
-use Rattle.seeds.specs.Facts.{next-in-bound}
-use Rattle.score.specs.declared.Scoring.{Scoring}
-use Rattle.score.specs.declared.Finding.{Finding}
-use Rattle.score.specs.declared.Outcome.{Outcome}
-use Rattle.score.specs.declared.Outcome.the-variants.{Skipped, Scored}
-use Rattle.score.specs.Evaluation.{outcomeOf, findingRefusal}
-use Rattle.score.specs.Facts.{ScoredFacts, scored-facts}
-use Rattle.best.specs.declared.Candidate.{Candidate}
-use Rattle.best.specs.Best.{Chosen, nothing, chosen}
+use Rattle.seed_rules.specs.declared.CandidateSeed.{CandidateSeed}
+use Rattle.seed_rules.specs.Rules.{inBound, offsets}
+use Rattle.seed_rules.specs.Facts.{next-in-bound}
+use Rattle.score_outcome.specs.declared.Scoring.{Scoring}
+use Rattle.score_outcome.specs.declared.Finding.{Finding}
+use Rattle.score_outcome.specs.declared.Outcome.{Outcome}
+use Rattle.score_outcome.specs.declared.Outcome.the-variants.{Skipped, Scored}
+use Rattle.score_outcome.specs.Evaluation.{outcomeOf, findingRefusal}
+use Rattle.score_outcome.specs.Facts.{ScoredFacts, scored-facts}
+use Rattle.score_best.specs.declared.Candidate.{Candidate}
+use Rattle.score_best.specs.Best.{Chosen, nothing, chosen}
 use Rattle.book.specs.Calls.{Call, next, seed, answer, ask}
 use Rattle.book.specs.Book.{Inputs, demand, Entry, Book, entries, noSeed, current, roundBest, runBest, orElse, stepOf, listAround, withWaiting, withEntry, withRound, withEnd, closeRound, bookEnter, bookNext, bookSeed, bookAnswer, bookResult, bookCall}
 use Rattle.book.proofs.Cases.{case-chosen, case-list}

@@ -2,12 +2,12 @@
 use Prim.Native.Nat.{ℕ}
 use mathlib.Core.Path.{_≡_, refl}
 use mathlib.Core.List.{List, [], _∷_}
-use Rattle.seeds.specs.declared.CandidateSeed.{CandidateSeed}
-use Rattle.score.specs.declared.Scoring.{Scoring}
-use Rattle.score.specs.declared.Outcome.{Outcome}
-use Rattle.score.specs.declared.Outcome.the-variants.{Skipped, Scored}
-use Rattle.best.specs.declared.Candidate.{Candidate}
-use Rattle.best.specs.Best.{Chosen, nothing, chosen}
+use Rattle.seed_rules.specs.declared.CandidateSeed.{CandidateSeed}
+use Rattle.score_outcome.specs.declared.Scoring.{Scoring}
+use Rattle.score_outcome.specs.declared.Outcome.{Outcome}
+use Rattle.score_outcome.specs.declared.Outcome.the-variants.{Skipped, Scored}
+use Rattle.score_best.specs.declared.Candidate.{Candidate}
+use Rattle.score_best.specs.Best.{Chosen, nothing, chosen}
 
 pub case-chosen : (x : Chosen) {P : Type 0} → (x ≡ nothing → P) → ((w : Candidate) → x ≡ chosen w → P) → P
 case-chosen nothing f g = f refl

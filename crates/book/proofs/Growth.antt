@@ -10,13 +10,13 @@ use lib.ListN.{length, take, drop}
 use lib.Ieee.{Float}
 use Rattle.common.specs.Tests.{case}
 use Rattle.common.specs.All.{All, all-left}
-use Rattle.seeds.specs.declared.CandidateSeed.{CandidateSeed}
-use Rattle.seeds.specs.Layout.{six}
-use Rattle.score.specs.declared.Finding.{Finding}
-use Rattle.score.specs.declared.Outcome.{Outcome}
-use Rattle.score.specs.Evaluation.{outcomeOf, findingRefusal}
-use Rattle.best.specs.Order.{Sound}
-use Rattle.search_next.specs.Next.{nextDef, seedLent, seedPart}
+use Rattle.seed_rules.specs.declared.CandidateSeed.{CandidateSeed}
+use Rattle.seed_rules.specs.Layout.{six}
+use Rattle.score_outcome.specs.declared.Finding.{Finding}
+use Rattle.score_outcome.specs.declared.Outcome.{Outcome}
+use Rattle.score_outcome.specs.Evaluation.{outcomeOf, findingRefusal}
+use Rattle.score_best.specs.Order.{Sound}
+use Rattle.search_calls.specs.Next.{nextDef, seedLent, seedPart}
 use Rattle.book.specs.Calls.{Call, next, seed, answer, ask, Reply, candidate, over, part, scored, skipped, result, refused}
 use Rattle.book.specs.Book.{demand, Entry, Book, entries, number, current, scoredOf, roundBest, runBest, orElse, listAround, withWaiting, withEntry, withRound, withEnd, closeRound, bookEnter, Kept, kept, replyTo, bookNext, bookSeed, bookAnswer, bookResult, bookCall, after}
 use Rattle.book.specs.Trace.{Handing, handedBy, answeredBy}

@@ -9,8 +9,8 @@ use lib.Dec.{ltb}
 use lib.ListN.{length, getD, take, drop, length-append, length-take, length-drop}
 use lib.Seq.{getD-append-add, drop-append-add, take-append-add}
 use lib.Ieee.{Float, nan}
-use Rattle.seeds.specs.declared.CandidateSeed.{CandidateSeed}
-use Rattle.seeds.specs.Layout.{laid, six, flat, seedAt, written}
+use Rattle.seed_rules.specs.declared.CandidateSeed.{CandidateSeed}
+use Rattle.seed_rules.specs.Layout.{laid, six, flat, seedAt, written}
 use Rattle.book.specs.Book.{noSeed}
 
 -- ---- the seeds in the list

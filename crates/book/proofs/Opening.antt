@@ -12,14 +12,14 @@ use lib.Ieee.{Float}
 use Rattle.common.specs.Tests.{case, both-true}
 use Rattle.common.specs.All.{All, every}
 use Rattle.float.specs.Float.{isFinite}
-use Rattle.seeds.specs.declared.CandidateSeed.{CandidateSeed}
-use Rattle.seeds.specs.Rules.{inBound}
-use Rattle.seeds.specs.RulesLaws.{initial-length}
-use Rattle.seeds.specs.Layout.{allSeeds, seedAt, written}
-use Rattle.seeds.specs.LayoutLaws.{seeds-layout, read-length}
-use Rattle.seeds.specs.Facts.{initial-in-bound}
-use Rattle.best.specs.Best.{bestOf, firstUnbeaten}
-use Rattle.search.specs.declared.run.Run.{Run}
+use Rattle.seed_rules.specs.declared.CandidateSeed.{CandidateSeed}
+use Rattle.seed_rules.specs.Rules.{inBound}
+use Rattle.seed_rules.specs.RulesLaws.{initial-length}
+use Rattle.seed_rules.specs.Layout.{allSeeds, seedAt, written}
+use Rattle.seed_rules.specs.LayoutLaws.{seeds-layout, read-length}
+use Rattle.seed_rules.specs.Facts.{initial-in-bound}
+use Rattle.score_best.specs.Best.{bestOf, firstUnbeaten}
+use Rattle.search_record.specs.declared.run.Run.{Run}
 use Rattle.search_start.specs.declared.Started.the-variants.{Accepted}
 use Rattle.search_start.specs.Start.{positive, goodSeed, demandOf, openingOf}
 use Rattle.search_start.specs.StartLaws.{Passed, start-passed}

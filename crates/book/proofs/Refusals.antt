@@ -13,9 +13,9 @@ use Rattle.common.specs.All.{every}
 use Rattle.common.specs.Refusal.{Check, _when_, firstRefusal}
 use Rattle.float.specs.Float.{isFinite}
 use Rattle.float.specs.Sign.{plusZero}
-use Rattle.seeds.specs.declared.CandidateSeed.{CandidateSeed}
-use Rattle.seeds.specs.Rules.{within, inBound}
-use Rattle.seeds.specs.Layout.{allSeeds}
+use Rattle.seed_rules.specs.declared.CandidateSeed.{CandidateSeed}
+use Rattle.seed_rules.specs.Rules.{within, inBound}
+use Rattle.seed_rules.specs.Layout.{allSeeds}
 use Rattle.search_start.specs.Start.{positive, goodSeed, tooMany, demandOf, startChecks}
 use Rattle.book.specs.Book.{Inputs, demand}
 use Rattle.book.specs.Conditions.{Condition, _provided_, FirstHolds, NoneHolds, Some, NotFinite, NotAboveZero, NotPositive, Beyond, BadSeed, conditions}

@@ -9,11 +9,11 @@ use lib.Dec.{leb, ltb}
 use lib.ListN.{length, length-append}
 use lib.Ieee.{Float}
 use Rattle.common.specs.Tests.{case}
-use Rattle.seeds.specs.declared.CandidateSeed.{CandidateSeed}
-use Rattle.best.specs.Best.{Chosen, nothing, chosen, noBest, held}
-use Rattle.search.specs.declared.run.Run.{Run}
-use Rattle.search.specs.declared.run.Waiting.{Waiting}
-use Rattle.search.specs.Record.{nobody, hasPlace, sound}
+use Rattle.seed_rules.specs.declared.CandidateSeed.{CandidateSeed}
+use Rattle.score_best.specs.Best.{Chosen, nothing, chosen, noBest, held}
+use Rattle.search_record.specs.declared.run.Run.{Run}
+use Rattle.search_record.specs.declared.run.Waiting.{Waiting}
+use Rattle.search_record.specs.Record.{nobody, hasPlace, sound}
 use Rattle.book.specs.Book.{demand, Book, number, current, roundBest, runBest, stepOf, isNothing}
 use Rattle.book.proofs.Lists.{Front}
 

@@ -13,25 +13,25 @@ use Rattle.common.specs.Tests.{case}
 use Rattle.common.specs.All.{All, all-left, all-right}
 use Rattle.common.specs.Refusal.{firstRefusal}
 use Rattle.float.specs.Binary64.{_*₆₄_}
-use Rattle.seeds.specs.declared.CandidateSeed.{CandidateSeed}
-use Rattle.seeds.specs.Rules.{offsets, nextList}
-use Rattle.seeds.specs.RulesLaws.{next-length}
-use Rattle.seeds.specs.Layout.{six, seedAt, written}
-use Rattle.score.specs.declared.Finding.{Finding}
-use Rattle.score.specs.declared.Scoring.{Scoring}
-use Rattle.score.specs.declared.Outcome.{Outcome}
-use Rattle.score.specs.declared.Outcome.the-variants.{Skipped, Scored}
-use Rattle.score.specs.Evaluation.{outcomeOf, findingRefusal}
-use Rattle.best.specs.declared.Candidate.{Candidate}
-use Rattle.best.specs.declared.Best.{Best}
-use Rattle.best.specs.Best.{Chosen, nothing, chosen, bestOf, firstUnbeaten, noBest, held, improved, candidateOf}
-use Rattle.best.specs.Order.{Sound, best-snoc}
-use Rattle.search.specs.declared.run.Run.{Run}
-use Rattle.search.specs.declared.run.Waiting.{Waiting}
-use Rattle.search.specs.Record as rec
-use Rattle.search_next.specs.Next.{nextDef, seedLent, seedPart}
+use Rattle.seed_rules.specs.declared.CandidateSeed.{CandidateSeed}
+use Rattle.seed_rules.specs.Rules.{offsets, nextList}
+use Rattle.seed_rules.specs.RulesLaws.{next-length}
+use Rattle.seed_rules.specs.Layout.{six, seedAt, written}
+use Rattle.score_outcome.specs.declared.Finding.{Finding}
+use Rattle.score_outcome.specs.declared.Scoring.{Scoring}
+use Rattle.score_outcome.specs.declared.Outcome.{Outcome}
+use Rattle.score_outcome.specs.declared.Outcome.the-variants.{Skipped, Scored}
+use Rattle.score_outcome.specs.Evaluation.{outcomeOf, findingRefusal}
+use Rattle.score_best.specs.declared.Candidate.{Candidate}
+use Rattle.score_best.specs.declared.Best.{Best}
+use Rattle.score_best.specs.Best.{Chosen, nothing, chosen, bestOf, firstUnbeaten, noBest, held, improved, candidateOf}
+use Rattle.score_best.specs.Order.{Sound, best-snoc}
+use Rattle.search_record.specs.declared.run.Run.{Run}
+use Rattle.search_record.specs.declared.run.Waiting.{Waiting}
+use Rattle.search_record.specs.Record as rec
+use Rattle.search_calls.specs.Next.{nextDef, seedLent, seedPart}
 use Rattle.search_answer.specs.Answer as ans
-use Rattle.search_result.specs.Result.{resultDef}
+use Rattle.search_calls.specs.Result.{resultDef}
 use Rattle.book.specs.Calls.{Call, next, seed, answer, ask, Reply, candidate, over, part, scored, skipped, result, refused}
 use Rattle.book.specs.Book.{Inputs, demand, Entry, Book, entries, number, noSeed, current, scoredOf, roundBest, runBest, orElse, stepOf, listAround, withWaiting, withEntry, withRound, withEnd, openRound, closeRound, bookEnter, Kept, kept, isNothing, bookNext, bookSeed, replyTo, bookAnswer, bookResult, bookCall}
 use Rattle.book.specs.Walk.{Step, runCall, answeredReply}

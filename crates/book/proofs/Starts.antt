@@ -9,8 +9,8 @@ use lib.Dec.{eqb}
 use lib.ListN.{length}
 use lib.Ieee.{Float}
 use Rattle.common.specs.Tests.{case}
-use Rattle.seeds.specs.Layout.{written}
-use Rattle.search.specs.declared.run.Run.{Run}
+use Rattle.seed_rules.specs.Layout.{written}
+use Rattle.search_record.specs.declared.run.Run.{Run}
 use Rattle.search_start.specs.declared.Started.the-variants.{Accepted, Refused}
 use Rattle.search_start.specs.Start.{startRefusal, opening, startSeeds, startChecks, startReply, startList}
 use Rattle.book.specs.Book.{Inputs, firstList}

@@ -11,17 +11,17 @@ use lib.ListN.{length}
 use lib.Ieee.{Float}
 use Rattle.common.specs.Tests.{case}
 use Rattle.common.specs.All.{All}
-use Rattle.score.specs.declared.Finding.{Finding}
-use Rattle.score.specs.Evaluation.{findingRefusal}
-use Rattle.best.specs.declared.Candidate.{Candidate}
-use Rattle.best.specs.Best.{Chosen, nothing, chosen, bestOf}
-use Rattle.best.specs.Order.{Sound}
-use Rattle.search.specs.declared.run.Run.{Run}
-use Rattle.search_next.specs.declared.Handed.the-variants as handed-as
-use Rattle.search_result.specs.declared.Resulted.the-variants.{Result, Refused}
-use Rattle.search_next.specs.Next.{nextDef}
+use Rattle.score_outcome.specs.declared.Finding.{Finding}
+use Rattle.score_outcome.specs.Evaluation.{findingRefusal}
+use Rattle.score_best.specs.declared.Candidate.{Candidate}
+use Rattle.score_best.specs.Best.{Chosen, nothing, chosen, bestOf}
+use Rattle.score_best.specs.Order.{Sound}
+use Rattle.search_record.specs.declared.run.Run.{Run}
+use Rattle.search_calls.specs.declared.next.Handed.the-variants as handed-as
+use Rattle.search_calls.specs.declared.result.Resulted.the-variants.{Result, Refused}
+use Rattle.search_calls.specs.Next.{nextDef}
 use Rattle.search_answer.specs.Answer.{answerRefusal}
-use Rattle.search_result.specs.Result.{resultDef}
+use Rattle.search_calls.specs.Result.{resultDef}
 use Rattle.book.specs.Calls.{Call}
 use Rattle.book.specs.Book.{Inputs, demand, Entry, Book, entries, number, scoredOf, runBest, opened, after}
 use Rattle.book.specs.Trace.{handed, answers, runAfter, listAfter}

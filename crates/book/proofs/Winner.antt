@@ -10,13 +10,13 @@ use lib.Ieee.{Float, lt, le, eq, isNan}
 use Rattle.common.specs.Tests.{case, both-true}
 use Rattle.common.specs.All.{All, all-append, all-left, all-right, all-map}
 use Rattle.float.specs.Order.{lt-asym, lt-irrefl, lt-not-eq, le-of-not-lt}
-use Rattle.seeds.specs.Rules.{within, inBound}
-use Rattle.score.specs.declared.Scoring.{Scoring}
-use Rattle.score.specs.Evaluation.{outcomeOf, findingRefusal}
-use Rattle.score.specs.Facts.{ScoredFacts}
-use Rattle.best.specs.declared.Candidate.{Candidate}
-use Rattle.best.specs.Best.{beats, Chosen, nothing, chosen, bestOf, firstUnbeaten, candidateOf}
-use Rattle.best.specs.Order.{Sound, Leads, best-leads, leader}
+use Rattle.seed_rules.specs.Rules.{within, inBound}
+use Rattle.score_outcome.specs.declared.Scoring.{Scoring}
+use Rattle.score_outcome.specs.Evaluation.{outcomeOf, findingRefusal}
+use Rattle.score_outcome.specs.Facts.{ScoredFacts}
+use Rattle.score_best.specs.declared.Candidate.{Candidate}
+use Rattle.score_best.specs.Best.{beats, Chosen, nothing, chosen, bestOf, firstUnbeaten, candidateOf}
+use Rattle.score_best.specs.Order.{Sound, Leads, best-leads, leader}
 use Rattle.book.specs.Calls.{Call, next, seed, answer, ask}
 use Rattle.book.specs.Book.{Inputs, demand, Entry, Book, entries, current, scoredOf, bookCall, after}
 use Rattle.book.specs.Theorem.{Wins}

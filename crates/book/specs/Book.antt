@@ -9,17 +9,17 @@ use lib.Ieee.{Float, binary64, ofBits}
 use Rattle.common.specs.Refusal.{Check, _when_, firstRefusal}
 use Rattle.float.specs.Binary64.{_*₆₄_}
 use Rattle.float.specs.Sign.{plusZero}
-use Rattle.models.specs.declared.math.Pt2.{Pt2}
-use Rattle.models.specs.declared.intrinsics.FxFyCxCy.{FxFyCxCy}
-use Rattle.seeds.specs.declared.CandidateSeed.{CandidateSeed}
-use Rattle.seeds.specs.Rules.{initialList, offsets, nextList}
-use Rattle.seeds.specs.Layout.{six, allSeeds}
-use Rattle.score.specs.declared.Finding.{Finding}
-use Rattle.score.specs.declared.Outcome.{Outcome}
-use Rattle.score.specs.declared.Outcome.the-variants.{Skipped, Scored}
-use Rattle.score.specs.Evaluation.{outcomeOf, findingRefusal}
-use Rattle.best.specs.declared.Candidate.{Candidate}
-use Rattle.best.specs.Best.{Chosen, nothing, chosen, bestOf, candidateOf}
+use Rattle.camera_models.specs.declared.math.Pt2.{Pt2}
+use Rattle.camera_models.specs.declared.intrinsics.FxFyCxCy.{FxFyCxCy}
+use Rattle.seed_rules.specs.declared.CandidateSeed.{CandidateSeed}
+use Rattle.seed_rules.specs.Rules.{initialList, offsets, nextList}
+use Rattle.seed_rules.specs.Layout.{six, allSeeds}
+use Rattle.score_outcome.specs.declared.Finding.{Finding}
+use Rattle.score_outcome.specs.declared.Outcome.{Outcome}
+use Rattle.score_outcome.specs.declared.Outcome.the-variants.{Skipped, Scored}
+use Rattle.score_outcome.specs.Evaluation.{outcomeOf, findingRefusal}
+use Rattle.score_best.specs.declared.Candidate.{Candidate}
+use Rattle.score_best.specs.Best.{Chosen, nothing, chosen, bestOf, candidateOf}
 use Rattle.book.specs.Calls.{Call, next, seed, answer, ask, Reply, candidate, over, part, scored, skipped, result, refused}
 
 -- ---- what Start is given

@@ -2,8 +2,8 @@
 use Prim.Native.Nat.{ℕ}
 use mathlib.Core.List.{List}
 use lib.Ieee.{Float}
-use Rattle.score.specs.declared.Finding.{Finding}
-use Rattle.best.specs.declared.Candidate.{Candidate}
+use Rattle.score_outcome.specs.declared.Finding.{Finding}
+use Rattle.score_best.specs.declared.Candidate.{Candidate}
 
 -- A call, with its arguments. n is how many numbers of the seed list the host lends, from its front, so that a list may be too short.
 pub data Call : Type 0 where

@@ -8,9 +8,9 @@ use lib.ListN.{length}
 use lib.Ieee.{Float, lt}
 use Rattle.float.specs.Float.{isFinite}
 use Rattle.float.specs.Sign.{plusZero}
-use Rattle.seeds.specs.declared.CandidateSeed.{CandidateSeed}
-use Rattle.seeds.specs.Rules.{within}
-use Rattle.seeds.specs.Layout.{allSeeds}
+use Rattle.seed_rules.specs.declared.CandidateSeed.{CandidateSeed}
+use Rattle.seed_rules.specs.Rules.{within}
+use Rattle.seed_rules.specs.Layout.{allSeeds}
 use Rattle.book.specs.Book.{Inputs, demand}
 
 -- a refusal's number, and where it holds

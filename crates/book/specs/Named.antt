@@ -4,10 +4,10 @@ use mathlib.Core.Bool.{cond}
 use mathlib.Core.List.{List, [], _∷_, _++_}
 use lib.Dec.{eqb}
 use lib.ListN.{length}
-use Rattle.seeds.specs.declared.CandidateSeed.{CandidateSeed}
-use Rattle.seeds.specs.Layout.{six}
-use Rattle.score.specs.declared.Outcome.{Outcome}
-use Rattle.best.specs.Best.{Chosen, nothing, chosen, bestOf}
+use Rattle.seed_rules.specs.declared.CandidateSeed.{CandidateSeed}
+use Rattle.seed_rules.specs.Layout.{six}
+use Rattle.score_outcome.specs.declared.Outcome.{Outcome}
+use Rattle.score_best.specs.Best.{Chosen, nothing, chosen, bestOf}
 use Rattle.book.specs.Book.{Inputs, Entry, scoredOf, orElse, firstList, listAround}
 use Rattle.book.specs.Trace.{Handing}
 

@@ -8,22 +8,22 @@ use lib.Ieee.{Float, lt, le, eq, isNan}
 use Rattle.common.specs.All.{All}
 use Rattle.float.specs.Float.{absOf, isFinite}
 use Rattle.float.specs.Sign.{plusZero}
-use Rattle.seeds.specs.Rules.{within}
-use Rattle.score.specs.declared.Finding.{Finding}
-use Rattle.pinhole.specs.declared.PinholeCamera.{PinholeCamera}
-use Rattle.pinhole.specs.Camera.{tangentialBound}
-use Rattle.score.specs.Evaluation.{findingRefusal}
-use Rattle.best.specs.declared.Candidate.{Candidate}
-use Rattle.search.specs.declared.run.Run.{Run}
-use Rattle.search.specs.declared.run.Options.{Options}
+use Rattle.seed_rules.specs.Rules.{within}
+use Rattle.score_outcome.specs.declared.Finding.{Finding}
+use Rattle.score_camera.specs.declared.pinhole.PinholeCamera.{PinholeCamera}
+use Rattle.score_camera.specs.Camera.{tangentialBound}
+use Rattle.score_outcome.specs.Evaluation.{findingRefusal}
+use Rattle.score_best.specs.declared.Candidate.{Candidate}
+use Rattle.search_record.specs.declared.run.Run.{Run}
+use Rattle.search_record.specs.declared.run.Options.{Options}
 use Rattle.search_start.specs.declared.Started.{Started}
 use Rattle.search_start.specs.declared.Started.the-variants.{Accepted, Refused}
-use Rattle.search_next.specs.declared.Handed.the-variants as handed-as
-use Rattle.search_result.specs.declared.Resulted.the-variants.{Result}
+use Rattle.search_calls.specs.declared.next.Handed.the-variants as handed-as
+use Rattle.search_calls.specs.declared.result.Resulted.the-variants.{Result}
 use Rattle.search_start.specs.Start.{startReply, startList}
-use Rattle.search_next.specs.Next.{nextDef}
+use Rattle.search_calls.specs.Next.{nextDef}
 use Rattle.search_answer.specs.Answer.{answerRefusal}
-use Rattle.search_result.specs.Result.{resultDef}
+use Rattle.search_calls.specs.Result.{resultDef}
 use Rattle.book.specs.Calls.{Call, Reply}
 use Rattle.book.specs.Book.{Inputs, Entry, Book, entries, scoredOf, opened, replies, after}
 use Rattle.book.specs.Conditions.{FirstHolds, NoneHolds, conditions}

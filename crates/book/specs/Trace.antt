@@ -5,11 +5,11 @@ use mathlib.Core.List.{List, [], _∷_, _++_}
 use lib.Dec.{eqb}
 use lib.ListN.{length, take}
 use lib.Ieee.{Float}
-use Rattle.score.specs.Evaluation.{outcomeOf}
-use Rattle.search.specs.declared.run.Run.{Run}
-use Rattle.search_next.specs.declared.Handed.{Handed}
-use Rattle.search_next.specs.declared.Handed.the-variants.{Candidate, Over, Refused}
-use Rattle.search_next.specs.Next.{nextDef, seedPart}
+use Rattle.score_outcome.specs.Evaluation.{outcomeOf}
+use Rattle.search_record.specs.declared.run.Run.{Run}
+use Rattle.search_calls.specs.declared.next.Handed.{Handed}
+use Rattle.search_calls.specs.declared.next.Handed.the-variants.{Candidate, Over, Refused}
+use Rattle.search_calls.specs.Next.{nextDef, seedPart}
 use Rattle.search_answer.specs.Answer.{answerRefusal}
 use Rattle.book.specs.Calls.{Call, next, seed, answer, ask}
 use Rattle.book.specs.Book.{Entry}

@@ -4,16 +4,16 @@ use Prim.Native.Nat.{ℕ}
 use mathlib.Core.List.{List, [], _∷_, _++_}
 use lib.ListN.{take, drop}
 use lib.Ieee.{Float}
-use Rattle.search.specs.declared.run.Run.{Run}
-use Rattle.search_next.specs.declared.Handed.{Handed}
-use Rattle.search_next.specs.declared.Handed.the-variants as handed
+use Rattle.search_record.specs.declared.run.Run.{Run}
+use Rattle.search_calls.specs.declared.next.Handed.{Handed}
+use Rattle.search_calls.specs.declared.next.Handed.the-variants as handed
 use Rattle.search_answer.specs.declared.Answered.{Answered}
 use Rattle.search_answer.specs.declared.Answered.the-variants as answered
-use Rattle.search_result.specs.declared.Resulted.{Resulted}
-use Rattle.search_result.specs.declared.Resulted.the-variants as resulted
-use Rattle.search_next.specs.Next.{nextDef, seedPart}
+use Rattle.search_calls.specs.declared.result.Resulted.{Resulted}
+use Rattle.search_calls.specs.declared.result.Resulted.the-variants as resulted
+use Rattle.search_calls.specs.Next.{nextDef, seedPart}
 use Rattle.search_answer.specs.Answer.{answerDef}
-use Rattle.search_result.specs.Result.{resultDef}
+use Rattle.search_calls.specs.Result.{resultDef}
 use Rattle.book.specs.Calls.{Call, next, seed, answer, ask, Reply, candidate, over, part, scored, skipped, result, refused}
 
 -- ---- the entry points' replies, by 01's numbers

@@ -1,47 +1,50 @@
 // The root, the camera without tilt, the tilted sensor and the distortion.
 ghost use mathlib.Core.Path.{_≡_};
 ghost use lib.Ieee.{binary64};
-ghost use Rattle.square_root.specs.Root.{root};
-ghost use Rattle.models.specs.Intrinsics.{pixelToSensor, sensorToPixel};
-ghost use Rattle.matrix.specs.Matrix.{determinantOf};
-ghost use Rattle.sensor.specs.Sensor.{tiltProjectionMatrix, applyHomography, applyHomographyInverse};
-ghost use Rattle.distortion.specs.Distortion.{distorted, distortedWithJacobian};
-ghost use Rattle.undistortion.specs.Undistortion.{undistorted};
+ghost use Rattle.root.specs.Root.{root};
+ghost use Rattle.camera_models.specs.Intrinsics.{pixelToSensor, sensorToPixel};
+ghost use Rattle.camera_tilt.specs.Matrix.{determinantOf};
+ghost use Rattle.camera_tilt.specs.Sensor.{tiltProjectionMatrix, applyHomography, applyHomographyInverse};
+ghost use Rattle.camera_models.specs.Distortion.{distorted, distortedWithJacobian};
+ghost use Rattle.camera_undistort.specs.Undistortion.{undistorted};
 ghost use Rattle.zhang.specs.Zhang.{fromHomographies};
-ghost use Rattle.flat.specs.Camera.{rowsOf, flatMatrix, flatInverse, flatEstimate};
-use distortion::BrownConrady5;
-use distortion::DistortedPoint;
-use flat::camera::CameraReply;
-use flat::camera::InverseReply;
-use flat::camera::Matrix3;
-use flat::camera::estimate_reply;
-use flat::camera::inverse_reply;
-use flat::camera::matrix_of;
-use flat::camera::rows_of;
-use models::intrinsics::FxFyCxCy;
-use models::math::Pt2;
-use reprojection::TiltTrig;
+ghost use Rattle.capi_records.specs.Camera.{rowsOf, flatMatrix, flatInverse, flatEstimate};
+use camera_models::distortion;
+use camera_models::distortion::BrownConrady5;
+use camera_models::distortion::DistortedPoint;
+use camera_models::intrinsics::FxFyCxCy;
+use camera_models::math::Pt2;
+use camera_tilt::matrix;
+use camera_tilt::sensor;
+use capi_records::camera::CameraReply;
+use capi_records::camera::InverseReply;
+use capi_records::camera::Matrix3;
+use capi_records::camera::estimate_reply;
+use capi_records::camera::inverse_reply;
+use capi_records::camera::matrix_of;
+use capi_records::camera::rows_of;
+use score_rows::TiltTrig;
 use zhang::Conic;
 
 #[no_mangle]
 pub extern "C" fn jc_sqrt(x: f64) -> f64
     ensures { λ r. ⌜ r ≡ root binary64 x ⌝ }
 {
-    roots::sqrt(x)
+    root_code::sqrt(x)
 }
 
 #[no_mangle]
 pub extern "C" fn jc_pixel_to_sensor(k: FxFyCxCy, pixel: Pt2) -> Pt2
     ensures { λ r. ⌜ r ≡ pixelToSensor k pixel ⌝ }
 {
-    models::intrinsics::pixel_to_sensor(k, pixel)
+    camera_models::intrinsics::pixel_to_sensor(k, pixel)
 }
 
 #[no_mangle]
 pub extern "C" fn jc_sensor_to_pixel(k: FxFyCxCy, sensor: Pt2) -> Pt2
     ensures { λ r. ⌜ r ≡ sensorToPixel k sensor ⌝ }
 {
-    models::intrinsics::sensor_to_pixel(k, sensor)
+    camera_models::intrinsics::sensor_to_pixel(k, sensor)
 }
 
 #[no_mangle]
@@ -114,7 +117,7 @@ pub extern "C" fn jc_distort_with_jacobian(b: BrownConrady5, p: Pt2) -> Distorte
 pub extern "C" fn jc_undistort(b: BrownConrady5, iters: u32, p: Pt2) -> Pt2
     ensures { λ r. ⌜ r ≡ undistorted b iters p ⌝ }
 {
-    undistortion::undistort(b, iters, p)
+    camera_undistort::undistort(b, iters, p)
 }
 
 #[no_mangle]

@@ -1,25 +1,27 @@
 // Operations on lists of points: the point maps, normalising, the line test, the design rows and the centre.
 ghost use mathlib.Core.Path.{_≡_};
 ghost use lib.ListN.{length};
-ghost use Rattle.sensor.specs.Sensor.{tiltProjectionMatrix};
-ghost use Rattle.maps.specs.declared.Lens.{Lens};
-ghost use Rattle.maps.specs.Maps.{mapReply, mapDestination};
-ghost use Rattle.points.specs.Linalg.{normalizeReply, normalizeInto};
-ghost use Rattle.homography.specs.Line.{lineReply};
-ghost use Rattle.homography.specs.Rows.{rowsReply, rowsInto};
-ghost use Rattle.centre.specs.Centre.{centerReply};
-ghost use Rattle.flat.specs.Lists.{mappedNumber, rowsNumber, flatNormalized, flatLineTest, flatCenter};
-use flat::lists::CenterReply;
-use flat::lists::LineReply;
-use flat::lists::NormalizeReply;
-use flat::lists::center_reply;
-use flat::lists::line_reply;
-use flat::lists::mapped_number;
-use flat::lists::normalize_reply;
-use flat::lists::rows_number;
-use models::intrinsics::FxFyCxCy;
-use pinhole::PinholeCamera;
-use reprojection::TiltTrig;
+ghost use Rattle.camera_tilt.specs.Sensor.{tiltProjectionMatrix};
+ghost use Rattle.point_maps.specs.declared.maps.Lens.{Lens};
+ghost use Rattle.point_maps.specs.Maps.{mapReply, mapDestination};
+ghost use Rattle.point_normalise.specs.Linalg.{normalizeReply, normalizeInto};
+ghost use Rattle.point_homography.specs.Line.{lineReply};
+ghost use Rattle.point_homography.specs.Rows.{rowsReply, rowsInto};
+ghost use Rattle.point_maps.specs.Centre.{centerReply};
+ghost use Rattle.capi_records.specs.Lists.{mappedNumber, rowsNumber, flatNormalized, flatLineTest, flatCenter};
+use camera_models::intrinsics::FxFyCxCy;
+use capi_records::lists::CenterReply;
+use capi_records::lists::LineReply;
+use capi_records::lists::NormalizeReply;
+use capi_records::lists::center_reply;
+use capi_records::lists::line_reply;
+use capi_records::lists::mapped_number;
+use capi_records::lists::normalize_reply;
+use capi_records::lists::rows_number;
+use point_maps::centre;
+use point_maps::maps;
+use score_camera::pinhole::PinholeCamera;
+use score_rows::TiltTrig;
 
 // The pixels of a sensor that is not tilted, at the front of `to`; 0, or 17, 18 or 15.
 #[no_mangle]
@@ -76,14 +78,14 @@ pub extern "C" fn jc_normalize_points_2d(points: &[f64], to: &mut [f64]) -> Norm
     ensures reply { λ r. ⌜ r ≡ flatNormalized (normalizeReply (now (points .entry)) (length (now (to .entry)))) ⌝ }
     ensures written { λ _. ⌜ now (to .exit) ≡ normalizeInto (now (points .entry)) (now (to .entry)) ⌝ }
 {
-    normalize_reply(points::linalg::normalize_points_2d(points, to))
+    normalize_reply(point_normalise::linalg::normalize_points_2d(points, to))
 }
 
 #[no_mangle]
 pub extern "C" fn jc_points_are_collinear(points: &[f64]) -> LineReply
     ensures { λ r. ⌜ r ≡ flatLineTest (lineReply (now (points .entry))) ⌝ }
 {
-    line_reply(homography::points_are_collinear(points))
+    line_reply(point_homography::points_are_collinear(points))
 }
 
 // The design rows at the front of `to`, 18 numbers a point; 0, or 17, 18 or 20 to 26.
@@ -92,7 +94,7 @@ pub extern "C" fn jc_design_rows(source: &[f64], destination: &[f64], to: &mut [
     ensures number { λ r. ⌜ r ≡ rowsNumber (rowsReply (now (source .entry)) (now (destination .entry)) (length (now (to .entry)))) ⌝ }
     ensures written { λ _. ⌜ now (to .exit) ≡ rowsInto (now (source .entry)) (now (destination .entry)) (now (to .entry)) ⌝ }
 {
-    rows_number(homography::design_rows(source, destination, to))
+    rows_number(point_homography::design_rows(source, destination, to))
 }
 
 #[no_mangle]

@@ -1,27 +1,27 @@
 // The search: Start, Next, the seed call, Answer and Result over the run's record. The caller keeps the record that a call returns and hands it to the next.
 ghost use mathlib.Core.Path.{_≡_};
 ghost use Rattle.search_start.specs.Start.{startReply, startList};
-ghost use Rattle.search_next.specs.Next.{nextDef, seedPart};
+ghost use Rattle.search_calls.specs.Next.{nextDef, seedPart};
 ghost use Rattle.search_answer.specs.Answer.{answerDef};
-ghost use Rattle.search_result.specs.Result.{resultDef};
-ghost use Rattle.flat.specs.Record.{runOf};
-ghost use Rattle.flat.specs.Run.{flatStarted, flatNext, flatAnswer, flatResult, findingOf, copied, copyCount};
-use flat::record::RunRecord;
-use flat::record::run_of;
-use flat::run::AnswerFlat;
-use flat::run::NextFlat;
-use flat::run::ResultFlat;
-use flat::run::StartFlat;
-use flat::run::answer_flat;
-use flat::run::copy_part;
-use flat::run::finding_of;
-use flat::run::next_flat;
-use flat::run::result_flat;
-use flat::run::start_flat;
-use models::intrinsics::FxFyCxCy;
-use models::math::Pt2;
-use score::SolvedCamera;
-use search::run::Options;
+ghost use Rattle.search_calls.specs.Result.{resultDef};
+ghost use Rattle.capi_records.specs.Record.{runOf};
+ghost use Rattle.capi_records.specs.Run.{flatStarted, flatNext, flatAnswer, flatResult, findingOf, copied, copyCount};
+use camera_models::intrinsics::FxFyCxCy;
+use camera_models::math::Pt2;
+use capi_records::record::RunRecord;
+use capi_records::record::run_of;
+use capi_records::run::AnswerFlat;
+use capi_records::run::NextFlat;
+use capi_records::run::ResultFlat;
+use capi_records::run::StartFlat;
+use capi_records::run::answer_flat;
+use capi_records::run::copy_part;
+use capi_records::run::finding_of;
+use capi_records::run::next_flat;
+use capi_records::run::result_flat;
+use capi_records::run::start_flat;
+use score_outcome::SolvedCamera;
+use search_record::run::Options;
 
 // Start: round 0's list is written to the front of `list`.
 #[no_mangle]
@@ -55,7 +55,7 @@ pub extern "C" fn jc_start(
 pub extern "C" fn jc_next(run: RunRecord, list: &[f64]) -> NextFlat
     ensures { λ r. ⌜ r ≡ flatNext (nextDef (runOf run) (now (list .entry))) ⌝ }
 {
-    next_flat(search_next::next(run_of(run), list))
+    next_flat(search_calls::next::next(run_of(run), list))
 }
 
 // The seed call: the waiting seed's six numbers are copied to the front of `to`. How many were copied: 6, or 0 where none waits or `to` is too short.
@@ -64,7 +64,7 @@ pub extern "C" fn jc_seed(run: RunRecord, list: &[f64], to: &mut [f64]) -> usize
     ensures count { λ r. ⌜ r ≡ copyCount (seedPart (runOf run) (now (list .entry))) (now (to .entry)) ⌝ }
     ensures copy { λ _. ⌜ now (to .exit) ≡ copied (seedPart (runOf run) (now (list .entry))) (now (to .entry)) ⌝ }
 {
-    copy_part(search_next::seed(run_of(run), list), to)
+    copy_part(search_calls::next::seed(run_of(run), list), to)
 }
 
 // Answer: Failed where `is_solved` is 0, else Solved. A round's last one writes the next list to the front of `list`.
@@ -94,5 +94,5 @@ pub extern "C" fn jc_answer(
 pub extern "C" fn jc_result(run: RunRecord) -> ResultFlat
     ensures { λ r. ⌜ r ≡ flatResult (resultDef (runOf run)) ⌝ }
 {
-    result_flat(search_result::result(run_of(run)))
+    result_flat(search_calls::result::result(run_of(run)))
 }

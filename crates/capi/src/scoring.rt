@@ -1,15 +1,17 @@
 // What a candidate's score is made of.
 ghost use mathlib.Core.Path.{_≡_};
-ghost use Rattle.sensor.specs.Sensor.{tiltProjectionMatrix};
-ghost use Rattle.pinhole.specs.Camera.{damped};
-ghost use Rattle.penalties.specs.Penalties.{distortionPenalty, tiltPenalty, centrePenalty};
-ghost use Rattle.reprojection.specs.Rows.{rowsOf, errorSum, meanOf};
-use distortion::BrownConrady5;
-use models::intrinsics::FxFyCxCy;
-use models::math::Pt2;
-use pinhole::PinholeCamera;
-use reprojection::TiltTrig;
-use sensor::ScheimpflugParams;
+ghost use Rattle.camera_tilt.specs.Sensor.{tiltProjectionMatrix};
+ghost use Rattle.score_camera.specs.Camera.{damped};
+ghost use Rattle.score_camera.specs.Penalties.{distortionPenalty, tiltPenalty, centrePenalty};
+ghost use Rattle.score_rows.specs.Rows.{rowsOf, errorSum, meanOf};
+use camera_models::distortion::BrownConrady5;
+use camera_models::intrinsics::FxFyCxCy;
+use camera_models::math::Pt2;
+use camera_tilt::sensor::ScheimpflugParams;
+use score_camera::penalties;
+use score_camera::pinhole;
+use score_camera::pinhole::PinholeCamera;
+use score_rows::TiltTrig;
 
 #[no_mangle]
 pub extern "C" fn jc_damp_seed_distortion(distortion: BrownConrady5) -> BrownConrady5
@@ -49,5 +51,5 @@ pub extern "C" fn jc_mean_reproj_error(
 ) -> f64
     ensures { λ r. ⌜ r ≡ meanOf (errorSum camera (tiltProjectionMatrix (trig .«sin_x») (trig .«cos_x») (trig .«sin_y») (trig .«cos_y»)) (rowsOf (now (rows .entry)) (now (flags .entry)))) ⌝ }
 {
-    reprojection::mean_of_rows(camera, trig, rows, flags)
+    score_rows::mean_of_rows(camera, trig, rows, flags)
 }

@@ -4,20 +4,20 @@ use mathlib.Core.Path.{_≡_}
 use mathlib.Core.List.{List, [], _∷_, map}
 use lib.IntN.{pos, negsuc}
 use lib.Ieee.{Float, ofInt, ofBits, binary64}
-use Rattle.square_root.specs.Root.{root}
-use Rattle.models.specs.declared.math.Pt2.{Pt2}
-use Rattle.models.specs.declared.intrinsics.FxFyCxCy.{FxFyCxCy}
-use Rattle.sensor.specs.declared.ScheimpflugParams.{ScheimpflugParams}
-use Rattle.sensor.specs.declared.Tilt.{Tilt}
-use Rattle.matrix.specs.Matrix.{Matrix}
-use Rattle.sensor.specs.Sensor.{tiltProjectionMatrix, tiltVerdict, applyHomography, applyHomographyInverse}
-use Rattle.centre.specs.declared.Center.{Center}
-use Rattle.centre.specs.Centre.{centerReply}
+use Rattle.root.specs.Root.{root}
+use Rattle.camera_models.specs.declared.math.Pt2.{Pt2}
+use Rattle.camera_models.specs.declared.intrinsics.FxFyCxCy.{FxFyCxCy}
+use Rattle.camera_tilt.specs.declared.sensor.ScheimpflugParams.{ScheimpflugParams}
+use Rattle.camera_tilt.specs.declared.sensor.Tilt.{Tilt}
+use Rattle.camera_tilt.specs.Matrix.{Matrix}
+use Rattle.camera_tilt.specs.Sensor.{tiltProjectionMatrix, tiltVerdict, applyHomography, applyHomographyInverse}
+use Rattle.point_maps.specs.declared.centre.Center.{Center}
+use Rattle.point_maps.specs.Centre.{centerReply}
 use Rattle.zhang.specs.declared.Conic.{Conic}
 use Rattle.zhang.specs.declared.Estimate.{Estimate}
 use Rattle.zhang.specs.Zhang.{fromHomographies}
-use Rattle.seeds.specs.Rules.{seedWith, initialList, offsets, nextList}
-use Rattle.penalties.specs.Penalties.{tiltPenalty}
+use Rattle.seed_rules.specs.Rules.{seedWith, initialList, offsets, nextList}
+use Rattle.score_camera.specs.Penalties.{tiltPenalty}
 
 -- ---- numbers: n, -n, and the value that the bits b stand for
 abbrev pub whole : ℕ → Float

@@ -1,2 +1,5 @@
 pub mod Case
 pub mod Table
+pub mod Words
+pub mod Whole
+pub mod Ended

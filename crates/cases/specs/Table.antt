@@ -4,22 +4,22 @@ use mathlib.Core.List.{List, [], _∷_}
 use lib.Ieee.{Float, binary64, ofInt, ofBits, add, sub, mul, div, neg, lt, le, eq, isNan}
 use Rattle.common.specs.All.{All}
 use Rattle.float.specs.Float.{absOf, isFinite, minOf, maxOf}
-use Rattle.square_root.specs.Root.{root}
-use Rattle.models.specs.declared.math.Pt2.{Pt2}
-use Rattle.sensor.specs.declared.Tilt.the-variants as verdict
-use Rattle.models.specs.Constants.{tiny}
-use Rattle.matrix.specs.Matrix.{Matrix, productOf, firstOther, secondOther, minorOf, determinantOf}
-use Rattle.sensor.specs.Sensor.{tiltProjectionMatrix, tiltVerdict, forwardDepth, inverseDepth, applyHomography, applyHomographyInverse}
-use Rattle.centre.specs.declared.Center.the-variants.{At}
-use Rattle.points.specs.Points.{foldPoints}
-use Rattle.centre.specs.Centre.{extentOf, centerOf, centerReply}
+use Rattle.root.specs.Root.{root}
+use Rattle.camera_models.specs.declared.math.Pt2.{Pt2}
+use Rattle.camera_tilt.specs.declared.sensor.Tilt.the-variants as verdict
+use Rattle.camera_models.specs.Constants.{tiny}
+use Rattle.camera_tilt.specs.Matrix.{Matrix, productOf, firstOther, secondOther, minorOf, determinantOf}
+use Rattle.camera_tilt.specs.Sensor.{tiltProjectionMatrix, tiltVerdict, forwardDepth, inverseDepth, applyHomography, applyHomographyInverse}
+use Rattle.point_maps.specs.declared.centre.Center.the-variants.{At}
+use Rattle.point_normalise.specs.Points.{foldPoints}
+use Rattle.point_maps.specs.Centre.{extentOf, centerOf, centerReply}
 use Rattle.zhang.specs.declared.Conic.{Conic}
 use Rattle.zhang.specs.declared.Estimate.{Estimate}
 use Rattle.zhang.specs.declared.Estimate.the-variants as estimate
 use Rattle.zhang.specs.Zhang.{definite, fromHomographies}
-use Rattle.seeds.specs.Merge.{keep, hasNear, push, mergedInto}
-use Rattle.seeds.specs.Rules.{closer, tiltNear, near, within, inBound, tilts, pairs, seedGrid, initialList, offsets, nextList}
-use Rattle.penalties.specs.Penalties.{tiltPenalty}
+use Rattle.seed_rules.specs.Merge.{keep, hasNear, push, mergedInto}
+use Rattle.seed_rules.specs.Rules.{closer, tiltNear, near, within, inBound, tilts, pairs, seedGrid, initialList, offsets, nextList}
+use Rattle.score_camera.specs.Penalties.{tiltPenalty}
 use Rattle.cases.specs.Case.{Case, sqrt, tilt, forward, backward, centre, conic, typed, around, penalty, Holds, whole, minus, bits}
 
 abbrev point : Float → Float → Pt2

@@ -6,17 +6,17 @@ use lib.Dec.{ltb, eqb}
 use lib.ListN.{length}
 use lib.Ieee.{Float}
 use Rattle.common.specs.Refusal.{_when_, firstRefusal}
-use Rattle.seeds.specs.declared.CandidateSeed.{CandidateSeed}
-use Rattle.seeds.specs.Rules.{offsets, nextList}
-use Rattle.seeds.specs.Layout.{written}
-use Rattle.score.specs.declared.Finding.{Finding}
-use Rattle.score.specs.declared.Outcome.{Outcome}
-use Rattle.score.specs.declared.Outcome.the-variants as outcome
-use Rattle.score.specs.Evaluation.{outcomeOf, findingRefusal}
-use Rattle.best.specs.declared.Best.{Best}
-use Rattle.best.specs.declared.Candidate.{Candidate}
-use Rattle.search.specs.Record.{sound, entered, nextStep, opened, ended}
-use Rattle.search.specs.declared.run.Run.{Run}
+use Rattle.seed_rules.specs.declared.CandidateSeed.{CandidateSeed}
+use Rattle.seed_rules.specs.Rules.{offsets, nextList}
+use Rattle.seed_rules.specs.Layout.{written}
+use Rattle.score_outcome.specs.declared.Finding.{Finding}
+use Rattle.score_outcome.specs.declared.Outcome.{Outcome}
+use Rattle.score_outcome.specs.declared.Outcome.the-variants as outcome
+use Rattle.score_outcome.specs.Evaluation.{outcomeOf, findingRefusal}
+use Rattle.score_best.specs.declared.Best.{Best}
+use Rattle.score_best.specs.declared.Candidate.{Candidate}
+use Rattle.search_record.specs.Record.{sound, entered, nextStep, opened, ended}
+use Rattle.search_record.specs.declared.run.Run.{Run}
 use Rattle.search_answer.specs.declared.Answered.{Answered}
 use Rattle.search_answer.specs.declared.Answered.the-variants.{Scored, Skipped, Refused}
 use Rattle.search_answer.specs.declared.AnswerReply.{AnswerReply}

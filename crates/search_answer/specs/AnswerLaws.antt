@@ -9,16 +9,16 @@ use lib.Dec.{ltb, eqb}
 use lib.Ieee.{Float}
 use Rattle.common.specs.Tests.{both-true}
 use Rattle.common.specs.RefusalLaws.{refuses-none}
-use Rattle.seeds.specs.declared.CandidateSeed.{CandidateSeed}
-use Rattle.seeds.specs.Layout.{laid, six, Leaves}
-use Rattle.seeds.specs.Rules.{offsets, nextList}
-use Rattle.score.specs.declared.Finding.{Finding}
-use Rattle.score.specs.declared.Outcome.{Outcome}
-use Rattle.best.specs.declared.Best.{Best}
-use Rattle.best.specs.declared.Candidate.{Candidate}
-use Rattle.search.specs.Record.{sound, entered, nextStep, opened, ended}
+use Rattle.seed_rules.specs.declared.CandidateSeed.{CandidateSeed}
+use Rattle.seed_rules.specs.Layout.{laid, six, Leaves}
+use Rattle.seed_rules.specs.Rules.{offsets, nextList}
+use Rattle.score_outcome.specs.declared.Finding.{Finding}
+use Rattle.score_outcome.specs.declared.Outcome.{Outcome}
+use Rattle.score_best.specs.declared.Best.{Best}
+use Rattle.score_best.specs.declared.Candidate.{Candidate}
+use Rattle.search_record.specs.Record.{sound, entered, nextStep, opened, ended}
 use Rattle.search_answer.specs.Answer.{Left, left, answerRefusal, orElse, nextSeeds, openRound, closeRound, enterDef}
-use Rattle.search.specs.declared.run.Run.{Run}
+use Rattle.search_record.specs.declared.run.Run.{Run}
 
 -- ---- a finding's refusal, as the last of Answer's
 pub unless-zero : (n : ℕ) → cond (not (eqb n 0)) n 0 ≡ n

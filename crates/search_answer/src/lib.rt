@@ -4,21 +4,21 @@ ghost use mathlib.Core.Path.{_≡_};
 ghost use mathlib.Core.Bool.{true};
 ghost use Prim.Native.Nat.{_-_, _≤_};
 ghost use lib.ListN.{length};
-ghost use Rattle.seeds.specs.Layout.{Leaves, six};
-ghost use Rattle.seeds.specs.Rules.{offsets, nextList};
-ghost use Rattle.search.specs.Record.{sound};
+ghost use Rattle.seed_rules.specs.Layout.{Leaves, six};
+ghost use Rattle.seed_rules.specs.Rules.{offsets, nextList};
+ghost use Rattle.search_record.specs.Record.{sound};
 ghost use Rattle.search_answer.specs.Answer.{answerRefusal, orElse, closeRound, enterDef, replyOf, answerDef};
-use best::Best;
-use models::intrinsics::FxFyCxCy;
-use score::Finding;
-use score::Outcome;
-use search::run::Run;
-use search::run::ended;
-use search::run::entered;
-use search::run::is_sound;
-use search::run::next_step;
-use search::run::opened;
-use sensor::ScheimpflugParams;
+use camera_models::intrinsics::FxFyCxCy;
+use camera_tilt::sensor::ScheimpflugParams;
+use score_best::Best;
+use score_outcome::Finding;
+use score_outcome::Outcome;
+use search_record::run::Run;
+use search_record::run::ended;
+use search_record::run::entered;
+use search_record::run::is_sound;
+use search_record::run::next_step;
+use search_record::run::opened;
 
 pub enum Answered {
     Scored(f64),
@@ -41,7 +41,7 @@ fn answer_refusal(run: Run, list_len: usize, finding: Finding, rows: &[f64], fla
     if list_len < run.place.demand {
         return 10;
     }
-    score::finding_refusal(finding, rows, flags)
+    score_outcome::finding_refusal(finding, rows, flags)
 }
 
 // The first best, or, if it has none, the second.
@@ -134,7 +134,7 @@ pub fn answer(
     let number = answer_refusal(run, list.len(), finding, rows, flags);
     let mut reply = Answered::Refused(number);
     if number == 0 {
-        let outcome = score::finding_outcome(
+        let outcome = score_outcome::finding_outcome(
             finding,
             run.waiting.seed.sensor,
             run.center,

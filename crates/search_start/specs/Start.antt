@@ -9,15 +9,15 @@ use Rattle.common.specs.All.{every}
 use Rattle.common.specs.Refusal.{Check, _when_, firstRefusal}
 use Rattle.float.specs.Float.{isFinite}
 use Rattle.float.specs.Sign.{plusZero}
-use Rattle.models.specs.declared.math.Pt2.{Pt2}
-use Rattle.models.specs.declared.intrinsics.FxFyCxCy.{FxFyCxCy}
-use Rattle.seeds.specs.declared.CandidateSeed.{CandidateSeed}
-use Rattle.seeds.specs.Rules.{inBound, initialList}
-use Rattle.seeds.specs.Layout.{allSeeds, written}
-use Rattle.best.specs.Best.{noBest}
-use Rattle.search.specs.Record.{nobody}
-use Rattle.search.specs.declared.run.Options.{Options}
-use Rattle.search.specs.declared.run.Run.{Run}
+use Rattle.camera_models.specs.declared.math.Pt2.{Pt2}
+use Rattle.camera_models.specs.declared.intrinsics.FxFyCxCy.{FxFyCxCy}
+use Rattle.seed_rules.specs.declared.CandidateSeed.{CandidateSeed}
+use Rattle.seed_rules.specs.Rules.{inBound, initialList}
+use Rattle.seed_rules.specs.Layout.{allSeeds, written}
+use Rattle.score_best.specs.Best.{noBest}
+use Rattle.search_record.specs.Record.{nobody}
+use Rattle.search_record.specs.declared.run.Options.{Options}
+use Rattle.search_record.specs.declared.run.Run.{Run}
 use Rattle.search_start.specs.declared.Started.{Started}
 use Rattle.search_start.specs.declared.Started.the-variants.{Accepted, Refused}
 

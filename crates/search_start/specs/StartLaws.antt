@@ -14,9 +14,9 @@ use Rattle.common.specs.Tests.{both-false}
 use Rattle.common.specs.Refusal.{firstRefusal}
 use Rattle.common.specs.RefusalLaws.{refuses-none}
 use Rattle.float.specs.Float.{isFinite}
-use Rattle.seeds.specs.Layout.{allSeeds}
+use Rattle.seed_rules.specs.Layout.{allSeeds}
 use Rattle.search_start.specs.Start.{positive, goodSeed, tooMany, demandOf, startDemand, optionsChecks, listsChecks, startRefusal}
-use Rattle.search.specs.declared.run.Options.{Options}
+use Rattle.search_record.specs.declared.run.Options.{Options}
 
 pub record Sizes (x y d rounds : ℕ) : Type 0 where
   pub x-max : x ≤ 16

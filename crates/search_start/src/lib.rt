@@ -5,16 +5,16 @@ ghost use Prim.Native.Nat.{_/_, _≤_};
 ghost use Rattle.common.specs.Refusal.{firstRefusal};
 ghost use Rattle.common.specs.All.{every};
 ghost use Rattle.float.specs.Float.{isFinite};
-ghost use Rattle.seeds.specs.Layout.{allSeeds};
+ghost use Rattle.seed_rules.specs.Layout.{allSeeds};
 ghost use Rattle.search_start.specs.Start.{positive, goodSeed, tooMany, demandOf, openingOf, optionsChecks, startRefusal, startReply, startList};
 ghost use Rattle.search_start.specs.declared.Started.the-variants.{Accepted};
-use models::intrinsics::FxFyCxCy;
-use models::math::Pt2;
-use search::run::Options;
-use search::run::Place;
-use search::run::Run;
-use search::run::nobody;
-use seeds::CandidateSeed;
+use camera_models::intrinsics::FxFyCxCy;
+use camera_models::math::Pt2;
+use search_record::run::Options;
+use search_record::run::Place;
+use search_record::run::Run;
+use search_record::run::nobody;
+use seed_rules::CandidateSeed;
 
 pub enum Started {
     Accepted(Run),
@@ -37,7 +37,7 @@ fn is_good_seed(max_abs_tilt: f64, seed: CandidateSeed) -> bool
     good = good & float::is_finite(seed.reference_k.cy);
     good = good & float::is_finite(seed.sensor.tilt_x);
     good = good & float::is_finite(seed.sensor.tilt_y);
-    good & seed_checks::in_bound(max_abs_tilt, seed.sensor)
+    good & seed_lists::checks::in_bound(max_abs_tilt, seed.sensor)
 }
 
 fn all_good_seeds(max_abs_tilt: f64, decomposition: &[f64]) -> bool
@@ -147,7 +147,7 @@ fn start_refusal(
 fn opening(options: Options, center: Pt2, demand: usize, len: usize) -> Run
     ensures { λ r. ⌜ r ≡ openingOf options center demand len ⌝ }
 {
-    let none = best::no_best();
+    let none = score_best::no_best();
     Run {
         options,
         center,

@@ -4,18 +4,18 @@
 ghost use mathlib.Core.List.{map};
 ghost use Prim.Native.Nat.{_+_, _*_, _/_, _≤_};
 ghost use lib.ListN.{length};
-ghost use Rattle.seeds.specs.Layout.{six, seedsOf, allSeeds, Leaves, two, tiltsOf};
-ghost use Rattle.seeds.specs.Merge.{keep, mergedInto, merged};
-ghost use Rattle.seeds.specs.Rules as rules;
-ghost use Rattle.seeds.specs.Rules.{tiltNear, inBound, tilts, moved, seedWith, seedsWithin, seedGrid, initialList, nextList};
-use models::intrinsics::FxFyCxCy;
+ghost use Rattle.seed_rules.specs.Layout.{six, seedsOf, allSeeds, Leaves, two, tiltsOf};
+ghost use Rattle.seed_rules.specs.Merge.{keep, mergedInto, merged};
+ghost use Rattle.seed_rules.specs.Rules as rules;
+ghost use Rattle.seed_rules.specs.Rules.{tiltNear, inBound, tilts, moved, seedWith, seedsWithin, seedGrid, initialList, nextList};
+use camera_models::intrinsics::FxFyCxCy;
+use camera_tilt::sensor::ScheimpflugParams;
 use seed_lists::push_candidate_seed;
 use seed_lists::push_in_bound;
 use seed_lists::push_seed;
 use seed_lists::seed_at;
 use seed_lists::tilts_at;
-use seeds::CandidateSeed;
-use sensor::ScheimpflugParams;
+use seed_rules::CandidateSeed;
 
 // ---- a later round's list
 

@@ -1,22 +1,23 @@
-// Seeds and tilts in a lent list of numbers, and merging: one that lies near a kept one is not kept.
-// Each function equals its rule, for the reply and every number of the list.
+// Lists of seeds as they stand in the lent numbers: when one seed is near another, the search for a near one, and a list that is
+// extended by a seed where none is near.
+pub mod checks;
 
 ghost use mathlib.Core.Path.{_≡_};
 ghost use mathlib.Core.List.{_∷_, []};
 ghost use Prim.Native.Nat.{_+_, _*_, _≤_};
 ghost use lib.ListN.{length};
 ghost use lib.Seq.{sets};
-ghost use Rattle.seeds.specs.Layout.{six, seedAt, seedsOf, Leaves, two, tiltsAt, tiltsOf};
-ghost use Rattle.seeds.specs.Merge.{keep, firstNear, push, mergedInto};
-ghost use Rattle.seeds.specs.Rules as rules;
-ghost use Rattle.seeds.specs.Rules.{tiltNear, inBound, seedsWithin};
-use models::intrinsics::FxFyCxCy;
-use seed_checks::in_bound;
-use seed_checks::near;
-use seed_checks::tilt_near;
-use seeds::CandidateSeed;
-use seeds::Found;
-use sensor::ScheimpflugParams;
+ghost use Rattle.seed_rules.specs.Layout.{six, seedAt, seedsOf, Leaves, two, tiltsAt, tiltsOf};
+ghost use Rattle.seed_rules.specs.Merge.{keep, firstNear, push, mergedInto};
+ghost use Rattle.seed_rules.specs.Rules as rules;
+ghost use Rattle.seed_rules.specs.Rules.{tiltNear, inBound, seedsWithin};
+use crate::checks::in_bound;
+use crate::checks::near;
+use crate::checks::tilt_near;
+use camera_models::intrinsics::FxFyCxCy;
+use camera_tilt::sensor::ScheimpflugParams;
+use seed_rules::CandidateSeed;
+use seed_rules::Found;
 
 // ---- a list of seeds at the front of a slice
 

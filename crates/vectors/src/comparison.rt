@@ -1,33 +1,33 @@
 // The comparison of a stored file's cases with what the proved crates answer.
-use stored::expected::MALFORMED;
-use stored::expected::MISSED;
-use stored::fields::part;
-use stored::operations;
-use stored_files::case_line::read_line;
-use stored_files::case_line::second_word;
-use stored_files::header::first_case;
-use stored_files::text::is_whole_line;
-use stored_files::text::line_at;
-use stored_files::text::next_line;
-use stored_report::DAMAGED;
-use stored_report::DIFFERENT;
-use stored_report::LONG;
-use stored_report::SAME;
-use stored_report::SHORT;
-use stored_report::Tally;
-use stored_report::counted;
-use stored_report::no_cases;
+use oracle_files::case_line::read_line;
+use oracle_files::case_line::second_word;
+use oracle_files::expected::MALFORMED;
+use oracle_files::expected::MISSED;
+use oracle_files::fields::part;
+use oracle_files::header::first_case;
+use oracle_files::operations;
+use oracle_files::report::DAMAGED;
+use oracle_files::report::DIFFERENT;
+use oracle_files::report::LONG;
+use oracle_files::report::SAME;
+use oracle_files::report::SHORT;
+use oracle_files::report::Tally;
+use oracle_files::report::counted;
+use oracle_files::report::no_cases;
+use oracle_files::text::is_whole_line;
+use oracle_files::text::line_at;
+use oracle_files::text::next_line;
 
 // How far an operation meets what is expected of its n inputs; an unknown one does not.
 fn met(operation: usize, guess: u64, x: &[f64], n: usize) -> usize {
     if operation <= operations::CONIC_TO_CAMERA {
-        return replay_leaves::met(operation, guess, x, n);
+        return oracle_leaves::leaves::met(operation, guess, x, n);
     }
     if operation <= operations::LOCAL_SEED_GRID {
-        return replay_lists::met(operation, x, n);
+        return oracle_leaves::lists::met(operation, x, n);
     }
     if operation <= operations::CALLS {
-        return replay_runs::met(operation, x, n);
+        return oracle_runs::met(operation, x, n);
     }
     MISSED
 }

@@ -6,14 +6,14 @@
 mod comparison;
 
 use comparison::compare_cases;
-use stored::operations;
-use stored_files::header::NO_COUNT;
-use stored_files::header::case_count;
-use stored_files::header::is_named;
-use stored_files::header::name_of;
-use stored_files::names::named;
-use stored_report::write;
-use stored_report::write_report;
+use oracle_files::header::NO_COUNT;
+use oracle_files::header::case_count;
+use oracle_files::header::is_named;
+use oracle_files::header::name_of;
+use oracle_files::names::named;
+use oracle_files::operations;
+use oracle_files::report::write;
+use oracle_files::report::write_report;
 
 // Compares the cases of a file with a good header, and writes what became of them.
 fn report_cases(text: &[u8]) {

@@ -13,9 +13,9 @@ use Rattle.float.specs.Whole.{Is, Num, Few, held, has-value, round-is, neg-is, 
 use Rattle.float.specs.Float.{absOf}
 use Rattle.float.specs.Order.{lt-le-trans, le-not-lt}
 use Rattle.float.specs.Binary64.{_+₆₄_, _-₆₄_, _*₆₄_, _/₆₄_}
-use Rattle.square_root.specs.Root.{root}
-use Rattle.square_root.specs.Nearest.{root-exact}
-use Rattle.models.specs.declared.intrinsics.FxFyCxCy.{FxFyCxCy}
+use Rattle.root.specs.Root.{root}
+use Rattle.root.specs.Nearest.{root-exact}
+use Rattle.camera_models.specs.declared.intrinsics.FxFyCxCy.{FxFyCxCy}
 use Rattle.zhang.specs.declared.Conic.{Conic}
 use Rattle.zhang.specs.declared.Estimate.{Estimate}
 use Rattle.zhang.specs.declared.Estimate.the-variants.{Camera}

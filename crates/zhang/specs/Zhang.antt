@@ -5,8 +5,8 @@ use lib.Ieee.{Float, binary64, ofBits, neg, lt, le}
 use Rattle.float.specs.Binary64.{_+₆₄_, _-₆₄_, _*₆₄_, _/₆₄_}
 use Rattle.float.specs.Float.{absOf}
 use Rattle.float.specs.Sign.{plusZero}
-use Rattle.square_root.specs.Root.{root}
-use Rattle.models.specs.declared.intrinsics.FxFyCxCy.{FxFyCxCy}
+use Rattle.root.specs.Root.{root}
+use Rattle.camera_models.specs.declared.intrinsics.FxFyCxCy.{FxFyCxCy}
 use Rattle.zhang.specs.declared.Conic.{Conic}
 use Rattle.zhang.specs.declared.Estimate.{Estimate}
 use Rattle.zhang.specs.declared.Estimate.the-variants.{Camera, Refused}

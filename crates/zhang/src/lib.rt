@@ -4,7 +4,7 @@
 ghost use mathlib.Core.Path.{_≡_};
 ghost use Rattle.zhang.specs.Zhang as zhang;
 ghost use Rattle.zhang.specs.Zhang.{cameraOf, fromHomographies};
-use models::intrinsics::FxFyCxCy;
+use camera_models::intrinsics::FxFyCxCy;
 
 // The conic B = μ K⁻ᵀ K⁻¹, a symmetric matrix known up to its scale μ, in the order in which the linear solve gives its numbers.
 #[repr(C)]
@@ -31,8 +31,8 @@ fn camera_of(b: Conic, denom: f64, v0: f64, lambda: f64) -> FxFyCxCy
     let b11 = b.b11;
     let b12 = b.b12;
     let b13 = b.b13;
-    let alpha = roots::sqrt(lambda / b11);
-    let beta = roots::sqrt(lambda * b11 / denom);
+    let alpha = root_code::sqrt(lambda / b11);
+    let beta = root_code::sqrt(lambda * b11 / denom);
     let gamma = -b12 * alpha * alpha * beta / lambda;
     let u0 = gamma * v0 / beta - b13 * alpha * alpha / lambda;
     FxFyCxCy {

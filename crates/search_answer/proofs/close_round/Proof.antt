@@ -6,7 +6,7 @@ use native.Mathlib.Omega.{arith}
 use borrow.Author.Needs.{needs}
 use borrow.Author.Tests.{not-true, not-false}
 use lib.ListN.{length}
-use Rattle.search.specs.Record.{ended}
+use Rattle.search_record.specs.Record.{ended}
 use Rattle.search_answer.specs.Answer.{Left, left, closeRound}
 use Rattle.search_answer.specs.AnswerLaws.{close-last, close-none, close-open, close-empty, opened-rounds, next-seeds-are}
 use Rattle.search_answer.proofs.close_round.Statement.{statement}

@@ -3,7 +3,7 @@ use mathlib.Core.Path.{sym, ap, _∙_}
 use native.Mathlib.Nat.{lt-of-lt-of-le, le-trans}
 use borrow.Author.Needs.{needs}
 use Rattle.search_answer.specs.Answer.{Left}
-use Rattle.search.specs.Laws.{bounds, waiting-at}
+use Rattle.search_record.specs.Laws.{bounds, waiting-at}
 use Rattle.search_answer.specs.AnswerLaws.{enter-goes-on, enter-closes, entered-rounds}
 use Rattle.search_answer.proofs.enter.Statement.{statement}
 use Rattle.search_answer.proofs.enter.Tie as tie

@@ -1,6 +1,6 @@
 -- `search_answer::next_seeds` meets its contract: the list of offsets is the definition's. Assumes nothing.
 use borrow.Author.Needs.{needs}
-use Rattle.seeds.specs.Rules.{offsets}
+use Rattle.seed_rules.specs.Rules.{offsets}
 use Rattle.search_answer.proofs.next_seeds.Statement.{statement}
 use Rattle.search_answer.proofs.next_seeds.Tie as tie
 

@@ -9,8 +9,8 @@ use borrow.Author.Needs.{needs}
 use borrow.Author.Tests.{not-true, not-false}
 use lib.ListN.{length, drop}
 use Rattle.common.specs.All.{every, every-here, every-next, every-end}
-use Rattle.seeds.specs.Layout.{seedAt, seedsOf}
-use Rattle.seeds.specs.LayoutLaws.{read-length, seeds-drop}
+use Rattle.seed_rules.specs.Layout.{seedAt, seedsOf}
+use Rattle.seed_rules.specs.LayoutLaws.{read-length, seeds-drop}
 use Rattle.search_start.specs.Start.{goodSeed}
 use Rattle.search_start.proofs.all_good_seeds.Statement.{statement}
 use Rattle.search_start.proofs.all_good_seeds.Tie as tie

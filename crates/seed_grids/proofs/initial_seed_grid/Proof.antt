@@ -5,12 +5,12 @@ use Prim.Native.Nat.{_+_, _*_, _/_, _≤_}
 use native.Mathlib.Nat.{mul-le-mul}
 use native.Mathlib.Omega.{arith}
 use lib.ListN.{length}
-use Rattle.seeds.specs.Layout.{six, seedAt, allSeeds, tiltsOf}
-use Rattle.seeds.specs.LayoutLaws.{seeds-layout, tilts-layout, read-length}
-use Rattle.seeds.specs.MergeLaws.{merged-length}
-use Rattle.seeds.specs.Rules.{near, seedWith, seedGrid, initialList}
-use Rattle.seeds.specs.RulesLaws.{grid-length}
-use Rattle.seeds.specs.Steps.{Merging, leaves-read, merging-more}
+use Rattle.seed_rules.specs.Layout.{six, seedAt, allSeeds, tiltsOf}
+use Rattle.seed_rules.specs.LayoutLaws.{seeds-layout, tilts-layout, read-length}
+use Rattle.seed_rules.specs.MergeLaws.{merged-length}
+use Rattle.seed_rules.specs.Rules.{near, seedWith, seedGrid, initialList}
+use Rattle.seed_rules.specs.RulesLaws.{grid-length}
+use Rattle.seed_rules.specs.Steps.{Merging, leaves-read, merging-more}
 use borrow.Author.Needs.{needs}
 use Rattle.seed_grids.proofs.initial_seed_grid.Statement.{statement}
 use Rattle.seed_grids.proofs.initial_seed_grid.Tie as tie

@@ -10,12 +10,12 @@ use lib.ListN.{length, getD, take, length-map}
 use lib.Seq.{take-all}
 use lib.Ieee.{nan}
 use Rattle.float.specs.Binary64.{_+₆₄_}
-use Rattle.seeds.specs.Layout.{six, readFrom}
-use Rattle.seeds.specs.LayoutLaws.{seeds-layout}
-use Rattle.seeds.specs.Merge.{keep}
-use Rattle.seeds.specs.Rules.{near, tilts, pairs, moved, seedsWithin, nextList}
-use Rattle.seeds.specs.RulesLaws.{within-length, local-grid-more}
-use Rattle.seeds.specs.Steps.{Merging, merging-start, merging-more}
+use Rattle.seed_rules.specs.Layout.{six, readFrom}
+use Rattle.seed_rules.specs.LayoutLaws.{seeds-layout}
+use Rattle.seed_rules.specs.Merge.{keep}
+use Rattle.seed_rules.specs.Rules.{near, tilts, pairs, moved, seedsWithin, nextList}
+use Rattle.seed_rules.specs.RulesLaws.{within-length, local-grid-more}
+use Rattle.seed_rules.specs.Steps.{Merging, merging-start, merging-more}
 use Rattle.seed_grids.proofs.local_seed_grid.Statement.{statement}
 use Rattle.seed_grids.proofs.local_seed_grid.Tie as tie
 

@@ -7,12 +7,12 @@ use native.Mathlib.Omega.{arith}
 use borrow.Author.Needs.{needs}
 use lib.ListN.{length, take}
 use lib.Seq.{take-all}
-use Rattle.seeds.specs.declared.CandidateSeed.{CandidateSeed}
-use Rattle.seeds.specs.Layout.{six, seedsOf, allSeeds, readFrom}
-use Rattle.seeds.specs.LayoutLaws.{seeds-layout, seeds-take, read-length}
-use Rattle.seeds.specs.Merge.{mergedInto}
-use Rattle.seeds.specs.Rules.{near}
-use Rattle.seeds.specs.Steps.{Merging, merging-start, merging-more}
+use Rattle.seed_rules.specs.declared.CandidateSeed.{CandidateSeed}
+use Rattle.seed_rules.specs.Layout.{six, seedsOf, allSeeds, readFrom}
+use Rattle.seed_rules.specs.LayoutLaws.{seeds-layout, seeds-take, read-length}
+use Rattle.seed_rules.specs.Merge.{mergedInto}
+use Rattle.seed_rules.specs.Rules.{near}
+use Rattle.seed_rules.specs.Steps.{Merging, merging-start, merging-more}
 use Rattle.seed_grids.proofs.push_decomposition.Statement.{statement}
 use Rattle.seed_grids.proofs.push_decomposition.Tie as tie
 

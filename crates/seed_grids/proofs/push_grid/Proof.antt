@@ -8,12 +8,12 @@ use native.Mathlib.Omega.{arith}
 use borrow.Author.Needs.{needs}
 use lib.ListN.{take}
 use lib.Seq.{take-all}
-use Rattle.sensor.specs.declared.ScheimpflugParams.{ScheimpflugParams}
-use Rattle.seeds.specs.Layout.{six, seedsOf, tiltsAt, tiltsOf}
-use Rattle.seeds.specs.LayoutLaws.{seeds-layout, tilts-take, read-length}
-use Rattle.seeds.specs.Merge.{mergedInto}
-use Rattle.seeds.specs.Rules.{near, seedWith}
-use Rattle.seeds.specs.Steps.{Merging, merging-start, merging-more}
+use Rattle.camera_tilt.specs.declared.sensor.ScheimpflugParams.{ScheimpflugParams}
+use Rattle.seed_rules.specs.Layout.{six, seedsOf, tiltsAt, tiltsOf}
+use Rattle.seed_rules.specs.LayoutLaws.{seeds-layout, tilts-take, read-length}
+use Rattle.seed_rules.specs.Merge.{mergedInto}
+use Rattle.seed_rules.specs.Rules.{near, seedWith}
+use Rattle.seed_rules.specs.Steps.{Merging, merging-start, merging-more}
 use Rattle.seed_grids.proofs.push_grid.Statement.{statement}
 use Rattle.seed_grids.proofs.push_grid.Tie as tie
 

@@ -9,13 +9,13 @@ use borrow.Author.Needs.{needs}
 use lib.ListN.{length, getD, take, length-map}
 use lib.Seq.{take-all}
 use lib.Ieee.{nan}
-use Rattle.seeds.specs.Layout.{two, readFrom}
-use Rattle.seeds.specs.LayoutLaws.{tilts-layout}
-use Rattle.seeds.specs.Merge.{keep}
-use Rattle.seeds.specs.MergeLaws.{keep-length}
-use Rattle.seeds.specs.Rules.{tiltNear, inBound, tilts, pairs, seedGrid}
-use Rattle.seeds.specs.RulesLaws.{grid-more}
-use Rattle.seeds.specs.Steps.{Merging, merging-start, merging-more}
+use Rattle.seed_rules.specs.Layout.{two, readFrom}
+use Rattle.seed_rules.specs.LayoutLaws.{tilts-layout}
+use Rattle.seed_rules.specs.Merge.{keep}
+use Rattle.seed_rules.specs.MergeLaws.{keep-length}
+use Rattle.seed_rules.specs.Rules.{tiltNear, inBound, tilts, pairs, seedGrid}
+use Rattle.seed_rules.specs.RulesLaws.{grid-more}
+use Rattle.seed_rules.specs.Steps.{Merging, merging-start, merging-more}
 use Rattle.seed_grids.proofs.seed_grid.Statement.{statement}
 use Rattle.seed_grids.proofs.seed_grid.Tie as tie
 

@@ -9,13 +9,13 @@ use borrow.Author.Needs.{needs}
 use lib.ListN.{length, getD, take}
 use lib.Seq.{take-all}
 use lib.Ieee.{nan}
-use Rattle.seeds.specs.Layout.{two, tiltsOf}
-use Rattle.seeds.specs.LayoutLaws.{tilts-layout}
-use Rattle.seeds.specs.Merge.{keep}
-use Rattle.seeds.specs.MergeLaws.{keep-length}
-use Rattle.seeds.specs.Rules.{tiltNear, inBound, tilts}
-use Rattle.seeds.specs.RulesLaws.{row-more}
-use Rattle.seeds.specs.Steps.{Merging, merging-start, merging-more}
+use Rattle.seed_rules.specs.Layout.{two, tiltsOf}
+use Rattle.seed_rules.specs.LayoutLaws.{tilts-layout}
+use Rattle.seed_rules.specs.Merge.{keep}
+use Rattle.seed_rules.specs.MergeLaws.{keep-length}
+use Rattle.seed_rules.specs.Rules.{tiltNear, inBound, tilts}
+use Rattle.seed_rules.specs.RulesLaws.{row-more}
+use Rattle.seed_rules.specs.Steps.{Merging, merging-start, merging-more}
 use Rattle.seed_grids.proofs.seed_row.Statement.{statement}
 use Rattle.seed_grids.proofs.seed_row.Tie as tie
 

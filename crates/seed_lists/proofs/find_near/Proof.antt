@@ -4,12 +4,12 @@ use Prim.Native.Nat.{suc, _≤_, _-_}
 use native.Mathlib.Numerals.{add-one}
 use borrow.Author.Needs.{needs}
 use lib.ListN.{drop}
-use Rattle.seeds.specs.declared.CandidateSeed.{CandidateSeed}
-use Rattle.seeds.specs.Layout.{seedAt, seedsOf}
-use Rattle.seeds.specs.LayoutLaws.{read-length, seeds-drop}
-use Rattle.seeds.specs.Merge.{firstNear}
-use Rattle.seeds.specs.Rules.{near}
-use Rattle.seeds.specs.Steps.{found-here, found-next, found-none}
+use Rattle.seed_rules.specs.declared.CandidateSeed.{CandidateSeed}
+use Rattle.seed_rules.specs.Layout.{seedAt, seedsOf}
+use Rattle.seed_rules.specs.LayoutLaws.{read-length, seeds-drop}
+use Rattle.seed_rules.specs.Merge.{firstNear}
+use Rattle.seed_rules.specs.Rules.{near}
+use Rattle.seed_rules.specs.Steps.{found-here, found-next, found-none}
 use Rattle.seed_lists.proofs.find_near.Statement.{statement}
 use Rattle.seed_lists.proofs.find_near.Tie as tie
 

@@ -4,12 +4,12 @@ use Prim.Native.Nat.{suc, _≤_, _-_}
 use native.Mathlib.Numerals.{add-one}
 use borrow.Author.Needs.{needs}
 use lib.ListN.{drop}
-use Rattle.sensor.specs.declared.ScheimpflugParams.{ScheimpflugParams}
-use Rattle.seeds.specs.Layout.{tiltsAt, tiltsOf}
-use Rattle.seeds.specs.LayoutLaws.{read-length, tilts-drop}
-use Rattle.seeds.specs.Merge.{firstNear}
-use Rattle.seeds.specs.Rules.{tiltNear}
-use Rattle.seeds.specs.Steps.{found-here, found-next, found-none}
+use Rattle.camera_tilt.specs.declared.sensor.ScheimpflugParams.{ScheimpflugParams}
+use Rattle.seed_rules.specs.Layout.{tiltsAt, tiltsOf}
+use Rattle.seed_rules.specs.LayoutLaws.{read-length, tilts-drop}
+use Rattle.seed_rules.specs.Merge.{firstNear}
+use Rattle.seed_rules.specs.Rules.{tiltNear}
+use Rattle.seed_rules.specs.Steps.{found-here, found-next, found-none}
 use Rattle.seed_lists.proofs.find_tilt_near.Statement.{statement}
 use Rattle.seed_lists.proofs.find_tilt_near.Tie as tie
 

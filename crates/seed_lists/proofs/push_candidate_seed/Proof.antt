@@ -1,11 +1,11 @@
 -- `seed_lists::push_candidate_seed` meets its contract: a seed with a near one among the kept is dropped, any other is stored behind them. Assumes nothing.
 use mathlib.Core.Path.{_∙_, sym}
 use borrow.Author.Needs.{needs}
-use Rattle.seeds.specs.Layout.{seedsOf}
-use Rattle.seeds.specs.LayoutLaws.{seeds-layout}
-use Rattle.seeds.specs.MergeLaws.{first-at, first-nothing}
-use Rattle.seeds.specs.Rules.{near}
-use Rattle.seeds.specs.Steps.{push-drops, push-stores}
+use Rattle.seed_rules.specs.Layout.{seedsOf}
+use Rattle.seed_rules.specs.LayoutLaws.{seeds-layout}
+use Rattle.seed_rules.specs.MergeLaws.{first-at, first-nothing}
+use Rattle.seed_rules.specs.Rules.{near}
+use Rattle.seed_rules.specs.Steps.{push-drops, push-stores}
 use Rattle.seed_lists.proofs.push_candidate_seed.Statement.{statement}
 use Rattle.seed_lists.proofs.push_candidate_seed.Tie as tie
 

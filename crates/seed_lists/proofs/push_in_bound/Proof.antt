@@ -1,10 +1,10 @@
 -- `seed_lists::push_in_bound` meets its contract: a seed within the bound is pushed, any other is dropped. Assumes nothing.
 use mathlib.Core.Path.{sym, _∙_}
 use borrow.Author.Needs.{needs}
-use Rattle.seeds.specs.LayoutLaws.{seeds-layout}
-use Rattle.seeds.specs.Merge.{keep, mergedInto}
-use Rattle.seeds.specs.Rules.{near}
-use Rattle.seeds.specs.Steps.{merging-start}
+use Rattle.seed_rules.specs.LayoutLaws.{seeds-layout}
+use Rattle.seed_rules.specs.Merge.{keep, mergedInto}
+use Rattle.seed_rules.specs.Rules.{near}
+use Rattle.seed_rules.specs.Steps.{merging-start}
 use Rattle.seed_lists.proofs.push_in_bound.Statement.{statement}
 use Rattle.seed_lists.proofs.push_in_bound.Tie as tie
 

@@ -3,12 +3,12 @@ use mathlib.Core.Path.{_≡_, sym, _∙_}
 use mathlib.Core.Bool.{true, false}
 use borrow.Author.Tests.{not-true, not-false}
 use borrow.Author.Needs.{needs}
-use Rattle.seeds.specs.Layout.{tiltsOf}
-use Rattle.seeds.specs.LayoutLaws.{tilts-layout}
-use Rattle.seeds.specs.Merge.{keep, mergedInto}
-use Rattle.seeds.specs.MergeLaws.{first-at, first-nothing}
-use Rattle.seeds.specs.Rules.{tiltNear, inBound}
-use Rattle.seeds.specs.Steps.{push-drops, push-stores, merging-start}
+use Rattle.seed_rules.specs.Layout.{tiltsOf}
+use Rattle.seed_rules.specs.LayoutLaws.{tilts-layout}
+use Rattle.seed_rules.specs.Merge.{keep, mergedInto}
+use Rattle.seed_rules.specs.MergeLaws.{first-at, first-nothing}
+use Rattle.seed_rules.specs.Rules.{tiltNear, inBound}
+use Rattle.seed_rules.specs.Steps.{push-drops, push-stores, merging-start}
 use Rattle.seed_lists.proofs.push_seed.Statement.{statement}
 use Rattle.seed_lists.proofs.push_seed.Tie as tie
 

@@ -1,8 +1,8 @@
 -- `capi::camera::jc_apply_homography` meets its contract, by those of `rows_of` and `apply_homography`. Assumes nothing.
 use mathlib.Core.Path.{ap, _∙_}
 use borrow.Author.Needs.{needs}
-use Rattle.matrix.specs.Matrix.{Matrix}
-use Rattle.sensor.specs.Sensor.{applyHomography}
+use Rattle.camera_tilt.specs.Matrix.{Matrix}
+use Rattle.camera_tilt.specs.Sensor.{applyHomography}
 use Rattle.capi.proofs.camera.jc_apply_homography.Statement.{statement}
 use Rattle.capi.proofs.camera.jc_apply_homography.Tie as tie
 

@@ -1,8 +1,8 @@
 -- `capi::camera::jc_apply_homography_inverse` meets its contract, by those of `rows_of` and `apply_homography_inverse`. Assumes nothing.
 use mathlib.Core.Path.{ap, _∙_}
 use borrow.Author.Needs.{needs}
-use Rattle.matrix.specs.Matrix.{Matrix}
-use Rattle.sensor.specs.Sensor.{applyHomographyInverse}
+use Rattle.camera_tilt.specs.Matrix.{Matrix}
+use Rattle.camera_tilt.specs.Sensor.{applyHomographyInverse}
 use Rattle.capi.proofs.camera.jc_apply_homography_inverse.Statement.{statement}
 use Rattle.capi.proofs.camera.jc_apply_homography_inverse.Tie as tie
 

@@ -1,7 +1,7 @@
 -- `capi::camera::jc_conic_to_camera` meets its contract, by those of `from_homographies` and `estimate_reply`. Assumes nothing.
 use mathlib.Core.Path.{ap, _∙_}
 use borrow.Author.Needs.{needs}
-use Rattle.flat.specs.Camera.{flatEstimate}
+use Rattle.capi_records.specs.Camera.{flatEstimate}
 use Rattle.capi.proofs.camera.jc_conic_to_camera.Statement.{statement}
 use Rattle.capi.proofs.camera.jc_conic_to_camera.Tie as tie
 

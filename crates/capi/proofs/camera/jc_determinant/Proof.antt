@@ -1,7 +1,7 @@
 -- `capi::camera::jc_determinant` meets its contract, by those of `rows_of` and `determinant`. Assumes nothing.
 use mathlib.Core.Path.{ap, _∙_}
 use borrow.Author.Needs.{needs}
-use Rattle.matrix.specs.Matrix.{determinantOf}
+use Rattle.camera_tilt.specs.Matrix.{determinantOf}
 use Rattle.capi.proofs.camera.jc_determinant.Statement.{statement}
 use Rattle.capi.proofs.camera.jc_determinant.Tie as tie
 

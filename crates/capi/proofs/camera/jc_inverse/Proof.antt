@@ -1,7 +1,7 @@
 -- `capi::camera::jc_inverse` meets its contract, by those of `rows_of` and `inverse_reply`. Assumes nothing.
 use mathlib.Core.Path.{ap, _∙_}
 use borrow.Author.Needs.{needs}
-use Rattle.flat.specs.Camera.{flatInverse}
+use Rattle.capi_records.specs.Camera.{flatInverse}
 use Rattle.capi.proofs.camera.jc_inverse.Statement.{statement}
 use Rattle.capi.proofs.camera.jc_inverse.Tie as tie
 

@@ -1,7 +1,7 @@
 -- `capi::camera::jc_tilt_projection_matrix` meets its contract, by those of `tilt_projection_matrix` and `matrix_of`. Assumes nothing.
 use mathlib.Core.Path.{ap, _∙_}
 use borrow.Author.Needs.{needs}
-use Rattle.flat.specs.Camera.{flatMatrix}
+use Rattle.capi_records.specs.Camera.{flatMatrix}
 use Rattle.capi.proofs.camera.jc_tilt_projection_matrix.Statement.{statement}
 use Rattle.capi.proofs.camera.jc_tilt_projection_matrix.Tie as tie
 

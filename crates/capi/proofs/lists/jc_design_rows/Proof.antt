@@ -1,7 +1,7 @@
 -- `capi::lists::jc_design_rows` meets its contract, by those of `design_rows` and `rows_number`. Assumes nothing.
 use mathlib.Core.Path.{ap, _∙_}
 use borrow.Author.Needs.{needs}
-use Rattle.flat.specs.Lists.{rowsNumber}
+use Rattle.capi_records.specs.Lists.{rowsNumber}
 use Rattle.capi.proofs.lists.jc_design_rows.Statement.{statement}
 use Rattle.capi.proofs.lists.jc_design_rows.Tie as tie
 

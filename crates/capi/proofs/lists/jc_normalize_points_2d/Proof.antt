@@ -1,7 +1,7 @@
 -- `capi::lists::jc_normalize_points_2d` meets its contract, by those of `normalize_points_2d` and `normalize_reply`. Assumes nothing.
 use mathlib.Core.Path.{ap, _∙_}
 use borrow.Author.Needs.{needs}
-use Rattle.flat.specs.Lists.{flatNormalized}
+use Rattle.capi_records.specs.Lists.{flatNormalized}
 use Rattle.capi.proofs.lists.jc_normalize_points_2d.Statement.{statement}
 use Rattle.capi.proofs.lists.jc_normalize_points_2d.Tie as tie
 

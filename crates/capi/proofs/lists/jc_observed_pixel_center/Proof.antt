@@ -1,7 +1,7 @@
 -- `capi::lists::jc_observed_pixel_center` meets its contract, by those of `observed_pixel_center` and `center_reply`. Assumes nothing.
 use mathlib.Core.Path.{ap, _∙_}
 use borrow.Author.Needs.{needs}
-use Rattle.flat.specs.Lists.{flatCenter}
+use Rattle.capi_records.specs.Lists.{flatCenter}
 use Rattle.capi.proofs.lists.jc_observed_pixel_center.Statement.{statement}
 use Rattle.capi.proofs.lists.jc_observed_pixel_center.Tie as tie
 

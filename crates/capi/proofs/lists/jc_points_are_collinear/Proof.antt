@@ -1,7 +1,7 @@
 -- `capi::lists::jc_points_are_collinear` meets its contract, by those of `points_are_collinear` and `line_reply`. Assumes nothing.
 use mathlib.Core.Path.{ap, _∙_}
 use borrow.Author.Needs.{needs}
-use Rattle.flat.specs.Lists.{flatLineTest}
+use Rattle.capi_records.specs.Lists.{flatLineTest}
 use Rattle.capi.proofs.lists.jc_points_are_collinear.Statement.{statement}
 use Rattle.capi.proofs.lists.jc_points_are_collinear.Tie as tie
 

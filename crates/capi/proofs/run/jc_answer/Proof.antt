@@ -1,11 +1,11 @@
 -- `capi::run::jc_answer` meets its contract, by those of `run_of`, `finding_of`, `answer` and `answer_flat`. Assumes nothing.
 use mathlib.Core.Path.{ap, _∙_}
 use borrow.Author.Needs.{needs}
-use Rattle.score.specs.declared.Finding.{Finding}
-use Rattle.search.specs.declared.run.Run.{Run}
+use Rattle.score_outcome.specs.declared.Finding.{Finding}
+use Rattle.search_record.specs.declared.run.Run.{Run}
 use Rattle.search_answer.specs.Answer.{AnswerLeft, answerDef}
-use Rattle.flat.specs.Record.{runOf}
-use Rattle.flat.specs.Run.{flatAnswer}
+use Rattle.capi_records.specs.Record.{runOf}
+use Rattle.capi_records.specs.Run.{flatAnswer}
 use Rattle.capi.proofs.run.jc_answer.Statement.{statement}
 use Rattle.capi.proofs.run.jc_answer.Tie as tie
 

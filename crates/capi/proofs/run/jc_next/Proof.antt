@@ -1,9 +1,9 @@
 -- `capi::run::jc_next` meets its contract, by those of `run_of`, `next` and `next_flat`. Assumes nothing.
 use mathlib.Core.Path.{ap, _∙_}
 use borrow.Author.Needs.{needs}
-use Rattle.search.specs.declared.run.Run.{Run}
-use Rattle.search_next.specs.Next.{nextDef}
-use Rattle.flat.specs.Run.{flatNext}
+use Rattle.search_record.specs.declared.run.Run.{Run}
+use Rattle.search_calls.specs.Next.{nextDef}
+use Rattle.capi_records.specs.Run.{flatNext}
 use Rattle.capi.proofs.run.jc_next.Statement.{statement}
 use Rattle.capi.proofs.run.jc_next.Tie as tie
 

@@ -1,8 +1,8 @@
 -- `capi::run::jc_result` meets its contract, by those of `run_of`, `result` and `result_flat`. Assumes nothing.
 use mathlib.Core.Path.{ap, _∙_}
 use borrow.Author.Needs.{needs}
-use Rattle.search_result.specs.Result.{resultDef}
-use Rattle.flat.specs.Run.{flatResult}
+use Rattle.search_calls.specs.Result.{resultDef}
+use Rattle.capi_records.specs.Run.{flatResult}
 use Rattle.capi.proofs.run.jc_result.Statement.{statement}
 use Rattle.capi.proofs.run.jc_result.Tie as tie
 

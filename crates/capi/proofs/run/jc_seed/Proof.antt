@@ -3,9 +3,9 @@ use mathlib.Core.Path.{ap, _∙_}
 use mathlib.Core.List.{List}
 use lib.Ieee.{Float}
 use borrow.Author.Needs.{needs}
-use Rattle.search.specs.declared.run.Run.{Run}
-use Rattle.search_next.specs.Next.{seedPart}
-use Rattle.flat.specs.Run.{copied, copyCount}
+use Rattle.search_record.specs.declared.run.Run.{Run}
+use Rattle.search_calls.specs.Next.{seedPart}
+use Rattle.capi_records.specs.Run.{copied, copyCount}
 use Rattle.capi.proofs.run.jc_seed.Statement.{statement}
 use Rattle.capi.proofs.run.jc_seed.Tie as tie
 

@@ -1,7 +1,7 @@
 -- `capi::run::jc_start` meets its contract, by those of `start` and `start_flat`. Assumes nothing.
 use mathlib.Core.Path.{ap, _∙_}
 use borrow.Author.Needs.{needs}
-use Rattle.flat.specs.Run.{flatStarted}
+use Rattle.capi_records.specs.Run.{flatStarted}
 use Rattle.capi.proofs.run.jc_start.Statement.{statement}
 use Rattle.capi.proofs.run.jc_start.Tie as tie
 

@@ -1,6 +1,6 @@
 -- `capi::scoring::jc_mean_reproj_error` meets its contract, by that of `mean_of_rows`. Assumes nothing.
 use borrow.Author.Needs.{needs}
-use Rattle.reprojection.specs.Rows.{tiltMatrix}
+use Rattle.score_rows.specs.Rows.{tiltMatrix}
 use Rattle.capi.proofs.scoring.jc_mean_reproj_error.Statement.{statement}
 use Rattle.capi.proofs.scoring.jc_mean_reproj_error.Tie as tie
 

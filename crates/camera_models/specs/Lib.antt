@@ -1,0 +1,4 @@
+pub mod Constants
+pub mod Intrinsics
+pub mod Distortion
+pub mod NoDistortion

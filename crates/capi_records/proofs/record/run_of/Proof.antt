@@ -1,0 +1,24 @@
+-- `capi_records::record::run_of` meets its contract, by those of `place_of`, `waiting_of` and `best_of`. Assumes nothing.
+use borrow.Author.Needs.{needs}
+use Rattle.capi_records.proofs.record.run_of.Statement.{statement}
+use Rattle.capi_records.proofs.record.run_of.Tie as tie
+
+place-of-requires : tie.Need-place-of-requires
+place-of-requires c κs = search needs
+
+waiting-of-requires : tie.Need-waiting-of-requires
+waiting-of-requires c κs = search needs
+
+best-of-requires : tie.Need-best-of-requires
+best-of-requires c κs = search needs
+
+best-of-requires-2 : tie.Need-best-of-requires-2
+best-of-requires-2 c κs = search needs
+
+returns : tie.Need-returns
+returns c = rw (c .best-of2 .ensures, c .before .best-of .ensures, c .before .before .waiting-of .ensures, c .before .before .before .place-of .ensures)
+
+pub run-of-spec : {M : Type 1} → statement M
+run-of-spec =
+    tie.close
+    (tie.spec place-of-requires waiting-of-requires best-of-requires best-of-requires-2 returns)

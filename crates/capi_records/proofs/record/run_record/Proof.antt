@@ -1,0 +1,29 @@
+-- `capi_records::record::run_record` meets its contract, by those of `place_record`, `waiting_record` and `best_record`. Assumes nothing.
+use borrow.Author.Needs.{needs}
+use Rattle.capi_records.proofs.record.run_record.Statement.{statement}
+use Rattle.capi_records.proofs.record.run_record.Tie as tie
+
+place-record-requires : tie.Need-place-record-requires
+place-record-requires c κs = search needs
+
+waiting-record-requires : tie.Need-waiting-record-requires
+waiting-record-requires c κs = search needs
+
+best-record-requires : tie.Need-best-record-requires
+best-record-requires c κs = search needs
+
+best-record-requires-2 : tie.Need-best-record-requires-2
+best-record-requires-2 c κs = search needs
+
+returns : tie.Need-returns
+returns c = rw (c .best-record2 .ensures, c .before .best-record .ensures, c .before .before .waiting-record .ensures, c .before .before .before .place-record .ensures)
+
+pub run-record-spec : {M : Type 1} → statement M
+run-record-spec =
+    tie.close
+    (tie.spec
+    place-record-requires
+    waiting-record-requires
+    best-record-requires
+    best-record-requires-2
+    returns)

@@ -1,0 +1,70 @@
+-- The run's record with its flags as bytes, and the ways there and back: any byte but 0 reads as true, and true is written as 1. Definitions only.
+use Prim.Native.Nat.{ℕ}
+use mathlib.Core.Bool.{Bool, not, cond}
+use lib.Dec.{eqb}
+use Rattle.float.specs.Sign.{plusZero}
+use Rattle.score_best.specs.declared.Best.{Best}
+use Rattle.score_best.specs.Best.{noBest}
+use Rattle.search_record.specs.Record.{nobody}
+use Rattle.search_record.specs.declared.run.Place.{Place}
+use Rattle.search_record.specs.declared.run.Waiting.{Waiting}
+use Rattle.search_record.specs.declared.run.Run.{Run}
+use Rattle.capi_records.specs.declared.record.PlaceRecord.{PlaceRecord}
+use Rattle.capi_records.specs.declared.record.WaitingRecord.{WaitingRecord}
+use Rattle.capi_records.specs.declared.record.BestRecord.{BestRecord}
+use Rattle.capi_records.specs.declared.record.RunRecord.{RunRecord}
+
+abbrev pub flagOf : Bool → ℕ
+flagOf b = cond b 1 0
+
+abbrev pub isSet : ℕ → Bool
+isSet n = not (eqb n 0)
+
+abbrev pub placeOf : PlaceRecord → Place
+placeOf p = record { demand = p .demand; round = p .round; step = p .step; len = p .len; at = p .at; number = p .number; over = isSet (p .over) }
+
+abbrev pub flatPlace : Place → PlaceRecord
+flatPlace p = record { demand = p .demand; round = p .round; step = p .step; len = p .len; at = p .at; number = p .number; over = flagOf (p .over) }
+
+abbrev pub waitingOf : WaitingRecord → Waiting
+waitingOf w = record { «is_waiting» = isSet (w .«is_waiting»); seed = w .seed }
+
+abbrev pub flatWaiting : Waiting → WaitingRecord
+flatWaiting w = record { «is_waiting» = flagOf (w .«is_waiting»); seed = w .seed }
+
+abbrev pub bestOf : BestRecord → Best
+bestOf b = record { found = isSet (b .found); candidate = b .candidate }
+
+abbrev pub flatBest : Best → BestRecord
+flatBest b = record { found = flagOf (b .found); candidate = b .candidate }
+
+abbrev pub runOf : RunRecord → Run
+runOf r = record {
+  options = r .options;
+  center = r .center;
+  place = placeOf (r .place);
+  waiting = waitingOf (r .waiting);
+  «round_best» = bestOf (r .«round_best»);
+  «run_best» = bestOf (r .«run_best»);
+}
+
+abbrev pub flatRun : Run → RunRecord
+flatRun r = record {
+  options = r .options;
+  center = r .center;
+  place = flatPlace (r .place);
+  waiting = flatWaiting (r .waiting);
+  «round_best» = flatBest (r .«round_best»);
+  «run_best» = flatBest (r .«run_best»);
+}
+
+-- all zeros
+abbrev pub noRun : RunRecord
+noRun = record {
+  options = record { «refine_rounds» = 0; «refine_step» = plusZero; «max_abs_tilt» = plusZero };
+  center = record { x = plusZero; y = plusZero };
+  place = record { demand = 0; round = 0; step = plusZero; len = 0; at = 0; number = 0; over = 0 };
+  waiting = flatWaiting nobody;
+  «round_best» = flatBest noBest;
+  «run_best» = flatBest noBest;
+}

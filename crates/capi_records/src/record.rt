@@ -1,0 +1,174 @@
+// The run's record with its flags as bytes, and the ways there and back.
+ghost use mathlib.Core.Path.{_≡_};
+ghost use Rattle.capi_records.specs.Record.{flagOf, placeOf, flatPlace, waitingOf, flatWaiting, bestOf, flatBest, runOf, flatRun, noRun};
+use camera_models::math::Pt2;
+use score_best::Best;
+use score_best::Candidate;
+use search_record::run::Options;
+use search_record::run::Place;
+use search_record::run::Run;
+use search_record::run::Waiting;
+use seed_rules::CandidateSeed;
+
+#[repr(C)]
+pub struct PlaceRecord {
+    pub demand: usize,
+    pub round: usize,
+    pub step: f64,
+    pub len: usize,
+    pub at: usize,
+    pub number: usize,
+    pub over: u8,
+}
+
+#[repr(C)]
+pub struct WaitingRecord {
+    pub is_waiting: u8,
+    pub seed: CandidateSeed,
+}
+
+#[repr(C)]
+pub struct BestRecord {
+    pub found: u8,
+    pub candidate: Candidate,
+}
+
+#[repr(C)]
+pub struct RunRecord {
+    pub options: Options,
+    pub center: Pt2,
+    pub place: PlaceRecord,
+    pub waiting: WaitingRecord,
+    pub round_best: BestRecord,
+    pub run_best: BestRecord,
+}
+
+pub fn flag(b: bool) -> u8
+    ensures { λ r. ⌜ r ≡ flagOf b ⌝ }
+{
+    if b { 1 } else { 0 }
+}
+
+fn place_of(p: PlaceRecord) -> Place
+    ensures { λ r. ⌜ r ≡ placeOf p ⌝ }
+{
+    Place {
+        demand: p.demand,
+        round: p.round,
+        step: p.step,
+        len: p.len,
+        at: p.at,
+        number: p.number,
+        over: p.over != 0,
+    }
+}
+
+fn place_record(p: Place) -> PlaceRecord
+    ensures { λ r. ⌜ r ≡ flatPlace p ⌝ }
+{
+    PlaceRecord {
+        demand: p.demand,
+        round: p.round,
+        step: p.step,
+        len: p.len,
+        at: p.at,
+        number: p.number,
+        over: flag(p.over),
+    }
+}
+
+fn waiting_of(w: WaitingRecord) -> Waiting
+    ensures { λ r. ⌜ r ≡ waitingOf w ⌝ }
+{
+    let seed = w.seed;
+    Waiting {
+        is_waiting: w.is_waiting != 0,
+        seed,
+    }
+}
+
+fn waiting_record(w: Waiting) -> WaitingRecord
+    ensures { λ r. ⌜ r ≡ flatWaiting w ⌝ }
+{
+    let seed = w.seed;
+    WaitingRecord {
+        is_waiting: flag(w.is_waiting),
+        seed,
+    }
+}
+
+fn best_of(b: BestRecord) -> Best
+    ensures { λ r. ⌜ r ≡ bestOf b ⌝ }
+{
+    let candidate = b.candidate;
+    Best {
+        found: b.found != 0,
+        candidate,
+    }
+}
+
+fn best_record(b: Best) -> BestRecord
+    ensures { λ r. ⌜ r ≡ flatBest b ⌝ }
+{
+    let candidate = b.candidate;
+    BestRecord {
+        found: flag(b.found),
+        candidate,
+    }
+}
+
+pub fn run_of(r: RunRecord) -> Run
+    ensures { λ s. ⌜ s ≡ runOf r ⌝ }
+{
+    let options = r.options;
+    let center = r.center;
+    Run {
+        options,
+        center,
+        place: place_of(r.place),
+        waiting: waiting_of(r.waiting),
+        round_best: best_of(r.round_best),
+        run_best: best_of(r.run_best),
+    }
+}
+
+pub fn run_record(r: Run) -> RunRecord
+    ensures { λ s. ⌜ s ≡ flatRun r ⌝ }
+{
+    let options = r.options;
+    let center = r.center;
+    RunRecord {
+        options,
+        center,
+        place: place_record(r.place),
+        waiting: waiting_record(r.waiting),
+        round_best: best_record(r.round_best),
+        run_best: best_record(r.run_best),
+    }
+}
+
+// A record of zeros, which every call answers as a run that ended with nothing scored.
+pub fn no_run() -> RunRecord
+    ensures { λ s. ⌜ s ≡ noRun ⌝ }
+{
+    RunRecord {
+        options: Options {
+            refine_rounds: 0,
+            refine_step: 0.0,
+            max_abs_tilt: 0.0,
+        },
+        center: Pt2 { x: 0.0, y: 0.0 },
+        place: PlaceRecord {
+            demand: 0,
+            round: 0,
+            step: 0.0,
+            len: 0,
+            at: 0,
+            number: 0,
+            over: 0,
+        },
+        waiting: waiting_record(search_record::run::nobody()),
+        round_best: best_record(score_best::no_best()),
+        run_best: best_record(score_best::no_best()),
+    }
+}

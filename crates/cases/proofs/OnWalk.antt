@@ -1,0 +1,35 @@
+-- The worked runs on the walk, from Start on, computed. Assumes nothing.
+use mathlib.Core.Path.{_≡_, refl}
+use lib.Ieee.{add, sub, mul, div, neg, lt, le, eq, isNan, ofBits, ofInt, sum, round, units, odd, size, span, climb}
+use Rattle.common.specs.All.{every}
+use Rattle.float.specs.Float.{absOf, isFinite, minOf, maxOf, clampOf}
+use Rattle.root.specs.Root.{rootIn, isqrt, rootOf, root}
+use Rattle.camera_tilt.specs.Matrix.{productOf, firstOther, secondOther, minorOf, cofactorOf, determinantOf, inverseOf}
+use Rattle.camera_tilt.specs.Sensor.{tiltProjectionMatrix, tiltVerdict, forwardDepth, inverseDepth, applyHomography, applyHomographyInverse}
+use Rattle.camera_models.specs.Distortion.{radialFactor, tangentialX, tangentialY, distorted, jacobianRadial, radialDerivative, jacobianAt}
+use Rattle.seed_rules.specs.Merge.{keep, hasNear, firstNear, push, mergedInto}
+use Rattle.seed_rules.specs.Rules.{closer, tiltNear, cameraNear, near, within, inBound, pairs, seedGrid, initialList, offsets, nextList}
+use Rattle.seed_rules.specs.Layout.{laid, readFrom}
+use Rattle.score_camera.specs.Camera.{damped, finiteIntrinsics, finiteDistortion, validCamera}
+use Rattle.score_camera.specs.Penalties.{distortionPenalty, tiltPenalty, centrePenalty, scoreOf}
+use Rattle.score_rows.specs.Rows.{rowsOf, tiltMatrix, projected, distanceOf, rowError, isCounted, countedErrors, summed, errorSum, meanOf}
+use Rattle.score_outcome.specs.Evaluation.{anyAboveOne, solvedRefusal, findingRefusal, meanWith, scoringOf, evaluated, outcomeOf}
+use Rattle.score_best.specs.Best.{beats, unbeaten, firstUnbeaten, bestOf, noBest, isBetter, improved}
+use Rattle.search_record.specs.Record.{hasPlace, sound, awaiting, withOutcome, entered, nextStep, opened, ended}
+use Rattle.search_start.specs.Start.{goodSeed, tooMany, demandOf, openingOf, startReply, startList}
+use Rattle.search_calls.specs.Next.{nextDef, seedLent, seedPart}
+use Rattle.search_answer.specs.Answer.{nextSeeds, closeRound, enterDef, answerDef}
+use Rattle.search_calls.specs.Result.{resultDef}
+use Rattle.book.specs.Walk.{runCall, walk}
+use Rattle.cases.specs.Words.{walkFrom}
+use Rattle.cases.specs.Whole.{wholeInputs, wholeCalls, wholeReplies}
+use Rattle.cases.specs.Ended.{emptyInputs, emptyCalls, emptyReplies, failedInputs, failedCalls, failedReplies}
+
+pub record OnWalk : Type 0 where
+  pub empty : walkFrom emptyInputs emptyCalls ≡ emptyReplies
+  pub failed : walkFrom failedInputs failedCalls ≡ failedReplies
+  pub whole : walkFrom wholeInputs wholeCalls ≡ wholeReplies
+
+pub on-walk : OnWalk
+unfolding every absOf isFinite minOf maxOf clampOf rootIn isqrt rootOf root productOf firstOther secondOther minorOf cofactorOf determinantOf inverseOf tiltProjectionMatrix tiltVerdict forwardDepth inverseDepth applyHomography applyHomographyInverse radialFactor tangentialX tangentialY distorted jacobianRadial radialDerivative jacobianAt keep hasNear firstNear push mergedInto closer tiltNear cameraNear near within inBound pairs seedGrid initialList offsets nextList laid readFrom damped finiteIntrinsics finiteDistortion validCamera distortionPenalty tiltPenalty centrePenalty scoreOf rowsOf tiltMatrix projected distanceOf rowError isCounted countedErrors summed errorSum meanOf anyAboveOne solvedRefusal findingRefusal meanWith scoringOf evaluated outcomeOf beats unbeaten firstUnbeaten bestOf noBest isBetter improved hasPlace sound awaiting withOutcome entered nextStep opened ended goodSeed tooMany demandOf openingOf startReply startList nextDef seedLent seedPart nextSeeds closeRound enterDef answerDef resultDef runCall walk add sub mul div neg lt le eq isNan ofBits ofInt sum round units odd size span climb
+on-walk = record { empty = refl; failed = refl; whole = refl }

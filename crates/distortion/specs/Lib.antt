@@ -1,2 +1,0 @@
-pub mod Distortion
-pub mod NoDistortion

@@ -1,3 +1,0 @@
-pub mod Maps
-pub mod Written
-pub mod Accepted

@@ -1,0 +1,107 @@
+// Words of 16 hexadecimal digits, and the floats that they stand for.
+ghost use mathlib.Core.Path.{_≡_};
+ghost use Prim.Native.Nat.{_≤_};
+ghost use lib.Ieee.{ofBits, toBits, nanBits, binary64};
+ghost use Rattle.oracle_files.specs.Words.{digitOf, wordOf, alike, allAlike};
+
+pub enum Word {
+    Bits(u64),
+    // No 16 digits stand there.
+    Malformed,
+}
+
+pub fn wide(x: u8) -> u64
+    ensures { λ r. ⌜ r ≡ x ⌝ }
+{
+    x as u64
+}
+
+// The value of a lower-case hexadecimal digit, and 16 for any other byte.
+pub fn digit(byte: u8) -> u64
+    ensures { λ r. ⌜ (r ≡ digitOf byte) × (r ≤ 16) ⌝ }
+{
+    if byte < b'0' {
+        return 16;
+    }
+    if byte <= b'9' {
+        return wide(byte - b'0');
+    }
+    if byte < b'a' {
+        return 16;
+    }
+    if byte <= b'f' {
+        return wide(byte - b'a' + 10);
+    }
+    16
+}
+
+// The word that the text begins with.
+pub fn read_word(text: &[u8]) -> Word
+    ensures { λ r. ⌜ r ≡ wordOf (now (text .entry)) ⌝ }
+{
+    let mut value: u64 = 0;
+    let mut i = 0;
+    while i < 16 {
+        if text.len() <= i {
+            return Word::Malformed;
+        }
+        let d = digit(text[i]);
+        if d == 16 {
+            return Word::Malformed;
+        }
+        value = value * 16 + d;
+        i += 1;
+    }
+    Word::Bits(value)
+}
+
+// Whether the bits are a NaN's.
+fn is_nan_word(bits: u64) -> bool
+    ensures { λ r. ⌜ r ≡ nanBits binary64 bits ⌝ }
+{
+    0x7ff0_0000_0000_0000 < bits % 0x8000_0000_0000_0000
+}
+
+// The float of a word. The machine's conversion is undefined at a NaN's bits, so a NaN is made here.
+pub fn float(bits: u64) -> f64
+    ensures { λ r. ⌜ r ≡ ofBits binary64 bits ⌝ }
+{
+    if is_nan_word(bits) {
+        return 0.0 / 0.0;
+    }
+    f64::from_bits(bits)
+}
+
+// The word of a float; of a NaN, the one that the stored files have.
+pub fn bits(x: f64) -> u64
+    ensures { λ r. ⌜ r ≡ toBits binary64 x ⌝ }
+{
+    if x != x {
+        return 0x7ff8_0000_0000_0000;
+    }
+    f64::to_bits(x)
+}
+
+// Whether two numbers have the same bits; a NaN has one word here.
+pub fn is_same(x: f64, y: f64) -> bool
+    ensures { λ r. ⌜ r ≡ alike x y ⌝ }
+{
+    bits(x) == bits(y)
+}
+
+// Whether the two have as many numbers, each the same.
+pub fn same_numbers(a: &[f64], b: &[f64]) -> bool
+    ensures { λ r. ⌜ r ≡ allAlike (now (a .entry)) (now (b .entry)) ⌝ }
+{
+    if a.len() != b.len() {
+        return false;
+    }
+    let mut i = 0;
+    while i < a.len() {
+        if !is_same(a[i], b[i]) {
+            return false;
+        }
+        i += 1;
+    }
+    true
+}

@@ -1,0 +1,10 @@
+// The operations that begin no search, from a case's input to the crates that answer them.
+pub mod leaves;
+pub mod listed_seeds;
+pub mod lists;
+mod number_leaves;
+mod other_leaves;
+mod point_leaves;
+pub mod rows;
+pub mod start;
+pub mod structs;

@@ -1,0 +1,4 @@
+pub mod Maps
+pub mod Written
+pub mod Accepted
+pub mod Centre

@@ -1,0 +1,4 @@
+mod Rounds
+mod Steps
+mod Patterns
+mod Exponents

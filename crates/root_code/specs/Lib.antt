@@ -1,0 +1,3 @@
+pub mod NearestRoot
+pub mod Exponent
+pub mod Operand

@@ -1,0 +1,68 @@
+-- The best of the scored candidates, said of a whole list, and what a run keeps instead, one candidate at a time. Definitions only.
+use Prim.Native.Nat.{ℕ}
+use mathlib.Core.Bool.{Bool, true, false, not, _&&_, _||_, cond}
+use mathlib.Core.List.{List, [], _∷_}
+use lib.Ieee.{Float, binary64, ofBits, lt}
+use Rattle.camera_tilt.specs.declared.sensor.ScheimpflugParams.{ScheimpflugParams}
+use Rattle.score_outcome.specs.declared.Scoring.{Scoring}
+use Rattle.score_best.specs.declared.Candidate.{Candidate}
+use Rattle.score_best.specs.declared.Best.{Best}
+
+-- a candidate's score is lower than another's, as IEEE 754 compares: never where one is NaN
+unfoldable pub beats : Candidate → Candidate → Bool
+beats v w = lt (v .score) (w .score)
+
+-- ---- of a whole list
+-- what is chosen of a list: nothing, or one of its candidates
+pub data Chosen : Type 0 where
+  nothing : Chosen
+  chosen : Candidate → Chosen
+
+-- no candidate of the list beats w
+unfoldable pub unbeaten : Candidate → List Candidate → Bool
+unbeaten w [] = true
+unbeaten w (v ∷ vs) = not (beats v w) && unbeaten w vs
+
+-- the first of the second list that no candidate of the first beats
+unfoldable pub firstUnbeaten : List Candidate → List Candidate → Chosen
+firstUnbeaten all [] = nothing
+firstUnbeaten all (w ∷ ws) = cond (unbeaten w all) (chosen w) (firstUnbeaten all ws)
+
+-- The best of a round or of a run: of its scored candidates the earliest with the lowest score.
+unfoldable pub bestOf : List Candidate → Chosen
+bestOf ws = firstUnbeaten ws ws
+
+-- ---- as a run keeps it
+abbrev zero64 : Float
+zero64 = ofBits binary64 0
+
+unfoldable pub noBest : Best
+noBest = record {
+  found = false;
+  candidate = record {
+    number = 0;
+    camera = record { k = record { fx = zero64; fy = zero64; cx = zero64; cy = zero64 }; dist = record { k1 = zero64; k2 = zero64; k3 = zero64; p1 = zero64; p2 = zero64 } };
+    sensor = record { «tilt_x» = zero64; «tilt_y» = zero64 };
+    «mean_reproj_error» = zero64;
+    score = zero64;
+  };
+}
+
+abbrev pub found : Candidate → Best
+found w = record { found = true; candidate = w }
+
+-- what is chosen, as a record
+abbrev pub held : Chosen → Best
+held nothing = noBest
+held (chosen w) = found w
+
+-- The first candidate is taken; after it a lower score replaces, and an equal one doesn't.
+unfoldable pub isBetter : Candidate → Best → Bool
+isBetter v b = not (b .found) || beats v (b .candidate)
+
+unfoldable pub improved : Best → Candidate → Best
+improved b v = cond (isBetter v b) (found v) b
+
+-- ---- a scored candidate: its number, its seed's tilts, and what its finding was worth
+abbrev pub candidateOf : ℕ → ScheimpflugParams → Scoring → Candidate
+candidateOf n t s = record { number = n; camera = s .camera; sensor = t; «mean_reproj_error» = s .mean; score = s .score }

@@ -1,0 +1,77 @@
+// The best of the scored candidates: the earliest with the lowest score. A run keeps it as it goes, replacing it by each better one.
+
+ghost use mathlib.Core.Path.{_≡_};
+ghost use Rattle.score_best.specs.Best.{isBetter, improved, noBest};
+use camera_models::distortion::BrownConrady5;
+use camera_models::intrinsics::FxFyCxCy;
+use camera_tilt::sensor::ScheimpflugParams;
+use score_camera::pinhole::PinholeCamera;
+
+// A scored candidate: its number, counted from 0 over the run, its solved camera, its seed's tilts, its mean error and its score.
+#[repr(C)]
+pub struct Candidate {
+    pub number: usize,
+    pub camera: PinholeCamera,
+    pub sensor: ScheimpflugParams,
+    pub mean_reproj_error: f64,
+    pub score: f64,
+}
+
+// The best so far, if there is one. Where there is none, the candidate's numbers are 0.
+pub struct Best {
+    pub found: bool,
+    pub candidate: Candidate,
+}
+
+// No candidate yet.
+pub fn no_best() -> Best
+    ensures { λ r. ⌜ r ≡ noBest ⌝ }
+{
+    Best {
+        found: false,
+        candidate: Candidate {
+            number: 0,
+            camera: PinholeCamera {
+                k: FxFyCxCy {
+                    fx: 0.0,
+                    fy: 0.0,
+                    cx: 0.0,
+                    cy: 0.0,
+                },
+                dist: BrownConrady5 {
+                    k1: 0.0,
+                    k2: 0.0,
+                    k3: 0.0,
+                    p1: 0.0,
+                    p2: 0.0,
+                },
+            },
+            sensor: ScheimpflugParams {
+                tilt_x: 0.0,
+                tilt_y: 0.0,
+            },
+            mean_reproj_error: 0.0,
+            score: 0.0,
+        },
+    }
+}
+
+// Whether a candidate replaces the best: there is none yet, or its score is lower. A NaN is lower than nothing, and nothing is lower than it.
+pub fn is_better(candidate: Candidate, current: Best) -> bool
+    ensures { λ r. ⌜ r ≡ isBetter candidate current ⌝ }
+{
+    !current.found | (candidate.score < current.candidate.score)
+}
+
+// The best after one more candidate.
+pub fn improved(current: Best, candidate: Candidate) -> Best
+    ensures { λ r. ⌜ r ≡ Rattle.score_best.specs.Best.improved current candidate ⌝ }
+{
+    if is_better(candidate, current) {
+        return Best {
+            found: true,
+            candidate,
+        };
+    }
+    current
+}

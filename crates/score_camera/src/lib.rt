@@ -1,0 +1,3 @@
+// The camera that a candidate is scored with, and the penalties of its score.
+pub mod penalties;
+pub mod pinhole;

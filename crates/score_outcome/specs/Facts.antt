@@ -1,0 +1,119 @@
+-- What holds of every scored finding, and which reasons a skipped one has. Assumes nothing.
+use Prim.Native.Nat.{ℕ, _≤_}
+use mathlib.Core.Path.{_≡_, refl, sym, subst, _∙_}
+use mathlib.Core.Bool.{Bool, true, false, _&&_, true≢false}
+use mathlib.Core.List.{List}
+use native.Mathlib.Omega.{arith}
+use lib.Ieee.{Float, isNan, lt, le, ofBits}
+use Rattle.common.specs.Tests.{case, both-true}
+use Rattle.float.specs.Float.{absOf, isFinite}
+use Rattle.float.specs.Finite.{finite-number}
+use Rattle.float.specs.Sign.{plusZero, signBit, unsigned-not-below, clamp-magnitude}
+use Rattle.camera_models.specs.declared.math.Pt2.{Pt2}
+use Rattle.camera_tilt.specs.declared.sensor.ScheimpflugParams.{ScheimpflugParams}
+use Rattle.score_camera.specs.Camera.{tangentialBound, damped, dampedCamera, finiteIntrinsics, finiteDistortion, validCamera}
+use Rattle.score_camera.specs.Penalties.{scoreOf}
+use Rattle.score_outcome.specs.Evaluation.{meanWith, scoringOf, evaluated, outcomeOf}
+use Rattle.score_outcome.specs.Outcomes.{invalid-skips, infinite-skips, finite-scores}
+use Rattle.score_outcome.specs.Mean.{mean-unsigned}
+use Rattle.score_outcome.specs.declared.SolvedCamera.{SolvedCamera}
+use Rattle.score_outcome.specs.declared.Scoring.{Scoring}
+use Rattle.score_outcome.specs.declared.Finding.{Finding}
+use Rattle.score_outcome.specs.declared.Finding.the-variants.{Failed, Solved}
+use Rattle.score_outcome.specs.declared.Outcome.the-variants.{Skipped, Scored}
+
+-- A focal length is finite and above 0, a radial coefficient is +0, a tangential one finite and at most 0.05 in size, the mean finite and not below 0,
+-- and the score is that of mean, camera, the seed's tilts and the observed centre.
+pub record ScoredFacts (sensor : ScheimpflugParams) (center : Pt2) (g : Scoring) : Type 0 where
+  pub fx-finite : isFinite (g .camera .k .fx) ≡ true
+  pub fy-finite : isFinite (g .camera .k .fy) ≡ true
+  pub fx-above : lt plusZero (g .camera .k .fx) ≡ true
+  pub fy-above : lt plusZero (g .camera .k .fy) ≡ true
+  pub k1-zero : g .camera .dist .k1 ≡ plusZero
+  pub k2-zero : g .camera .dist .k2 ≡ plusZero
+  pub k3-zero : g .camera .dist .k3 ≡ plusZero
+  pub p1-finite : isFinite (g .camera .dist .p1) ≡ true
+  pub p2-finite : isFinite (g .camera .dist .p2) ≡ true
+  pub p1-within : le (absOf (g .camera .dist .p1)) tangentialBound ≡ true
+  pub p2-within : le (absOf (g .camera .dist .p2)) tangentialBound ≡ true
+  pub mean-finite : isFinite (g .mean) ≡ true
+  pub mean-not-below : lt (g .mean) plusZero ≡ false
+  pub score-is : g .score ≡ scoreOf (g .mean) (g .camera) sensor center
+
+-- ---- what the camera check says
+scoring-facts : (s : SolvedCamera) (sensor : ScheimpflugParams) (center : Pt2) (rows : List Float) (flags : List ℕ)
+    → validCamera (dampedCamera (s .camera)) ≡ true → isFinite (meanWith s rows flags) ≡ true → ScoredFacts sensor center (scoringOf s sensor center rows flags)
+unfolding scoringOf damped validCamera finiteIntrinsics finiteDistortion signBit ofBits isNan
+scoring-facts s sensor center rows flags v f =
+    let k = s .camera .k in
+    let d = damped (s .camera .dist) in
+    let y = both-true (finiteIntrinsics k && finiteDistortion d && lt plusZero (k .fx)) (lt plusZero (k .fy)) v in
+    let x = both-true (finiteIntrinsics k && finiteDistortion d) (lt plusZero (k .fx)) (y .0) in
+    let numbers = both-true (finiteIntrinsics k) (finiteDistortion d) (x .0) in
+    let cy = both-true (isFinite (k .fx) && isFinite (k .fy) && isFinite (k .cx)) (isFinite (k .cy)) (numbers .0) in
+    let cx = both-true (isFinite (k .fx) && isFinite (k .fy)) (isFinite (k .cx)) (cy .0) in
+    let focal = both-true (isFinite (k .fx)) (isFinite (k .fy)) (cx .0) in
+    let p2 = both-true (isFinite (d .k1) && isFinite (d .k2) && isFinite (d .k3) && isFinite (d .p1)) (isFinite (d .p2)) (numbers .1) in
+    let p1 = both-true (isFinite (d .k1) && isFinite (d .k2) && isFinite (d .k3)) (isFinite (d .p1)) (p2 .0) in
+    record {
+      fx-finite = focal .0;
+      fy-finite = focal .1;
+      fx-above = x .1;
+      fy-above = y .1;
+      k1-zero = refl;
+      k2-zero = refl;
+      k3-zero = refl;
+      p1-finite = p1 .1;
+      p2-finite = p2 .1;
+      p1-within = clamp-magnitude (s .camera .dist .p1) tangentialBound refl refl (finite-number (d .p1) (p1 .1));
+      p2-within = clamp-magnitude (s .camera .dist .p2) tangentialBound refl refl (finite-number (d .p2) (p2 .1));
+      mean-finite = f;
+      mean-not-below = unsigned-not-below (meanWith s rows flags) (mean-unsigned s rows flags);
+      score-is = refl;
+    }
+
+-- ---- the outcome, taken apart
+never : (n : ℕ) (g : Scoring) → Skipped n ≡ Scored g → ⊥
+never n g h = let z : _≡_ {A = ℕ} 0 1 = cc in omega arith
+
+scored-same : (g k : Scoring) → Scored g ≡ Scored k → g ≡ k
+scored-same g k h = cc
+
+skipped-same : (n m : ℕ) → Skipped n ≡ Skipped m → n ≡ m
+skipped-same n m h = cc
+
+pub scored-facts : (f : Finding) (sensor : ScheimpflugParams) (center : Pt2) (rows : List Float) (flags : List ℕ) (g : Scoring)
+    → outcomeOf f sensor center rows flags ≡ Scored g → ScoredFacts sensor center g
+unfolding outcomeOf
+scored-facts Failed sensor center rows flags g h = absurd (never 1 g h)
+scored-facts (Solved s) sensor center rows flags g h =
+    case (validCamera (dampedCamera (s .camera)))
+    (λ v.
+    case (isFinite (meanWith s rows flags))
+    (λ m. subst (λ (x : Scoring). ScoredFacts sensor center x) (scored-same _ g (sym (finite-scores s sensor center rows flags v m) ∙ h)) (scoring-facts s sensor center rows flags v m))
+    (λ m. absurd (never 3 g (sym (infinite-skips s sensor center rows flags v m) ∙ h))))
+    (λ v. absurd (never 2 g (sym (invalid-skips s sensor center rows flags v) ∙ h)))
+
+solved-reason : (s : SolvedCamera) (sensor : ScheimpflugParams) (center : Pt2) (rows : List Float) (flags : List ℕ) (n : ℕ)
+    → evaluated s sensor center rows flags ≡ Skipped n → (2 ≤ n) × (n ≤ 3)
+solved-reason s sensor center rows flags n h =
+    case (validCamera (dampedCamera (s .camera)))
+    (λ v.
+    case (isFinite (meanWith s rows flags))
+    (λ m. absurd (never n (scoringOf s sensor center rows flags) (sym h ∙ finite-scores s sensor center rows flags v m)))
+    (λ m. let e = skipped-same 3 n (sym (infinite-skips s sensor center rows flags v m) ∙ h) in (omega arith, omega arith)))
+    (λ v. let e = skipped-same 2 n (sym (invalid-skips s sensor center rows flags v) ∙ h) in (omega arith, omega arith))
+
+-- Reason 1, 2 or 3.
+pub skipped-reason : (f : Finding) (sensor : ScheimpflugParams) (center : Pt2) (rows : List Float) (flags : List ℕ) (n : ℕ)
+    → outcomeOf f sensor center rows flags ≡ Skipped n → (1 ≤ n) × (n ≤ 3)
+unfolding outcomeOf
+skipped-reason Failed sensor center rows flags n h = let e = skipped-same 1 n h in (omega arith, omega arith)
+skipped-reason (Solved s) sensor center rows flags n h = let e = solved-reason s sensor center rows flags n h in (omega arith, omega arith)
+
+-- Reason 1 for Failed alone.
+pub skipped-failed : (f : Finding) (sensor : ScheimpflugParams) (center : Pt2) (rows : List Float) (flags : List ℕ)
+    → outcomeOf f sensor center rows flags ≡ Skipped 1 → f ≡ Failed
+unfolding outcomeOf
+skipped-failed Failed sensor center rows flags h = refl
+skipped-failed (Solved s) sensor center rows flags h = let e = solved-reason s sensor center rows flags 1 h in absurd (omega arith)

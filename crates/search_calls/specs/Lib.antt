@@ -1,0 +1,3 @@
+pub mod Next
+pub mod NextLaws
+pub mod Result

@@ -1,0 +1,35 @@
+-- `search_record::run::entered` meets its contract. Assumes nothing.
+use borrow.Author.Needs.{needs}
+use Rattle.search_record.specs.Record.{entered}
+use Rattle.search_record.proofs.run.entered.Statement.{statement}
+use Rattle.search_record.proofs.run.entered.Tie as tie
+
+with-outcome-requires : tie.Need-with-outcome-requires
+with-outcome-requires c κs = search needs
+
+with-outcome-requires-2 : tie.Need-with-outcome-requires-2
+with-outcome-requires-2 c κs = search needs
+
+nobody-requires : tie.Need-nobody-requires
+nobody-requires c κs = search needs
+
+add-at : tie.Need-add-at
+add-at c = search needs
+
+add-number : tie.Need-add-number
+add-number c = search needs
+
+returns : tie.Need-returns
+unfolding entered
+returns c = rw (c .before .before .before .before .nobody .ensures, c .before .before .before .before .before .with-outcome2 .ensures, c .before .before .before .before .before .before .with-outcome .ensures)
+
+pub entered-spec : {M : Type 1} → statement M
+entered-spec =
+    tie.close
+    (tie.spec
+    with-outcome-requires
+    with-outcome-requires-2
+    nobody-requires
+    add-at
+    add-number
+    returns)

@@ -1,0 +1,100 @@
+-- The run's record as the calls change it, for every record, sound or not. Definitions only.
+use Prim.Native.Nat.{ℕ, _+_, _*_}
+use mathlib.Core.Bool.{Bool, true, false, not, _&&_, cond}
+use lib.Dec.{leb, ltb, eqb}
+use lib.Ieee.{Float, binary64, ofBits}
+use Rattle.float.specs.Binary64.{_*₆₄_}
+use Rattle.float.specs.Sign.{plusZero}
+use Rattle.camera_tilt.specs.declared.sensor.ScheimpflugParams.{ScheimpflugParams}
+use Rattle.seed_rules.specs.declared.CandidateSeed.{CandidateSeed}
+use Rattle.score_outcome.specs.declared.Outcome.{Outcome}
+use Rattle.score_outcome.specs.declared.Outcome.the-variants.{Skipped, Scored}
+use Rattle.score_best.specs.declared.Best.{Best}
+use Rattle.score_best.specs.Best.{improved, noBest, candidateOf}
+use Rattle.search_record.specs.declared.run.Place.{Place}
+use Rattle.search_record.specs.declared.run.Waiting.{Waiting}
+use Rattle.search_record.specs.declared.run.Run.{Run}
+
+-- ---- a record that Start or a call can have made: all that the calls' sums and indexes need.
+-- Any other is answered as a run that ended with nothing scored.
+unfoldable pub hasPlace : Place → Waiting → Bool
+hasPlace p w = cond (p .over) (not (w .«is_waiting»)) (ltb (p .at) (p .len))
+
+unfoldable pub sound : Run → Bool
+sound r =
+    let p = r .place in
+    leb (p .len) 512
+    && (leb (r .options .«refine_rounds») 16
+    && leb (p .round) (r .options .«refine_rounds»)
+    && leb (p .number) 656
+    && leb (6 * p .len) (p .demand)
+    && leb 54 (p .demand)
+    && leb (p .demand) 3072
+    && hasPlace p (r .waiting))
+
+-- ---- the seed that waits
+abbrev pub noSeed : CandidateSeed
+noSeed = record {
+  «reference_k» = record { fx = plusZero; fy = plusZero; cx = plusZero; cy = plusZero };
+  sensor = record { «tilt_x» = plusZero; «tilt_y» = plusZero };
+}
+
+abbrev pub nobody : Waiting
+nobody = record { «is_waiting» = false; seed = noSeed }
+
+unfoldable pub awaiting : Run → CandidateSeed → Run
+awaiting r s = record {
+  options = r .options;
+  center = r .center;
+  place = r .place;
+  waiting = record { «is_waiting» = true; seed = s };
+  «round_best» = r .«round_best»;
+  «run_best» = r .«run_best»;
+}
+
+-- ---- the waiting seed's outcome is entered: nothing waits, the place moves on, and a scored candidate may become the best
+unfoldable pub withOutcome : Best → ℕ → ScheimpflugParams → Outcome → Best
+withOutcome b n t (Skipped reason) = b
+withOutcome b n t (Scored s) = improved b (candidateOf n t s)
+
+unfoldable pub entered : Run → Outcome → Run
+entered r o =
+    let p = r .place in
+    let t = r .waiting .seed .sensor in
+    record {
+      options = r .options;
+      center = r .center;
+      place = record { demand = p .demand; round = p .round; step = p .step; len = p .len; at = p .at + 1; number = p .number + 1; over = p .over };
+      waiting = nobody;
+      «round_best» = withOutcome (r .«round_best») (p .number) t o;
+      «run_best» = withOutcome (r .«run_best») (p .number) t o;
+    }
+
+-- ---- the next round opens with n seeds, made with the step s; or the run ends
+-- refine_step for round 1's list, and then half of the last one
+unfoldable pub nextStep : Run → Float
+nextStep r = cond (eqb (r .place .round) 0) (r .options .«refine_step») (r .place .step *₆₄ ofBits binary64 0x3fe0_0000_0000_0000)
+
+unfoldable pub opened : Run → ℕ → Run
+opened r n =
+    let p = r .place in
+    record {
+      options = r .options;
+      center = r .center;
+      place = record { demand = p .demand; round = p .round + 1; step = nextStep r; len = n; at = 0; number = p .number; over = p .over };
+      waiting = r .waiting;
+      «round_best» = noBest;
+      «run_best» = r .«run_best»;
+    }
+
+unfoldable pub ended : Run → Run
+ended r =
+    let p = r .place in
+    record {
+      options = r .options;
+      center = r .center;
+      place = record { demand = p .demand; round = p .round; step = p .step; len = p .len; at = p .at; number = p .number; over = true };
+      waiting = r .waiting;
+      «round_best» = r .«round_best»;
+      «run_best» = r .«run_best»;
+    }

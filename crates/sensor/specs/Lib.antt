@@ -1,2 +1,0 @@
-pub mod Sensor
-pub mod Verdict
