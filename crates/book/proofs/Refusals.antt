@@ -12,7 +12,7 @@ use lib.Ieee.{Float, lt}
 use Rattle.common.specs.All.{every}
 use Rattle.common.specs.Refusal.{Check, _when_, firstRefusal}
 use Rattle.float.specs.Float.{isFinite}
-use Rattle.float.specs.Sign.{plusZero}
+use Rattle.float.specs.Literals.{plusZero}
 use Rattle.seed_rules.specs.declared.CandidateSeed.{CandidateSeed}
 use Rattle.seed_rules.specs.Rules.{within, inBound}
 use Rattle.seed_rules.specs.Layout.{allSeeds}

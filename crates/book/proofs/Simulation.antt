@@ -8,11 +8,12 @@ use mathlib.Core.List.{List, [], _∷_, _++_, append-assoc, append-nil}
 use borrow.Author.Tests.{ltb-true, ltb-false, lt-ltb, le-ltb, le-leb, lt-leb}
 use lib.Dec.{leb, ltb, eqb, eqb·suc-zero}
 use lib.ListN.{length, getD, take, drop, length-append, take-append-drop}
-use lib.Ieee.{Float, binary64, ofBits}
+use lib.Ieee.{Float}
 use Rattle.common.specs.Tests.{case}
 use Rattle.common.specs.All.{All, all-left, all-right}
 use Rattle.common.specs.Refusal.{firstRefusal}
 use Rattle.float.specs.Binary64.{_*₆₄_}
+use Rattle.float.specs.Literals.{half₆₄}
 use Rattle.seed_rules.specs.declared.CandidateSeed.{CandidateSeed}
 use Rattle.seed_rules.specs.Rules.{offsets, nextList}
 use Rattle.seed_rules.specs.RulesLaws.{next-length}
@@ -137,7 +138,7 @@ end-ends b l e = record {
     same h = unfold withEnd in record { few-rounds = h .few-rounds; in-rounds = h .in-rounds; least = h .least; most = h .most; counted = h .counted; at-most = h .at-most }
 
 -- the step of the next list
-step-next : (n : ℕ) (s : Float) → cond (eqb n 0) s (stepOf n s *₆₄ ofBits binary64 0x3fe0_0000_0000_0000) ≡ stepOf (suc n) s
+step-next : (n : ℕ) (s : Float) → cond (eqb n 0) s (stepOf n s *₆₄ half₆₄) ≡ stepOf (suc n) s
 unfolding stepOf
 step-next zero s = refl
 step-next (suc n) s = simp (eqb·suc-zero n)

@@ -8,7 +8,7 @@ use lib.ListN.{length, getD}
 use lib.Ieee.{Float, binary64, ofBits}
 use Rattle.common.specs.Refusal.{Check, _when_, firstRefusal}
 use Rattle.float.specs.Binary64.{_*₆₄_}
-use Rattle.float.specs.Sign.{plusZero}
+use Rattle.float.specs.Literals.{plusZero, half₆₄}
 use Rattle.camera_models.specs.declared.math.Pt2.{Pt2}
 use Rattle.camera_models.specs.declared.intrinsics.FxFyCxCy.{FxFyCxCy}
 use Rattle.seed_rules.specs.declared.CandidateSeed.{CandidateSeed}
@@ -93,7 +93,7 @@ orElse (chosen w) c = chosen w
 unfoldable pub stepOf : ℕ → Float → Float
 stepOf zero s = plusZero
 stepOf (suc zero) s = s
-stepOf (suc (suc n)) s = stepOf (suc n) s *₆₄ ofBits binary64 0x3fe0_0000_0000_0000
+stepOf (suc (suc n)) s = stepOf (suc n) s *₆₄ half₆₄
 
 unfoldable pub firstList : Inputs → List CandidateSeed
 firstList i = initialList (allSeeds (i .decomposition)) (i .xs) (i .ys) (i .base) (i .max)

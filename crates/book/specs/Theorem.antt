@@ -7,7 +7,7 @@ use lib.ListN.{length}
 use lib.Ieee.{Float, lt, le, eq, isNan}
 use Rattle.common.specs.All.{All}
 use Rattle.float.specs.Float.{absOf, isFinite}
-use Rattle.float.specs.Sign.{plusZero}
+use Rattle.float.specs.Literals.{plusZero}
 use Rattle.seed_rules.specs.Rules.{within}
 use Rattle.score_outcome.specs.declared.Finding.{Finding}
 use Rattle.score_camera.specs.declared.pinhole.PinholeCamera.{PinholeCamera}

@@ -1,7 +1,7 @@
 -- Brown's and Conrady's lens distortion, each operation rounded, in the order in which the formulas read. Definitions only.
 use lib.Ieee.{Float}
 use Rattle.float.specs.Binary64.{_+₆₄_, _*₆₄_}
-use Rattle.camera_models.specs.Constants.{one, two, three, six}
+use Rattle.float.specs.Literals.{one₆₄, two₆₄, three₆₄, six₆₄}
 use Rattle.camera_models.specs.declared.math.Pt2.{Pt2}
 use Rattle.camera_models.specs.declared.distortion.BrownConrady5.{BrownConrady5}
 use Rattle.camera_models.specs.declared.distortion.Terms.{Terms}
@@ -18,16 +18,16 @@ radialFactor b p =
     let r2 = squaredNorm p in
     let r4 = r2 *₆₄ r2 in
     let r6 = r4 *₆₄ r2 in
-    one +₆₄ b .k1 *₆₄ r2 +₆₄ b .k2 *₆₄ r4 +₆₄ b .k3 *₆₄ r6
+    one₆₄ +₆₄ b .k1 *₆₄ r2 +₆₄ b .k2 *₆₄ r4 +₆₄ b .k3 *₆₄ r6
 
 -- what a lens off its axis adds to x and to y
 unfoldable pub tangentialX : BrownConrady5 → Pt2 → Float
-tangentialX b p = two *₆₄ b .p1 *₆₄ p .x *₆₄ p .y +₆₄ b .p2 *₆₄ (squaredNorm p +₆₄ two *₆₄ p .x *₆₄ p .x)
+tangentialX b p = two₆₄ *₆₄ b .p1 *₆₄ p .x *₆₄ p .y +₆₄ b .p2 *₆₄ (squaredNorm p +₆₄ two₆₄ *₆₄ p .x *₆₄ p .x)
 
 unfoldable pub tangentialY : BrownConrady5 → Pt2 → Float
-tangentialY b p = b .p1 *₆₄ (squaredNorm p +₆₄ two *₆₄ p .y *₆₄ p .y) +₆₄ two *₆₄ b .p2 *₆₄ p .x *₆₄ p .y
+tangentialY b p = b .p1 *₆₄ (squaredNorm p +₆₄ two₆₄ *₆₄ p .y *₆₄ p .y) +₆₄ two₆₄ *₆₄ b .p2 *₆₄ p .x *₆₄ p .y
 
--- the three together, as the code hands them on
+-- the three₆₄ together, as the code hands them on
 abbrev pub terms : BrownConrady5 → Pt2 → Terms
 terms b p = record { radial = radialFactor b p; «x_tan» = tangentialX b p; «y_tan» = tangentialY b p }
 
@@ -38,32 +38,32 @@ distorted b p = record {
   y = p .y *₆₄ radialFactor b p +₆₄ tangentialY b p;
 }
 
--- ---- the derivatives of the two coordinates
+-- ---- the derivatives of the two₆₄ coordinates
 -- the radial factor as the derivatives take it, with (k3 × r4) × r2 for its last term
 unfoldable pub jacobianRadial : BrownConrady5 → Pt2 → Float
 jacobianRadial b p =
     let r2 = squaredNorm p in
     let r4 = r2 *₆₄ r2 in
-    one +₆₄ b .k1 *₆₄ r2 +₆₄ b .k2 *₆₄ r4 +₆₄ b .k3 *₆₄ r4 *₆₄ r2
+    one₆₄ +₆₄ b .k1 *₆₄ r2 +₆₄ b .k2 *₆₄ r4 +₆₄ b .k3 *₆₄ r4 *₆₄ r2
 
 -- the radial factor's derivative by r2
 unfoldable pub radialDerivative : BrownConrady5 → Pt2 → Float
 radialDerivative b p =
     let r2 = squaredNorm p in
     let r4 = r2 *₆₄ r2 in
-    b .k1 +₆₄ two *₆₄ b .k2 *₆₄ r2 +₆₄ three *₆₄ b .k3 *₆₄ r4
+    b .k1 +₆₄ two₆₄ *₆₄ b .k2 *₆₄ r2 +₆₄ three₆₄ *₆₄ b .k3 *₆₄ r4
 
 -- of x by x, of either coordinate by the other, and of y by y, from the radial factor r and its derivative d
 abbrev pub derivatives : BrownConrady5 → Pt2 → Float → Float → Jacobian
 derivatives b p r d =
     let x = p .x in
     let y = p .y in
-    let cross = two *₆₄ x *₆₄ y *₆₄ d +₆₄ two *₆₄ b .p1 *₆₄ x +₆₄ two *₆₄ b .p2 *₆₄ y in
+    let cross = two₆₄ *₆₄ x *₆₄ y *₆₄ d +₆₄ two₆₄ *₆₄ b .p1 *₆₄ x +₆₄ two₆₄ *₆₄ b .p2 *₆₄ y in
     record {
-      xx = r +₆₄ two *₆₄ x *₆₄ x *₆₄ d +₆₄ two *₆₄ b .p1 *₆₄ y +₆₄ six *₆₄ b .p2 *₆₄ x;
+      xx = r +₆₄ two₆₄ *₆₄ x *₆₄ x *₆₄ d +₆₄ two₆₄ *₆₄ b .p1 *₆₄ y +₆₄ six₆₄ *₆₄ b .p2 *₆₄ x;
       xy = cross;
       yx = cross;
-      yy = r +₆₄ two *₆₄ y *₆₄ y *₆₄ d +₆₄ six *₆₄ b .p1 *₆₄ y +₆₄ two *₆₄ b .p2 *₆₄ x;
+      yy = r +₆₄ two₆₄ *₆₄ y *₆₄ y *₆₄ d +₆₄ six₆₄ *₆₄ b .p1 *₆₄ y +₆₄ two₆₄ *₆₄ b .p2 *₆₄ x;
     }
 
 unfoldable pub jacobianAt : BrownConrady5 → Pt2 → Jacobian

@@ -7,11 +7,11 @@ use lib.Dec.{T, eqb·suc-zero}
 use lib.IntN.{pos}
 use lib.Ieee.{Float, nan, inf, fin, binary64, ofBits, fits, unlike, add, mul, eq}
 use Rattle.float.specs.Float.{isFinite}
-use Rattle.float.specs.Sign.{plusZero, signBit, eq-zero, fits-zero}
+use Rattle.float.specs.Sign.{signBit, eq-zero, fits-zero}
+use Rattle.float.specs.Literals.{plusZero, one₆₄, two₆₄}
 use Rattle.float.specs.Binary64.{_+₆₄_, _*₆₄_}
 use Rattle.float.specs.Zero.{mul-nan, add-nan, finite-factors, finite-terms, zeroOf, zero-times, times-zero, zero-times-other, zeros-add, plusZeroUnless, add-zero, mul-one₆₄, Signed, mul-signed, add-signed}
 use Rattle.float.specs.Bound.{AtMost, AtLeast, at-most-unless, at-most-finite, mul-at-most, square-at-least, square-overflows, add-at-least, add-at-least′, add-at-most}
-use Rattle.camera_models.specs.Constants.{one, two}
 use Rattle.camera_models.specs.Distortion.{squaredNorm, radialFactor, tangentialX, tangentialY, distorted}
 use Rattle.camera_models.specs.declared.math.Pt2.{Pt2}
 use Rattle.camera_models.specs.declared.distortion.BrownConrady5.{BrownConrady5}
@@ -36,12 +36,12 @@ withoutDistortion b p =
     (record { x = nan; y = nan })
 
 -- ---- the radial factor
-one-plus : (s : Bool) → one +₆₄ zeroOf s ≡ one
+one-plus : (s : Bool) → one₆₄ +₆₄ zeroOf s ≡ one₆₄
 unfolding ofBits add
 one-plus true = refl
 one-plus false = refl
 
-radial-one : (b : BrownConrady5) (p : Pt2) → AllZero b → isFinite (sixthPower p) ≡ true → radialFactor b p ≡ one
+radial-one : (b : BrownConrady5) (p : Pt2) → AllZero b → isFinite (sixthPower p) ≡ true → radialFactor b p ≡ one₆₄
 unfolding radialFactor
 radial-one b p z f =
     let g = finite-factors binary64 (squaredNorm p *₆₄ squaredNorm p) (squaredNorm p) f in
@@ -66,24 +66,24 @@ square-signed (inf false) = mul-signed binary64 false false (inf false) (inf fal
 square-signed (fin true m e) = mul-signed binary64 true true (fin true m e) (fin true m e) refl refl
 square-signed (fin false m e) = mul-signed binary64 false false (fin false m e) (fin false m e) refl refl
 
-signed-two : Signed false two
+signed-two : Signed false two₆₄
 unfolding ofBits
 signed-two = refl
 
-twice-square-signed : (x : Float) → Signed false (two *₆₄ x *₆₄ x)
-twice-square-signed nan = rw (mul-nan binary64 (two *₆₄ nan)) tt
-twice-square-signed (inf true) = mul-signed binary64 true true (two *₆₄ inf true) (inf true) (mul-signed binary64 false true two (inf true) signed-two refl) refl
-twice-square-signed (inf false) = mul-signed binary64 false false (two *₆₄ inf false) (inf false) (mul-signed binary64 false false two (inf false) signed-two refl) refl
-twice-square-signed (fin true m e) = mul-signed binary64 true true (two *₆₄ fin true m e) (fin true m e) (mul-signed binary64 false true two (fin true m e) signed-two refl) refl
-twice-square-signed (fin false m e) = mul-signed binary64 false false (two *₆₄ fin false m e) (fin false m e) (mul-signed binary64 false false two (fin false m e) signed-two refl) refl
+twice-square-signed : (x : Float) → Signed false (two₆₄ *₆₄ x *₆₄ x)
+twice-square-signed nan = rw (mul-nan binary64 (two₆₄ *₆₄ nan)) tt
+twice-square-signed (inf true) = mul-signed binary64 true true (two₆₄ *₆₄ inf true) (inf true) (mul-signed binary64 false true two₆₄ (inf true) signed-two refl) refl
+twice-square-signed (inf false) = mul-signed binary64 false false (two₆₄ *₆₄ inf false) (inf false) (mul-signed binary64 false false two₆₄ (inf false) signed-two refl) refl
+twice-square-signed (fin true m e) = mul-signed binary64 true true (two₆₄ *₆₄ fin true m e) (fin true m e) (mul-signed binary64 false true two₆₄ (fin true m e) signed-two refl) refl
+twice-square-signed (fin false m e) = mul-signed binary64 false false (two₆₄ *₆₄ fin false m e) (fin false m e) (mul-signed binary64 false false two₆₄ (fin false m e) signed-two refl) refl
 
 norm-signed : (p : Pt2) → Signed false (squaredNorm p)
 norm-signed p = add-signed binary64 (p .x *₆₄ p .x) (p .y *₆₄ p .y) (square-signed (p .x)) (square-signed (p .y))
 
-bracket-signed : (p : Pt2) (x : Float) → Signed false (squaredNorm p +₆₄ two *₆₄ x *₆₄ x)
-bracket-signed p x = add-signed binary64 (squaredNorm p) (two *₆₄ x *₆₄ x) (norm-signed p) (twice-square-signed x)
+bracket-signed : (p : Pt2) (x : Float) → Signed false (squaredNorm p +₆₄ two₆₄ *₆₄ x *₆₄ x)
+bracket-signed p x = add-signed binary64 (squaredNorm p) (two₆₄ *₆₄ x *₆₄ x) (norm-signed p) (twice-square-signed x)
 
-two-small : AtMost 1 two
+two-small : AtMost 1 two₆₄
 unfolding ofBits
 two-small = omega arith
 
@@ -113,11 +113,11 @@ module _ (p : Pt2) (f : isFinite (squaredNorm p *₆₄ squaredNorm p) ≡ true)
       add-at-most 512 (p .x *₆₄ p .x) (p .y *₆₄ p .y) (square-signed (p .x)) (square-signed (p .y))
       (mul-at-most 256 256 (p .x) (p .x) small-x small-x (omega arith)) (mul-at-most 256 256 (p .y) (p .y) small-y small-y (omega arith)) (omega arith)
 
-  bracket-finite : (x : Float) → AtMost 256 x → isFinite (squaredNorm p +₆₄ two *₆₄ x *₆₄ x) ≡ true
+  bracket-finite : (x : Float) → AtMost 256 x → isFinite (squaredNorm p +₆₄ two₆₄ *₆₄ x *₆₄ x) ≡ true
   bracket-finite x h =
-      at-most-finite 514 (squaredNorm p +₆₄ two *₆₄ x *₆₄ x)
-      (add-at-most 513 (squaredNorm p) (two *₆₄ x *₆₄ x) (norm-signed p) (twice-square-signed x) small-norm
-      (mul-at-most 257 256 (two *₆₄ x) x (mul-at-most 1 256 two x two-small h (omega arith)) h (omega arith)) (omega arith))
+      at-most-finite 514 (squaredNorm p +₆₄ two₆₄ *₆₄ x *₆₄ x)
+      (add-at-most 513 (squaredNorm p) (two₆₄ *₆₄ x *₆₄ x) (norm-signed p) (twice-square-signed x) small-norm
+      (mul-at-most 257 256 (two₆₄ *₆₄ x) x (mul-at-most 1 256 two₆₄ x two-small h (omega arith)) h (omega arith)) (omega arith))
 
 -- ---- both tangential parts are zeros
 unsigned : (x : Float) → Signed false x → signBit x ≡ false
@@ -133,9 +133,9 @@ unlike-false false = refl
 zero-by-positive : (k x : Float) → eq k plusZero ≡ true → isFinite x ≡ true → Signed false x → k *₆₄ x ≡ zeroOf (signBit k)
 zero-by-positive k x z f h = rw (zero-times k x z f, unsigned x h, unlike-false (signBit k))
 
-twice-zero : (k : Float) → eq k plusZero ≡ true → two *₆₄ k ≡ zeroOf (signBit k)
+twice-zero : (k : Float) → eq k plusZero ≡ true → two₆₄ *₆₄ k ≡ zeroOf (signBit k)
 unfolding ofBits isFinite signBit
-twice-zero k z = times-zero two k refl z ∙ ap zeroOf (Bool·not-not (signBit k))
+twice-zero k z = times-zero two₆₄ k refl z ∙ ap zeroOf (Bool·not-not (signBit k))
 
 zero-by : (s : Bool) (x : Float) → isFinite x ≡ true → zeroOf s *₆₄ x ≡ zeroOf (unlike s (signBit x))
 unfolding signBit
@@ -146,7 +146,7 @@ abbrev productSign : Float → Pt2 → Bool
 productSign k p = unlike (unlike (signBit k) (signBit (p .x))) (signBit (p .y))
 
 module _ (b : BrownConrady5) (p : Pt2) (z : AllZero b) (f : isFinite (squaredNorm p *₆₄ squaredNorm p) ≡ true) where
-  zero-product : (k : Float) → eq k plusZero ≡ true → two *₆₄ k *₆₄ p .x *₆₄ p .y ≡ zeroOf (productSign k p)
+  zero-product : (k : Float) → eq k plusZero ≡ true → two₆₄ *₆₄ k *₆₄ p .x *₆₄ p .y ≡ zeroOf (productSign k p)
   zero-product k h =
       rw (twice-zero k h, zero-by (signBit k) (p .x) (at-most-finite 256 (p .x) (small-x p f)))
       (zero-by (unlike (signBit k) (signBit (p .x))) (p .y) (at-most-finite 256 (p .y) (small-y p f)))
@@ -156,7 +156,7 @@ module _ (b : BrownConrady5) (p : Pt2) (z : AllZero b) (f : isFinite (squaredNor
   tangential-x =
       rw (
         zero-product (b .p1) (z .1 .1 .1 .0),
-        zero-by-positive (b .p2) (squaredNorm p +₆₄ two *₆₄ p .x *₆₄ p .x) (z .1 .1 .1 .1) (bracket-finite p f (p .x) (small-x p f)) (bracket-signed p (p .x)),
+        zero-by-positive (b .p2) (squaredNorm p +₆₄ two₆₄ *₆₄ p .x *₆₄ p .x) (z .1 .1 .1 .1) (bracket-finite p f (p .x) (small-x p f)) (bracket-signed p (p .x)),
       )
       (zeros-add _ _)
 
@@ -165,7 +165,7 @@ module _ (b : BrownConrady5) (p : Pt2) (z : AllZero b) (f : isFinite (squaredNor
   tangential-y =
       rw (
         zero-product (b .p2) (z .1 .1 .1 .1),
-        zero-by-positive (b .p1) (squaredNorm p +₆₄ two *₆₄ p .y *₆₄ p .y) (z .1 .1 .1 .0) (bracket-finite p f (p .y) (small-y p f)) (bracket-signed p (p .y)),
+        zero-by-positive (b .p1) (squaredNorm p +₆₄ two₆₄ *₆₄ p .y *₆₄ p .y) (z .1 .1 .1 .0) (bracket-finite p f (p .y) (small-y p f)) (bracket-signed p (p .y)),
       )
       (zeros-add _ _)
 
@@ -184,7 +184,7 @@ same-zero (fin true m e) h c d q = rw (q refl)
 same-zero (fin false zero e) h c d q = rw (fits-zero false e h) (either-zero (not c) ∙ sym (either-zero (not d)))
 same-zero (fin false (suc m) e) h c d q = simp (eq-zero false (suc m) e, eqb·suc-zero m)
 
-itself : (x : Float) → T (fits binary64 x) → (c d : Bool) → (signBit x ≡ true → c ≡ d) → x *₆₄ one +₆₄ zeroOf c ≡ plusZeroUnless d x
+itself : (x : Float) → T (fits binary64 x) → (c d : Bool) → (signBit x ≡ true → c ≡ d) → x *₆₄ one₆₄ +₆₄ zeroOf c ≡ plusZeroUnless d x
 itself x h c d q = rw (mul-one₆₄ x h, add-zero x c h) (same-zero x h c d q)
 
 minus-first : (s t : Bool) → unlike (unlike s true) t ≡ Bool·beq s t
@@ -200,10 +200,10 @@ minus-last false true = refl
 minus-last false false = refl
 
 module _ (b : BrownConrady5) (p : Pt2) (z : AllZero b) (h : T (fits binary64 (p .x))) (k : T (fits binary64 (p .y))) where
-  kept-x : p .x *₆₄ one +₆₄ zeroOf (productSign (b .p1) p && signBit (b .p2)) ≡ plusZeroUnless (keepsMinus (b .p2) (b .p1) (p .y)) (p .x)
+  kept-x : p .x *₆₄ one₆₄ +₆₄ zeroOf (productSign (b .p1) p && signBit (b .p2)) ≡ plusZeroUnless (keepsMinus (b .p2) (b .p1) (p .y)) (p .x)
   kept-x = itself (p .x) h (productSign (b .p1) p && signBit (b .p2)) (keepsMinus (b .p2) (b .p1) (p .y)) (λ m. rw (m, minus-first (signBit (b .p1)) (signBit (p .y))) (and-comm _ (signBit (b .p2))))
 
-  kept-y : p .y *₆₄ one +₆₄ zeroOf (signBit (b .p1) && productSign (b .p2) p) ≡ plusZeroUnless (keepsMinus (b .p1) (b .p2) (p .x)) (p .y)
+  kept-y : p .y *₆₄ one₆₄ +₆₄ zeroOf (signBit (b .p1) && productSign (b .p2) p) ≡ plusZeroUnless (keepsMinus (b .p1) (b .p2) (p .x)) (p .y)
   kept-y = itself (p .y) k (signBit (b .p1) && productSign (b .p2) p) (keepsMinus (b .p1) (b .p2) (p .x)) (λ m. rw (m, minus-last (signBit (b .p2)) (signBit (p .x))))
 
   kept : isFinite (sixthPower p) ≡ true → distorted b p ≡ record { x = plusZeroUnless (keepsMinus (b .p2) (b .p1) (p .y)) (p .x); y = plusZeroUnless (keepsMinus (b .p1) (b .p2) (p .x)) (p .y) }

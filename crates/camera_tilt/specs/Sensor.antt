@@ -4,9 +4,9 @@ use mathlib.Core.Bool.{cond}
 use mathlib.Core.List.{[], _∷_}
 use lib.Ieee.{Float, neg, lt, eq}
 use Rattle.float.specs.Float.{absOf}
-use Rattle.float.specs.Sign.{plusZero}
+use Rattle.float.specs.Literals.{plusZero, one₆₄}
 use Rattle.float.specs.Binary64.{_+₆₄_, _*₆₄_, _/₆₄_}
-use Rattle.camera_models.specs.Constants.{one, tiny}
+use Rattle.camera_models.specs.Constants.{tiny}
 use Rattle.camera_tilt.specs.Matrix.{Matrix, at, productOf, determinantOf}
 use Rattle.camera_models.specs.declared.math.Pt2.{Pt2}
 use Rattle.camera_tilt.specs.declared.sensor.Tilt.{Tilt}
@@ -14,14 +14,14 @@ use Rattle.camera_tilt.specs.declared.sensor.Tilt.the-variants.{Invertib
 
 -- the rotations about the two axes, from a tilt's sine s and cosine c
 abbrev pub rotX : Float → Float → Matrix
-rotX s c = (one ∷ plusZero ∷ plusZero ∷ []) ∷ (plusZero ∷ c ∷ s ∷ []) ∷ (plusZero ∷ neg s ∷ c ∷ []) ∷ []
+rotX s c = (one₆₄ ∷ plusZero ∷ plusZero ∷ []) ∷ (plusZero ∷ c ∷ s ∷ []) ∷ (plusZero ∷ neg s ∷ c ∷ []) ∷ []
 
 abbrev pub rotY : Float → Float → Matrix
-rotY s c = (c ∷ plusZero ∷ neg s ∷ []) ∷ (plusZero ∷ one ∷ plusZero ∷ []) ∷ (s ∷ plusZero ∷ c ∷ []) ∷ []
+rotY s c = (c ∷ plusZero ∷ neg s ∷ []) ∷ (plusZero ∷ one₆₄ ∷ plusZero ∷ []) ∷ (s ∷ plusZero ∷ c ∷ []) ∷ []
 
 -- the projection onto the tilted plane, by the rotation's last column
 abbrev pub projZ : Matrix → Matrix
-projZ r = (at r 2 2 ∷ plusZero ∷ neg (at r 0 2) ∷ []) ∷ (plusZero ∷ at r 2 2 ∷ neg (at r 1 2) ∷ []) ∷ (plusZero ∷ plusZero ∷ one ∷ []) ∷ []
+projZ r = (at r 2 2 ∷ plusZero ∷ neg (at r 0 2) ∷ []) ∷ (plusZero ∷ at r 2 2 ∷ neg (at r 1 2) ∷ []) ∷ (plusZero ∷ plusZero ∷ one₆₄ ∷ []) ∷ []
 
 unfoldable pub tiltProjectionMatrix : Float → Float → Float → Float → Matrix
 tiltProjectionMatrix sinX cosX sinY cosY = let r = productOf (rotY sinY cosY) (rotX sinX cosX) in productOf (projZ r) r
@@ -36,7 +36,7 @@ tiltNumber (Refused n) = n
 
 -- coordinate i of the matrix times (x, y, 1)
 abbrev pub homogeneous : Matrix → Pt2 → ℕ → Float
-homogeneous h p i = at h i 0 *₆₄ p .x +₆₄ at h i 1 *₆₄ p .y +₆₄ at h i 2 *₆₄ one
+homogeneous h p i = at h i 0 *₆₄ p .x +₆₄ at h i 1 *₆₄ p .y +₆₄ at h i 2 *₆₄ one₆₄
 
 -- what the first two coordinates are divided by: forward z only above 1e-12, and for the inverse z whose magnitude is above it
 unfoldable pub forwardDepth : Float → Float

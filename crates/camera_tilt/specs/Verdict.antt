@@ -2,7 +2,7 @@
 use mathlib.Core.Path.{_≡_, refl}
 use mathlib.Core.Bool.{Bool, true, false, cond}
 use lib.Ieee.{eq}
-use Rattle.float.specs.Sign.{plusZero}
+use Rattle.float.specs.Literals.{plusZero}
 use Rattle.camera_tilt.specs.Matrix.{Matrix, determinantOf}
 use Rattle.camera_tilt.specs.Sensor.{tiltVerdict, tiltNumber}
 use Rattle.camera_tilt.specs.declared.sensor.Tilt.the-variants.{Invertible, Refused}

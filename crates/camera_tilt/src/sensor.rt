@@ -4,7 +4,7 @@
 ghost use mathlib.Core.Path.{_≡_};
 ghost use Prim.Native.Nat.{_<_};
 ghost use lib.Ieee.{eq};
-ghost use Rattle.float.specs.Sign.{plusZero};
+ghost use Rattle.float.specs.Literals.{plusZero};
 ghost use Rattle.camera_tilt.specs.Matrix.{productOf, determinantOf};
 ghost use Rattle.camera_tilt.specs.Sensor.{rotX, rotY, projZ, tiltProjectionMatrix, tiltVerdict, tiltNumber, homogeneous, forwardDepth, inverseDepth, applyHomography, applyHomographyInverse};
 use crate::matrix::determinant;

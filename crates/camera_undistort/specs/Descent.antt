@@ -5,7 +5,7 @@ use mathlib.Core.List.{List, [], _∷_}
 use Prim.Native.Nat.{ℕ, zero, suc}
 use lib.Ieee.{lt, eq}
 use Rattle.float.specs.Float.{isFinite}
-use Rattle.float.specs.Sign.{plusZero}
+use Rattle.float.specs.Literals.{plusZero}
 use Rattle.camera_undistort.specs.Undistortion.{estimateAt, minusPoint, halved, squaredResidual, singular, newtonStep, improves, trials, smallStep, afterTrials, newtonTurn, thenBy, newton}
 use Rattle.camera_models.specs.declared.math.Pt2.{Pt2}
 use Rattle.camera_models.specs.declared.distortion.BrownConrady5.{BrownConrady5}

@@ -4,9 +4,9 @@ use mathlib.Core.Bool.{Bool, not, _&&_, _||_, cond}
 use lib.Dec.{eqb}
 use lib.Ieee.{Float, lt, le, eq}
 use Rattle.float.specs.Float.{isFinite}
-use Rattle.float.specs.Sign.{plusZero}
+use Rattle.float.specs.Literals.{plusZero, one₆₄, half₆₄}
 use Rattle.float.specs.Binary64.{_+₆₄_, _-₆₄_, _*₆₄_, _/₆₄_}
-use Rattle.camera_models.specs.Constants.{one, half, tolerance}
+use Rattle.camera_models.specs.Constants.{tolerance}
 use Rattle.camera_models.specs.Distortion.{squaredNorm, distorted, jacobianAt}
 use Rattle.camera_models.specs.declared.math.Pt2.{Pt2}
 use Rattle.camera_models.specs.declared.distortion.BrownConrady5.{BrownConrady5}
@@ -21,7 +21,7 @@ abbrev pub minusPoint : Pt2 → Pt2 → Pt2
 minusPoint p q = record { x = p .x -₆₄ q .x; y = p .y -₆₄ q .y }
 
 abbrev pub halved : Pt2 → Pt2
-halved p = record { x = p .x *₆₄ half; y = p .y *₆₄ half }
+halved p = record { x = p .x *₆₄ half₆₄; y = p .y *₆₄ half₆₄ }
 
 -- a point, how far its distortion is from the target, and the derivatives there
 unfoldable pub estimateAt : BrownConrady5 → Pt2 → Pt2 → Estimate
@@ -53,7 +53,7 @@ newtonStep e = stepOf (e .jacobian) (e .error)
 unfoldable pub improves : Estimate → Estimate → Bool
 improves next e = isFinite (squaredResidual next) && lt (squaredResidual next) (squaredResidual e)
 
--- at most n trials, each with half the step of the one before: the first that improves on e, with its step
+-- at most n trials, each with half₆₄ the step of the one₆₄ before: the first that improves on e, with its step
 unfoldable pub trials : ℕ → BrownConrady5 → Pt2 → Estimate → Pt2 → Search
 trials zero b target e step = Exhausted
 trials (suc n) b target e step =
@@ -62,14 +62,14 @@ trials (suc n) b target e step =
 
 -- the step is as small as the point's rounding
 unfoldable pub smallStep : Pt2 → Pt2 → Bool
-smallStep step p = le (squaredNorm step) (tolerance *₆₄ (one +₆₄ p .x *₆₄ p .x +₆₄ p .y *₆₄ p .y))
+smallStep step p = le (squaredNorm step) (tolerance *₆₄ (one₆₄ +₆₄ p .x *₆₄ p .x +₆₄ p .y *₆₄ p .y))
 
 -- after the trials: an accepted estimate is the last where its step was small
 unfoldable pub afterTrials : Search → Turn
 afterTrials Exhausted = Ended
 afterTrials (Accepted next step) = cond (smallStep step (next .point)) (Last next) (Next next)
 
--- one turn of the method: it also ends at an exact solution and at a singular Jacobian
+-- one₆₄ turn of the method: it also ends at an exact solution and at a singular Jacobian
 unfoldable pub newtonTurn : BrownConrady5 → Pt2 → Estimate → Turn
 newtonTurn b target e =
     cond (eq (squaredResidual e) plusZero) Ended
@@ -87,7 +87,7 @@ unfoldable pub newton : ℕ → BrownConrady5 → Pt2 → Estimate → Estimate
 newton zero b target e = e
 newton (suc n) b target e = thenBy e (newtonTurn b target e) (newton n b target)
 
--- one step more, without trials
+-- one₆₄ step more, without trials
 unfoldable pub lastStep : Estimate → Pt2
 lastStep e = cond (singular (e .jacobian)) (e .point) (minusPoint (e .point) (newtonStep e))
 

@@ -2,7 +2,7 @@
 use mathlib.Core.Bool.{cond}
 use mathlib.Core.List.{[], _∷_}
 use lib.Dec.{eqb}
-use Rattle.float.specs.Sign.{plusZero}
+use Rattle.float.specs.Literals.{plusZero}
 use Rattle.camera_tilt.specs.Matrix.{Matrix, at, inverseOf}
 use Rattle.camera_tilt.specs.Sensor.{tiltVerdict, tiltNumber}
 use Rattle.zhang.specs.declared.Estimate.{Estimate}

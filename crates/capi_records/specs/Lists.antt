@@ -1,6 +1,6 @@
 -- The replies of the operations on lists as flat records: a refusal's number, and zeros for what it leaves out. Definitions only.
 use Prim.Native.Nat.{ℕ}
-use Rattle.float.specs.Sign.{plusZero}
+use Rattle.float.specs.Literals.{plusZero}
 use Rattle.point_maps.specs.declared.maps.Mapped.{Mapped}
 use Rattle.point_maps.specs.declared.maps.Mapped.the-variants as mapped
 use Rattle.point_homography.specs.declared.Rows.{Rows}

@@ -2,7 +2,7 @@
 use Prim.Native.Nat.{ℕ}
 use mathlib.Core.Bool.{Bool, not, cond}
 use lib.Dec.{eqb}
-use Rattle.float.specs.Sign.{plusZero}
+use Rattle.float.specs.Literals.{plusZero}
 use Rattle.score_best.specs.declared.Best.{Best}
 use Rattle.score_best.specs.Best.{noBest}
 use Rattle.search_record.specs.Record.{nobody}

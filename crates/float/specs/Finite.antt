@@ -2,11 +2,8 @@
 use mathlib.Core.Path.{_≡_, refl, sym}
 use mathlib.Core.Bool.{true, false, true≢false}
 use lib.Ieee.{Float, nan, inf, fin, binary64, ofBits, lt, le, div, neg, isNan}
+use Rattle.float.specs.Literals.{infinity}
 use Rattle.float.specs.Float.{absOf, isFinite}
-
--- +infinity, as a program writes it: 1 / 0
-abbrev pub infinity : Float
-infinity = div binary64 (ofBits binary64 0x3ff0_0000_0000_0000) (ofBits binary64 0)
 
 -- ---- what lies between the infinities
 pub below-infinity : (x : Float) → lt (neg infinity) x ≡ true → lt x infinity ≡ isFinite x

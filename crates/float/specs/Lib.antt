@@ -1,3 +1,4 @@
+pub mod Literals
 pub mod Float
 pub mod Zero
 pub mod Bound

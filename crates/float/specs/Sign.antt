@@ -11,13 +11,10 @@ use lib.IntN.{ℤ, pos, negsuc}
 use lib.Ieee.{Float, nan, inf, fin, Format, binary64, prec, emax, low, ofBits, lt, le, eq, neg, isNan, add, sub, sum, mul, div, ofInt, round, units, odd, nearest, size, up, down, fits}
 use lib.Ieee.Fits.{up-pos, down-pos}
 use lib.Ieee.Scale.{round-same}
+use Rattle.float.specs.Literals.{plusZero}
 use Rattle.float.specs.Float.{absOf, isFinite, clampOf}
 use Rattle.float.specs.Order.{lt-irrefl, lt-neg, le-of-not-lt}
 use Rattle.float.specs.Exact.{round-own}
-
--- +0
-abbrev pub plusZero : Float
-plusZero = ofBits binary64 0
 
 -- ---- a number beside zero: only its significand and its sign count
 magnitude-pos : (m : ℕ) (e : ℤ) → 0 < suc m * up e * 1

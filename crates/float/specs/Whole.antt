@@ -15,7 +15,7 @@ use lib.Ieee.Back.{round-whole}
 use lib.Ieee.Bits.{is-true}
 use lib.Ieee.Order.{le-of-values, round-mono}
 use Rattle.float.specs.Float.{absOf}
-use Rattle.float.specs.Sign.{plusZero}
+use Rattle.float.specs.Literals.{plusZero}
 
 -- x is n in size, and where n isn't 0 it has the sign s
 abbrev pub Is : Float → Bool → ℕ → Type 0

@@ -11,7 +11,8 @@ use lib.Ieee.{Float, nan, inf, fin, Format, binary64, ofBits, up, down, unlike, 
 use lib.Ieee.Fits.{up-pos, down-pos}
 use lib.Ieee.Scale.{round-same}
 use Rattle.float.specs.Float.{isFinite}
-use Rattle.float.specs.Sign.{plusZero, eq-zero, fits-zero, signBit}
+use Rattle.float.specs.Sign.{eq-zero, fits-zero, signBit}
+use Rattle.float.specs.Literals.{plusZero, one₆₄}
 use Rattle.float.specs.Exact.{round-own}
 
 -- ---- NaN
@@ -139,9 +140,6 @@ add-zero (fin s zero e) t h = zero-plus s e t (fits-zero s e h)
 add-zero (fin s (suc m) e) t h = number-plus s m e t h ∙ simp (eq-zero s (suc m) e, eqb·suc-zero m)
 
 -- ---- a value times 1
-abbrev pub one₆₄ : Float
-one₆₄ = ofBits binary64 0x3ff0_0000_0000_0000
-
 zero-by-one : (s : Bool) (e : ℤ) → e ≡ pos 0 → mul binary64 (fin s zero e) one₆₄ ≡ fin s zero e
 unfolding mul ofBits
 zero-by-one true e h = rw h

@@ -4,9 +4,10 @@ use mathlib.Core.Bool.{Bool, true, false, not, _&&_, cond}
 use mathlib.Core.List.{List}
 use lib.Dec.{eqb, ltb}
 use lib.ListN.{length, drop}
-use lib.Ieee.{Float, binary64, ofBits, lt, le}
+use lib.Ieee.{Float, lt, le}
 use Rattle.float.specs.Binary64.{_-₆₄_, _*₆₄_}
 use Rattle.float.specs.Float.{absOf}
+use Rattle.float.specs.Literals.{tenToMinus6, tenToMinus9}
 use Rattle.camera_models.specs.declared.math.Pt2.{Pt2}
 use Rattle.point_homography.specs.declared.Distinct.{Distinct}
 use Rattle.point_homography.specs.declared.Distinct.the-variants.{Point, Nothing}
@@ -15,15 +16,15 @@ use Rattle.point_homography.specs.declared.LineTest.the-variants.{Collin
 use Rattle.point_normalise.specs.Points.{findPoint, pointAt, distanceOf}
 
 -- 1e-9: points that are no farther apart count as the same
-abbrev pub samePoint : Float
-samePoint = ofBits binary64 0x3e11_2e0b_e826_d695
+abbrev pub leastDistance : Float
+leastDistance = tenToMinus9
 
 -- 1e-6
 abbrev pub leastCross : Float
-leastCross = ofBits binary64 0x3eb0_c6f7_a0b5_ed8d
+leastCross = tenToMinus6
 
 abbrev pub farFrom : Pt2 → Pt2 → Bool
-farFrom p0 p = lt samePoint (distanceOf p p0)
+farFrom p0 p = lt leastDistance (distanceOf p p0)
 
 -- the first point after the first one that is farther than 1e-9 from p0
 abbrev pub firstDistinct : Pt2 → List Float → Distinct
@@ -34,7 +35,7 @@ crossOf p0 p1 p2 = (p1 .x -₆₄ p0 .x) *₆₄ (p2 .y -₆₄ p0 .y) -₆₄ (
 
 -- neither in the place of p0 nor near the line from p0 to p1
 unfoldable pub offLine : Pt2 → Pt2 → Pt2 → Bool
-offLine p0 p1 p2 = not (le (distanceOf p2 p0) samePoint) && lt leastCross (absOf (crossOf p0 p1 p2))
+offLine p0 p1 p2 = not (le (distanceOf p2 p0) leastDistance) && lt leastCross (absOf (crossOf p0 p1 p2))
 
 abbrev pub yes : Pt2 → Bool
 yes p = true

@@ -4,12 +4,12 @@ use mathlib.Core.Bool.{Bool, not, cond}
 use mathlib.Core.List.{List, [], _∷_, _++_}
 use lib.Dec.{eqb, ltb}
 use lib.ListN.{length, drop}
-use lib.Ieee.{Float, binary64, ofBits, neg}
+use lib.Ieee.{Float, neg}
 use Rattle.common.specs.All.{every}
 use Rattle.common.specs.Refusal.{Check, _when_, firstRefusal}
 use Rattle.float.specs.Binary64.{_*₆₄_}
 use Rattle.float.specs.Float.{isFinite}
-use Rattle.float.specs.Sign.{plusZero}
+use Rattle.float.specs.Literals.{plusZero, one₆₄}
 use Rattle.camera_models.specs.declared.math.Pt2.{Pt2}
 use Rattle.point_normalise.specs.declared.linalg.Similarity.{Similarity}
 use Rattle.point_homography.specs.declared.Rows.{Rows}
@@ -23,7 +23,7 @@ allFinite s = every isFinite s
 
 -- -1
 abbrev pub minusOne : Float
-minusOne = neg (ofBits binary64 0x3ff0_0000_0000_0000)
+minusOne = neg one₆₄
 
 -- The rows of (x, y), which the homography maps to (u, v): (-x, -y, -1, 0, 0, 0, u x, u y, u) and (0, 0, 0, -x, -y, -1, v x, v y, v).
 abbrev pub firstRow : Pt2 → Pt2 → List Float

@@ -4,20 +4,15 @@ use mathlib.Core.Bool.{Bool, _&&_, cond}
 use mathlib.Core.List.{List}
 use lib.Dec.{eqb}
 use lib.ListN.{length}
-use lib.Ieee.{Float, binary64, ofBits, neg, le}
+use lib.Ieee.{Float, neg, le}
 use Rattle.float.specs.Binary64.{_+₆₄_, _*₆₄_}
 use Rattle.float.specs.Float.{isFinite, minOf, maxOf}
-use Rattle.float.specs.Finite.{infinity}
-use Rattle.float.specs.Sign.{plusZero}
+use Rattle.float.specs.Literals.{plusZero, infinity, half₆₄}
 use Rattle.camera_models.specs.declared.math.Pt2.{Pt2}
 use Rattle.point_maps.specs.declared.centre.Extent.{Extent}
 use Rattle.point_maps.specs.declared.centre.Center.{Center}
 use Rattle.point_maps.specs.declared.centre.Center.the-variants.{At, Refused}
 use Rattle.point_normalise.specs.Points.{foldPoints}
-
--- 0.5
-abbrev half : Float
-half = ofBits binary64 0x3fe0_0000_0000_0000
 
 -- A pixel counts if both coordinates are finite. Of equal ones, so also of two zeros, the first is kept.
 abbrev pub widen : Extent → Pt2 → Extent
@@ -38,13 +33,13 @@ extentOf s = foldPoints widen (record { «min_x» = infinity; «min_y» = infini
 abbrev pub allFinite : Extent → Bool
 allFinite e = (isFinite (e .«min_x») && isFinite (e .«min_y»)) && (isFinite (e .«max_x») && isFinite (e .«max_y»))
 
--- No finite pixel: (0, 0). No negative coordinate: half the greatest ones. Else the middle of the range, in both coordinates.
+-- No finite pixel: (0, 0). No negative coordinate: half₆₄ the greatest ones. Else the middle of the range, in both coordinates.
 unfoldable pub centerOf : Extent → Pt2
 centerOf e =
     cond (allFinite e)
     (cond (le plusZero (e .«min_x») && le plusZero (e .«min_y»))
-    (record { x = half *₆₄ e .«max_x»; y = half *₆₄ e .«max_y» })
-    (record { x = half *₆₄ (e .«min_x» +₆₄ e .«max_x»); y = half *₆₄ (e .«min_y» +₆₄ e .«max_y») }))
+    (record { x = half₆₄ *₆₄ e .«max_x»; y = half₆₄ *₆₄ e .«max_y» })
+    (record { x = half₆₄ *₆₄ (e .«min_x» +₆₄ e .«max_x»); y = half₆₄ *₆₄ (e .«min_y» +₆₄ e .«max_y») }))
     (record { x = plusZero; y = plusZero })
 
 -- 17 for an odd length

@@ -6,7 +6,7 @@ use lib.Dec.{eqb, ltb}
 use lib.ListN.{length, drop}
 use lib.Ieee.{Float, eq}
 use Rattle.common.specs.Refusal.{_when_, firstRefusal}
-use Rattle.float.specs.Sign.{plusZero}
+use Rattle.float.specs.Literals.{plusZero}
 use Rattle.camera_models.specs.declared.math.Pt2.{Pt2}
 use Rattle.camera_models.specs.declared.intrinsics.FxFyCxCy.{FxFyCxCy}
 use Rattle.camera_models.specs.Intrinsics.{pixelToSensor, sensorToPixel}

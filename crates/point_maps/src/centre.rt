@@ -5,8 +5,7 @@ ghost use mathlib.Core.Bool.{_&&_};
 ghost use lib.Ieee.{le};
 ghost use Rattle.float.specs.Binary64.{_+₆₄_, _*₆₄_};
 ghost use Rattle.float.specs.Float.{isFinite};
-ghost use Rattle.float.specs.Sign.{plusZero};
-ghost use Rattle.camera_models.specs.Constants.{half};
+ghost use Rattle.float.specs.Literals.{plusZero, half₆₄};
 ghost use Rattle.point_maps.specs.Centre.{widen, extentOf, allFinite, centerOf, centerReply};
 use camera_models::math::Pt2;
 use point_normalise::linalg;
@@ -77,7 +76,7 @@ fn none_negative(e: Extent) -> bool
 }
 
 fn middle(e: Extent) -> Pt2
-    ensures { λ r. ⌜ r ≡ record { x = half *₆₄ (e .«min_x» +₆₄ e .«max_x»); y = half *₆₄ (e .«min_y» +₆₄ e .«max_y») } ⌝ }
+    ensures { λ r. ⌜ r ≡ record { x = half₆₄ *₆₄ (e .«min_x» +₆₄ e .«max_x»); y = half₆₄ *₆₄ (e .«min_y» +₆₄ e .«max_y») } ⌝ }
 {
     Pt2 {
         x: 0.5 * (e.min_x + e.max_x),

@@ -7,7 +7,7 @@ use lib.ListN.{length, drop}
 use lib.Ieee.{Float, binary64, ofBits, neg, le}
 use Rattle.common.specs.Refusal.{_when_, firstRefusal}
 use Rattle.float.specs.Binary64.{_+₆₄_, _-₆₄_, _*₆₄_, _/₆₄_}
-use Rattle.float.specs.Sign.{plusZero}
+use Rattle.float.specs.Literals.{plusZero, two₆₄}
 use Rattle.root.specs.Root.{root}
 use Rattle.camera_models.specs.declared.math.Pt2.{Pt2}
 use Rattle.point_normalise.specs.declared.linalg.Similarity.{Similarity}
@@ -16,10 +16,6 @@ use Rattle.point_normalise.specs.declared.linalg.Normalizer.the-variants
 use Rattle.point_normalise.specs.declared.linalg.Normalized.{Normalized}
 use Rattle.point_normalise.specs.declared.linalg.Normalized.the-variants.{Transform, Refused}
 use Rattle.point_normalise.specs.Points.{foldPoints, eachPoint, countOf, badLength, distanceOf}
-
--- 2
-abbrev two : Float
-two = ofBits binary64 0x4000_0000_0000_0000
 
 -- 2^-52
 abbrev epsilon : Float
@@ -48,7 +44,7 @@ degenerate s = eqb (length s) 0 || le (meanDistance (centroidOf s) s) epsilon
 
 unfoldable pub similarityOf : List Float → Similarity
 unfolding meanDistance centroidOf
-similarityOf s = let c = centroidOf s in record { scale = root binary64 two /₆₄ meanDistance c s; cx = c .x; cy = c .y }
+similarityOf s = let c = centroidOf s in record { scale = root binary64 two₆₄ /₆₄ meanDistance c s; cx = c .x; cy = c .y }
 
 unfoldable pub hartleyOf : List Float → Normalizer
 unfolding degenerate similarityOf

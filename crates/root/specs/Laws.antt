@@ -8,7 +8,8 @@ use lib.Dec.{T, ltb, lt→ltb, eqb·suc-zero}
 use lib.Ieee.{Float, nan, inf, fin, Format, prec, emax, low, lt, isNan, fits, odd, units, ofBits}
 use lib.Ieee.Positive.{positive}
 use Rattle.float.specs.Float.{isFinite}
-use Rattle.float.specs.Sign.{plusZero, lt-zero, signBit}
+use Rattle.float.specs.Sign.{lt-zero, signBit}
+use Rattle.float.specs.Literals.{plusZero}
 use Rattle.root.specs.Root.{dropped, rounded, radicand, rootOf, root}
 use Rattle.root.specs.Nearest.{root-positive}
 

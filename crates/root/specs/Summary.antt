@@ -8,7 +8,7 @@ use lib.Ieee.{Float, nan, inf, fin, Format, fits, lt, isNan}
 use lib.Ieee.Scale.{finite}
 use lib.Ieee.Positive.{num, den, positive}
 use Rattle.float.specs.Float.{isFinite}
-use Rattle.float.specs.Sign.{plusZero}
+use Rattle.float.specs.Literals.{plusZero}
 use Rattle.root.specs.Root.{middle, radicand, root}
 use Rattle.root.specs.Nearer.{Nearer}
 use Rattle.root.specs.Nearest.{root-fits, root-nearest, root-no-tie, root-exact}

@@ -2,7 +2,7 @@
 use mathlib.Core.Bool.{Bool, _&&_}
 use lib.Ieee.{Float, binary64, ofBits, lt, neg}
 use Rattle.float.specs.Float.{isFinite, clampOf}
-use Rattle.float.specs.Sign.{plusZero}
+use Rattle.float.specs.Literals.{plusZero}
 use Rattle.camera_models.specs.declared.intrinsics.FxFyCxCy.{FxFyCxCy}
 use Rattle.camera_models.specs.declared.distortion.BrownConrady5.{BrownConrady5}
 use Rattle.score_camera.specs.declared.pinhole.PinholeCamera.{PinholeCamera}

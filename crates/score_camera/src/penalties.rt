@@ -4,7 +4,8 @@
 ghost use mathlib.Core.Path.{_≡_};
 ghost use Rattle.float.specs.Binary64.{_+₆₄_, _-₆₄_, _*₆₄_, _/₆₄_};
 ghost use Rattle.float.specs.Float.{maxOf};
-ghost use Rattle.score_camera.specs.Penalties.{quarter, one, distortionPenalty, tiltPenalty, centrePenalty, scoreOf};
+ghost use Rattle.score_camera.specs.Penalties.{quarter, distortionPenalty, tiltPenalty, centrePenalty, scoreOf};
+ghost use Rattle.float.specs.Literals.{one₆₄};
 use crate::pinhole::PinholeCamera;
 use camera_models::distortion::BrownConrady5;
 use camera_models::intrinsics::FxFyCxCy;
@@ -41,7 +42,7 @@ pub fn tilt_complexity(sensor: ScheimpflugParams) -> f64
 
 // The principal point's distance from the centre, in focal lengths.
 fn relative_offset(intrinsics: FxFyCxCy, center: Pt2) -> Pt2
-    ensures { λ r. ⌜ r ≡ record { x = (intrinsics .cx -₆₄ center .x) /₆₄ maxOf (intrinsics .fx) one; y = (intrinsics .cy -₆₄ center .y) /₆₄ maxOf (intrinsics .fy) one } ⌝ }
+    ensures { λ r. ⌜ r ≡ record { x = (intrinsics .cx -₆₄ center .x) /₆₄ maxOf (intrinsics .fx) one₆₄; y = (intrinsics .cy -₆₄ center .y) /₆₄ maxOf (intrinsics .fy) one₆₄ } ⌝ }
 {
     Pt2 {
         x: (intrinsics.cx - center.x) / float::max(intrinsics.fx, 1.0),

@@ -7,7 +7,7 @@ use lib.ListN.{length}
 use lib.Ieee.{Float, eq}
 use Rattle.common.specs.Refusal.{_when_, firstRefusal}
 use Rattle.float.specs.Float.{isFinite}
-use Rattle.float.specs.Sign.{plusZero}
+use Rattle.float.specs.Literals.{plusZero}
 use Rattle.camera_tilt.specs.Matrix.{determinantOf}
 use Rattle.camera_models.specs.declared.math.Pt2.{Pt2}
 use Rattle.camera_tilt.specs.declared.sensor.ScheimpflugParams.{ScheimpflugParams}

@@ -8,7 +8,8 @@ use lib.Ieee.{Float, isNan, lt, le, ofBits}
 use Rattle.common.specs.Tests.{case, both-true}
 use Rattle.float.specs.Float.{absOf, isFinite}
 use Rattle.float.specs.Finite.{finite-number}
-use Rattle.float.specs.Sign.{plusZero, signBit, unsigned-not-below, clamp-magnitude}
+use Rattle.float.specs.Sign.{signBit, unsigned-not-below, clamp-magnitude}
+use Rattle.float.specs.Literals.{plusZero}
 use Rattle.camera_models.specs.declared.math.Pt2.{Pt2}
 use Rattle.camera_tilt.specs.declared.sensor.ScheimpflugParams.{ScheimpflugParams}
 use Rattle.score_camera.specs.Camera.{tangentialBound, damped, dampedCamera, finiteIntrinsics, finiteDistortion, validCamera}

@@ -7,8 +7,7 @@ use lib.IntN.{pos}
 use lib.Ieee.{Float, binary64, ofInt}
 use Rattle.float.specs.Binary64.{_+₆₄_, _-₆₄_, _*₆₄_, _/₆₄_}
 use Rattle.float.specs.Float.{isFinite}
-use Rattle.float.specs.Sign.{plusZero}
-use Rattle.float.specs.Finite.{infinity}
+use Rattle.float.specs.Literals.{plusZero, infinity}
 use Rattle.root.specs.Root.{root}
 use Rattle.camera_models.specs.Distortion.{distorted}
 use Rattle.camera_models.specs.Intrinsics.{sensorToPixel}

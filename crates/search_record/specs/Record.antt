@@ -4,7 +4,7 @@ use mathlib.Core.Bool.{Bool, true, false, not, _&&_, cond}
 use lib.Dec.{leb, ltb, eqb}
 use lib.Ieee.{Float, binary64, ofBits}
 use Rattle.float.specs.Binary64.{_*₆₄_}
-use Rattle.float.specs.Sign.{plusZero}
+use Rattle.float.specs.Literals.{plusZero, half₆₄}
 use Rattle.camera_tilt.specs.declared.sensor.ScheimpflugParams.{ScheimpflugParams}
 use Rattle.seed_rules.specs.declared.CandidateSeed.{CandidateSeed}
 use Rattle.score_outcome.specs.declared.Outcome.{Outcome}
@@ -73,7 +73,7 @@ entered r o =
 -- ---- the next round opens with n seeds, made with the step s; or the run ends
 -- refine_step for round 1's list, and then half of the last one
 unfoldable pub nextStep : Run → Float
-nextStep r = cond (eqb (r .place .round) 0) (r .options .«refine_step») (r .place .step *₆₄ ofBits binary64 0x3fe0_0000_0000_0000)
+nextStep r = cond (eqb (r .place .round) 0) (r .options .«refine_step») (r .place .step *₆₄ half₆₄)
 
 unfoldable pub opened : Run → ℕ → Run
 opened r n =

@@ -12,7 +12,8 @@ use lib.ListN.{length}
 use lib.Ieee.{Float, binary64, fits, le}
 use Rattle.common.specs.All.{All, all-append, all-map}
 use Rattle.float.specs.Binary64.{_+₆₄_}
-use Rattle.float.specs.Sign.{plusZero, abs-add-zero}
+use Rattle.float.specs.Sign.{abs-add-zero}
+use Rattle.float.specs.Literals.{plusZero}
 use Rattle.camera_models.specs.declared.intrinsics.FxFyCxCy.{FxFyCxCy}
 use Rattle.camera_tilt.specs.declared.sensor.ScheimpflugParams.{ScheimpflugParams}
 use Rattle.seed_rules.specs.declared.CandidateSeed.{CandidateSeed}

@@ -1,9 +1,9 @@
 -- 01's rules about seeds, on lists of values: nearness, the bound, round 0's list, a later round's list. Definitions only.
 use mathlib.Core.Bool.{Bool, _&&_}
 use mathlib.Core.List.{List, [], _∷_, _++_, map}
-use lib.Ieee.{Float, binary64, ofBits, neg, lt, le}
+use lib.Ieee.{Float, neg, lt, le}
 use Rattle.float.specs.Float.{absOf}
-use Rattle.float.specs.Sign.{plusZero}
+use Rattle.float.specs.Literals.{plusZero, tenToMinus9, tenToMinus12}
 use Rattle.float.specs.Binary64.{_+₆₄_, _-₆₄_}
 use Rattle.camera_models.specs.declared.intrinsics.FxFyCxCy.{FxFyCxCy}
 use Rattle.camera_tilt.specs.declared.sensor.ScheimpflugParams.{ScheimpflugParams}
@@ -17,10 +17,10 @@ closer limit x y = lt (absOf (x -₆₄ y)) limit
 
 -- 1e-12 and 1e-9
 abbrev pub tiltLimit : Float
-tiltLimit = ofBits binary64 0x3d71_9799_812d_ea11
+tiltLimit = tenToMinus12
 
 abbrev pub cameraLimit : Float
-cameraLimit = ofBits binary64 0x3e11_2e0b_e826_d695
+cameraLimit = tenToMinus9
 
 unfoldable pub tiltNear : ScheimpflugParams → ScheimpflugParams → Bool
 tiltNear s t = closer tiltLimit (s .«tilt_x») (t .«tilt_x») && closer tiltLimit (s .«tilt_y») (t .«tilt_y»)

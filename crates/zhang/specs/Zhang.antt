@@ -1,10 +1,10 @@
 -- The camera of a conic, by the closed form of Zhang's paper (A flexible new technique for camera calibration, 2000, appendix B), each operation rounded.
 -- The names are the paper's: v0, λ, α, β, γ, u0. Definitions only.
 use mathlib.Core.Bool.{Bool, not, _&&_, cond}
-use lib.Ieee.{Float, binary64, ofBits, neg, lt, le}
+use lib.Ieee.{Float, binary64, neg, lt, le}
 use Rattle.float.specs.Binary64.{_+₆₄_, _-₆₄_, _*₆₄_, _/₆₄_}
 use Rattle.float.specs.Float.{absOf}
-use Rattle.float.specs.Sign.{plusZero}
+use Rattle.float.specs.Literals.{plusZero, tenToMinus6, tenToMinus12}
 use Rattle.root.specs.Root.{root}
 use Rattle.camera_models.specs.declared.intrinsics.FxFyCxCy.{FxFyCxCy}
 use Rattle.zhang.specs.declared.Conic.{Conic}
@@ -13,11 +13,11 @@ use Rattle.zhang.specs.declared.Estimate.the-variants.{Camera, Refused}
 
 -- 1e-6
 abbrev pub leastDefinite : Float
-leastDefinite = ofBits binary64 0x3eb0_c6f7_a0b5_ed8d
+leastDefinite = tenToMinus6
 
 -- 1e-12
 abbrev pub leastB11 : Float
-leastB11 = ofBits binary64 0x3d71_9799_812d_ea11
+leastB11 = tenToMinus12
 
 -- b11 b22 - b12²
 abbrev pub denom : Conic → Float

@@ -6,7 +6,7 @@ use borrow.Author.Needs.{needs}
 use lib.Ieee.{Float, lt, le}
 use Rattle.float.specs.Binary64.{_/₆₄_}
 use Rattle.float.specs.Float.{absOf}
-use Rattle.float.specs.Sign.{plusZero}
+use Rattle.float.specs.Literals.{plusZero}
 use Rattle.zhang.specs.declared.Conic.{Conic}
 use Rattle.zhang.specs.declared.Estimate.the-variants.{Camera, Refused}
 use Rattle.zhang.specs.Zhang.{definite, fromHomographies, leastDefinite, leastB11, denom, norm, lambda, cameraOf}
