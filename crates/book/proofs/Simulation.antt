@@ -167,22 +167,22 @@ openedWith r n s q =
       «run_best» = r .«run_best»;
     }
 
-opened-with : (r : Run) (n : ℕ) (s : Float) (q : Waiting) → rec.nextStep r ≡ s → r .waiting ≡ q → rec.opened r n ≡ openedWith r n s q
-unfolding rec.opened
+opened-with : (r : Run) (n : ℕ) (s : Float) (q : Waiting) → rec.nextStep r ≡ s → r .waiting ≡ q → rec.roundOpened r n ≡ openedWith r n s q
+unfolding rec.roundOpened
 opened-with r n s q e f = rw (e, f)
 
-open-run : (b : Book) (ss : List CandidateSeed) → b .waits ≡ false → rec.opened (runOf b) (length ss) ≡ runOf (withRound b ss)
+open-run : (b : Book) (ss : List CandidateSeed) → b .waits ≡ false → rec.roundOpened (runOf b) (length ss) ≡ runOf (withRound b ss)
 open-run b ss w = opened-with (runOf b) (length ss) (stepOf (suc (b .round)) (b .inputs .step)) rec.nobody (run-step b) (nobody-waits b w) ∙ rest b ss
   where
     rest : (b : Book) (ss : List CandidateSeed) → openedWith (runOf b) (length ss) (stepOf (suc (b .round)) (b .inputs .step)) rec.nobody ≡ runOf (withRound b ss)
     rest b ss = unfold runOf withRound roundBest runBest bestOf firstUnbeaten scoredOf in simp (append-nil, add-one)
 
-held-else : (a c : Chosen) → ans.orElse (held a) (held c) ≡ held (orElse a c)
+held-else : (a c : Chosen) → ans.orBest (held a) (held c) ≡ held (orElse a c)
 unfolding noBest
 held-else nothing c = refl
 held-else (chosen w) c = refl
 
-run-else : (b : Book) → ans.orElse (runOf b .«round_best») (runOf b .«run_best») ≡ held (orElse (roundBest b) (runBest b))
+run-else : (b : Book) → ans.orBest (runOf b .«round_best») (runOf b .«run_best») ≡ held (orElse (roundBest b) (runBest b))
 run-else b = rw (run-round-best b, run-run-best b) (held-else (roundBest b) (runBest b))
 
 round-bounded : (b : Book) (ss : List CandidateSeed) → Bounded b → b .round < b .inputs .rounds → length ss ≤ 9 → Bounded (withRound b ss)
@@ -194,7 +194,7 @@ round-bounded b ss h r n =
     record { few-rounds = h .few-rounds; in-rounds = r; least = h .least; most = h .most; counted = rw k (omega arith); at-most = omega arith }
 
 open-ends : (b : Book) (l : List Float) (s : CandidateSeed) (ss : List CandidateSeed) → Ending b l → b .round < b .inputs .rounds → length (s ∷ ss) ≤ 9
-    → Ends (ans.left (rec.opened (runOf b) (length (s ∷ ss))) (written (s ∷ ss) l)) (withRound b (s ∷ ss))
+    → Ends (ans.left (rec.roundOpened (runOf b) (length (s ∷ ss))) (written (s ∷ ss) l)) (withRound b (s ∷ ss))
 unfolding withRound
 open-ends b l s ss e r n = record {
   run = open-run b (s ∷ ss) (e .calm);

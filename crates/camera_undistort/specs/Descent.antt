@@ -10,16 +10,16 @@ use Rattle.camera_undistort.specs.Undistortion.{estimateAt, minusPoint, 
 use Rattle.camera_models.specs.declared.math.Pt2.{Pt2}
 use Rattle.camera_models.specs.declared.distortion.BrownConrady5.{BrownConrady5}
 use Rattle.camera_undistort.specs.declared.Estimate.{Estimate}
-use Rattle.camera_undistort.specs.declared.Search.{Search}
-use Rattle.camera_undistort.specs.declared.Search.the-variants.{Accepted, Exhausted}
+use Rattle.camera_undistort.specs.declared.TrialResult.{TrialResult}
+use Rattle.camera_undistort.specs.declared.TrialResult.the-variants.{Accepted, Exhausted}
 use Rattle.camera_undistort.specs.declared.Turn.{Turn}
-use Rattle.camera_undistort.specs.declared.Turn.the-variants.{Ended, Last, Next}
+use Rattle.camera_undistort.specs.declared.Turn.the-variants.{Ended, Last, Further}
 
 -- ---- the estimates that at most n turns from e accept, in their order
 abbrev pub follow : Turn → (Estimate → List Estimate) → List Estimate
 follow Ended more = []
 follow (Last next) more = next ∷ []
-follow (Next next) more = next ∷ more next
+follow (Further next) more = next ∷ more next
 
 unfoldable pub accepted : ℕ → BrownConrady5 → Pt2 → Estimate → List Estimate
 accepted zero b target e = []
@@ -48,11 +48,11 @@ unfolding improves
 improves-lower next e h = let p = both _ _ h in record { finite = p .0; lower = p .1 }
 
 -- what the trials accept improves
-abbrev Found : Estimate → Search → Type 0
+abbrev Found : Estimate → TrialResult → Type 0
 Found e Exhausted = Unit {0}
 Found e (Accepted next step) = Lower next e
 
-chosen : (c : Bool) (e next : Estimate) (step : Pt2) (s : Search) → c ≡ improves next e → Found e s → Found e (cond c (Accepted next step) s)
+chosen : (c : Bool) (e next : Estimate) (step : Pt2) (s : TrialResult) → c ≡ improves next e → Found e s → Found e (cond c (Accepted next step) s)
 chosen true e next step s h f = improves-lower next e (sym h)
 chosen false e next step s h f = f
 
@@ -67,13 +67,13 @@ found (suc n) b target e step =
 abbrev Taken : Estimate → Turn → Type 0
 Taken e Ended = Unit {0}
 Taken e (Last next) = Lower next e
-Taken e (Next next) = Lower next e
+Taken e (Further next) = Lower next e
 
-small-or-not : (c : Bool) (e next : Estimate) → Lower next e → Taken e (cond c (Last next) (Next next))
+small-or-not : (c : Bool) (e next : Estimate) → Lower next e → Taken e (cond c (Last next) (Further next))
 small-or-not true e next h = h
 small-or-not false e next h = h
 
-after : (e : Estimate) (s : Search) → Found e s → Taken e (afterTrials s)
+after : (e : Estimate) (s : TrialResult) → Found e s → Taken e (afterTrials s)
 unfolding afterTrials
 after e Exhausted f = tt
 after e (Accepted next step) f = small-or-not (smallStep step (next .point)) e next f
@@ -91,7 +91,7 @@ taken b target e =
 following : (e : Estimate) (t : Turn) (more : Estimate → List Estimate) → Taken e t → ((next : Estimate) → Falling next (more next)) → Falling e (follow t more)
 following e Ended more h f = tt
 following e (Last next) more h f = (h, tt)
-following e (Next next) more h f = (h, f next)
+following e (Further next) more h f = (h, f next)
 
 pub falling : (n : ℕ) (b : BrownConrady5) (target : Pt2) (e : Estimate) → Falling e (accepted n b target e)
 unfolding accepted
@@ -102,7 +102,7 @@ ends-at : (e : Estimate) (t : Turn) (more : Estimate → Estimate) (rest : Estim
     → thenBy e t more ≡ lastOf e (follow t rest)
 ends-at e Ended more rest h = refl
 ends-at e (Last next) more rest h = refl
-ends-at e (Next next) more rest h = h next
+ends-at e (Further next) more rest h = h next
 
 pub newton-ends-at : (n : ℕ) (b : BrownConrady5) (target : Pt2) (e : Estimate) → newton n b target e ≡ lastOf e (accepted n b target e)
 unfolding newton accepted

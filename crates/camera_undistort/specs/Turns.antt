@@ -7,8 +7,8 @@ use Rattle.camera_undistort.specs.Undistortion.{estimateAt, minusPoint, 
 use Rattle.camera_models.specs.declared.math.Pt2.{Pt2}
 use Rattle.camera_models.specs.declared.distortion.BrownConrady5.{BrownConrady5}
 use Rattle.camera_undistort.specs.declared.Estimate.{Estimate}
-use Rattle.camera_undistort.specs.declared.Search.the-variants.{Accepted, Exhausted}
-use Rattle.camera_undistort.specs.declared.Turn.the-variants.{Ended, Last, Next}
+use Rattle.camera_undistort.specs.declared.TrialResult.the-variants.{Accepted, Exhausted}
+use Rattle.camera_undistort.specs.declared.Turn.the-variants.{Ended, Last, Further}
 
 less-one : (n : ℕ) → suc n - 1 ≡ n
 less-one n = omega arith
@@ -43,7 +43,7 @@ module _ (b : BrownConrady5) (target : Pt2) (e next : Estimate) where
   newton-last zero h t = absurd (omega arith)
   newton-last (suc n) h t = rw t
 
-  pub newton-next : (n : ℕ) → 0 < n → newtonTurn b target e ≡ Next next → newton n b target e ≡ newton (n - 1) b target next
+  pub newton-next : (n : ℕ) → 0 < n → newtonTurn b target e ≡ Further next → newton n b target e ≡ newton (n - 1) b target next
   unfolding newton
   newton-next zero h t = absurd (omega arith)
   newton-next (suc n) h t = rw (t, less-one n)

@@ -12,10 +12,10 @@ use Rattle.camera_models.specs.declared.math.Pt2.{Pt2}
 use Rattle.camera_models.specs.declared.distortion.BrownConrady5.{BrownConrady5}
 use Rattle.camera_models.specs.declared.distortion.Jacobian.{Jacobian}
 use Rattle.camera_undistort.specs.declared.Estimate.{Estimate}
-use Rattle.camera_undistort.specs.declared.Search.{Search}
-use Rattle.camera_undistort.specs.declared.Search.the-variants.{Accepted, Exhausted}
+use Rattle.camera_undistort.specs.declared.TrialResult.{TrialResult}
+use Rattle.camera_undistort.specs.declared.TrialResult.the-variants.{Accepted, Exhausted}
 use Rattle.camera_undistort.specs.declared.Turn.{Turn}
-use Rattle.camera_undistort.specs.declared.Turn.the-variants.{Ended, Last, Next}
+use Rattle.camera_undistort.specs.declared.Turn.the-variants.{Ended, Last, Further}
 
 abbrev pub minusPoint : Pt2 → Pt2 → Pt2
 minusPoint p q = record { x = p .x -₆₄ q .x; y = p .y -₆₄ q .y }
@@ -38,8 +38,8 @@ unfoldable pub singular : Jacobian → Bool
 singular j = eq (jacobianDeterminant j) plusZero || not (isFinite (jacobianDeterminant j))
 
 -- the inverse Jacobian times the error
-unfoldable pub stepOf : Jacobian → Pt2 → Pt2
-stepOf j error =
+unfoldable pub stepBy : Jacobian → Pt2 → Pt2
+stepBy j error =
     let det = jacobianDeterminant j in
     record {
       x = (j .yy *₆₄ error .x -₆₄ j .xy *₆₄ error .y) /₆₄ det;
@@ -47,14 +47,14 @@ stepOf j error =
     }
 
 abbrev pub newtonStep : Estimate → Pt2
-newtonStep e = stepOf (e .jacobian) (e .error)
+newtonStep e = stepBy (e .jacobian) (e .error)
 
 -- an estimate is taken in place of e where its squared residual is finite and lower
 unfoldable pub improves : Estimate → Estimate → Bool
 improves next e = isFinite (squaredResidual next) && lt (squaredResidual next) (squaredResidual e)
 
 -- at most n trials, each with half₆₄ the step of the one₆₄ before: the first that improves on e, with its step
-unfoldable pub trials : ℕ → BrownConrady5 → Pt2 → Estimate → Pt2 → Search
+unfoldable pub trials : ℕ → BrownConrady5 → Pt2 → Estimate → Pt2 → TrialResult
 trials zero b target e step = Exhausted
 trials (suc n) b target e step =
     let next = estimateAt b target (minusPoint (e .point) step) in
@@ -65,9 +65,9 @@ unfoldable pub smallStep : Pt2 → Pt2 → Bool
 smallStep step p = le (squaredNorm step) (tolerance *₆₄ (one₆₄ +₆₄ p .x *₆₄ p .x +₆₄ p .y *₆₄ p .y))
 
 -- after the trials: an accepted estimate is the last where its step was small
-unfoldable pub afterTrials : Search → Turn
+unfoldable pub afterTrials : TrialResult → Turn
 afterTrials Exhausted = Ended
-afterTrials (Accepted next step) = cond (smallStep step (next .point)) (Last next) (Next next)
+afterTrials (Accepted next step) = cond (smallStep step (next .point)) (Last next) (Further next)
 
 -- one₆₄ turn of the method: it also ends at an exact solution and at a singular Jacobian
 unfoldable pub newtonTurn : BrownConrady5 → Pt2 → Estimate → Turn
@@ -80,7 +80,7 @@ newtonTurn b target e =
 abbrev pub thenBy : Estimate → Turn → (Estimate → Estimate) → Estimate
 thenBy e Ended more = e
 thenBy e (Last next) more = next
-thenBy e (Next next) more = more next
+thenBy e (Further next) more = more next
 
 -- at most n turns
 unfoldable pub newton : ℕ → BrownConrady5 → Pt2 → Estimate → Estimate

@@ -3,7 +3,7 @@
 
 ghost use mathlib.Core.Path.{_≡_};
 ghost use Rattle.camera_models.specs.Distortion.{squaredNorm};
-ghost use Rattle.camera_undistort.specs.Undistortion.{minusPoint, halved, estimateAt, jacobianDeterminant, singular, stepOf, improves, trials, smallStep, afterTrials, newtonTurn, lastStep, newtonUndistorted, undistorted};
+ghost use Rattle.camera_undistort.specs.Undistortion.{minusPoint, halved, estimateAt, jacobianDeterminant, singular, stepBy, improves, trials, smallStep, afterTrials, newtonTurn, lastStep, newtonUndistorted, undistorted};
 use camera_models::distortion::BrownConrady5;
 use camera_models::distortion::Jacobian;
 use camera_models::distortion::distort_with_jacobian;
@@ -17,7 +17,7 @@ pub struct Estimate {
 }
 
 // What the trials find: an estimate with its step, or nothing.
-pub enum Search {
+pub enum TrialResult {
     Accepted(Estimate, Pt2),
     Exhausted,
 }
@@ -26,7 +26,7 @@ pub enum Search {
 pub enum Turn {
     Ended,
     Last(Estimate),
-    Next(Estimate),
+    Further(Estimate),
 }
 
 fn squared_norm(p: Pt2) -> f64
@@ -70,7 +70,7 @@ fn is_singular(j: Jacobian) -> bool
 }
 
 fn newton_step(j: Jacobian, error: Pt2) -> Pt2
-    ensures { λ r. ⌜ r ≡ stepOf j error ⌝ }
+    ensures { λ r. ⌜ r ≡ stepBy j error ⌝ }
 {
     let det = jacobian_determinant(j);
     Pt2 {
@@ -96,7 +96,7 @@ fn half_of(p: Pt2) -> Pt2
 }
 
 // The first of 30 steps, each half of the one before, after which the estimate is better.
-fn line_search(b: BrownConrady5, target: Pt2, e: Estimate, first: Pt2) -> Search
+fn line_search(b: BrownConrady5, target: Pt2, e: Estimate, first: Pt2) -> TrialResult
     ensures { λ r. ⌜ r ≡ trials 30 b target e first ⌝ }
 {
     let mut step = first;
@@ -104,12 +104,12 @@ fn line_search(b: BrownConrady5, target: Pt2, e: Estimate, first: Pt2) -> Search
     while left > 0 {
         let next = estimate_at(b, target, difference(e.point, step));
         if is_better(next, e) {
-            return Search::Accepted(next, step);
+            return TrialResult::Accepted(next, step);
         }
         step = half_of(step);
         left -= 1;
     }
-    Search::Exhausted
+    TrialResult::Exhausted
 }
 
 // Whether the step is below a few units in the last place of the point that it led to.
@@ -121,16 +121,16 @@ fn is_small(step: Pt2, p: Pt2) -> bool
     squared_norm(step) <= tolerance * (1.0 + p.x * p.x + p.y * p.y)
 }
 
-fn after_trials(found: Search) -> Turn
+fn after_trials(found: TrialResult) -> Turn
     ensures { λ r. ⌜ r ≡ afterTrials found ⌝ }
 {
     match found {
-        Search::Exhausted => Turn::Ended,
-        Search::Accepted(next, step) => {
+        TrialResult::Exhausted => Turn::Ended,
+        TrialResult::Accepted(next, step) => {
             if is_small(step, next.point) {
                 Turn::Last(next)
             } else {
-                Turn::Next(next)
+                Turn::Further(next)
             }
         }
     }
@@ -172,7 +172,7 @@ fn newton_undistort(b: BrownConrady5, n_dist: Pt2, max_iters: u32) -> Pt2
             Turn::Last(next) => {
                 return last_step(next);
             }
-            Turn::Next(next) => {
+            Turn::Further(next) => {
                 e = next;
             }
         }

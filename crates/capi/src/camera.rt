@@ -8,7 +8,7 @@ ghost use Rattle.camera_tilt.specs.Sensor.{tiltProjectionMatrix, applyHomograph
 ghost use Rattle.camera_models.specs.Distortion.{distorted, distortedWithJacobian};
 ghost use Rattle.camera_undistort.specs.Undistortion.{undistorted};
 ghost use Rattle.zhang.specs.Zhang.{fromHomographies};
-ghost use Rattle.capi_records.specs.Camera.{rowsOf, flatMatrix, flatInverse, flatEstimate};
+ghost use Rattle.capi_records.specs.Camera.{matrixOf, flatMatrix, flatInverse, flatEstimate};
 use camera_models::distortion;
 use camera_models::distortion::BrownConrady5;
 use camera_models::distortion::DistortedPoint;
@@ -56,28 +56,28 @@ pub extern "C" fn jc_tilt_projection_matrix(trig: TiltTrig) -> Matrix3
 
 #[no_mangle]
 pub extern "C" fn jc_determinant(m: Matrix3) -> f64
-    ensures { λ r. ⌜ r ≡ determinantOf (rowsOf m) ⌝ }
+    ensures { λ r. ⌜ r ≡ determinantOf (matrixOf m) ⌝ }
 {
     matrix::determinant(rows_of(m))
 }
 
 #[no_mangle]
 pub extern "C" fn jc_inverse(m: Matrix3) -> InverseReply
-    ensures { λ r. ⌜ r ≡ flatInverse (rowsOf m) ⌝ }
+    ensures { λ r. ⌜ r ≡ flatInverse (matrixOf m) ⌝ }
 {
     inverse_reply(rows_of(m))
 }
 
 #[no_mangle]
 pub extern "C" fn jc_apply_homography(h: Matrix3, p: Pt2) -> Pt2
-    ensures { λ r. ⌜ r ≡ applyHomography (rowsOf h) p ⌝ }
+    ensures { λ r. ⌜ r ≡ applyHomography (matrixOf h) p ⌝ }
 {
     sensor::apply_homography(rows_of(h), p)
 }
 
 #[no_mangle]
 pub extern "C" fn jc_apply_homography_inverse(h_inv: Matrix3, p: Pt2) -> Pt2
-    ensures { λ r. ⌜ r ≡ applyHomographyInverse (rowsOf «h_inv») p ⌝ }
+    ensures { λ r. ⌜ r ≡ applyHomographyInverse (matrixOf «h_inv») p ⌝ }
 {
     sensor::apply_homography_inverse(rows_of(h_inv), p)
 }

@@ -4,7 +4,7 @@ ghost use Rattle.search_start.specs.Start.{startReply, startList};
 ghost use Rattle.search_calls.specs.Next.{nextDef, seedPart};
 ghost use Rattle.search_answer.specs.Answer.{answerDef};
 ghost use Rattle.search_calls.specs.Result.{resultDef};
-ghost use Rattle.capi_records.specs.Record.{runOf};
+ghost use Rattle.capi_records.specs.Record.{runFrom};
 ghost use Rattle.capi_records.specs.Run.{flatStarted, flatNext, flatAnswer, flatResult, findingOf, copied, copyCount};
 use camera_models::intrinsics::FxFyCxCy;
 use camera_models::math::Pt2;
@@ -53,7 +53,7 @@ pub extern "C" fn jc_start(
 // Next: the number of the candidate whose seed is handed out.
 #[no_mangle]
 pub extern "C" fn jc_next(run: RunRecord, list: &[f64]) -> NextFlat
-    ensures { λ r. ⌜ r ≡ flatNext (nextDef (runOf run) (now (list .entry))) ⌝ }
+    ensures { λ r. ⌜ r ≡ flatNext (nextDef (runFrom run) (now (list .entry))) ⌝ }
 {
     next_flat(search_calls::next::next(run_of(run), list))
 }
@@ -61,8 +61,8 @@ pub extern "C" fn jc_next(run: RunRecord, list: &[f64]) -> NextFlat
 // The seed call: the waiting seed's six numbers are copied to the front of `to`. How many were copied: 6, or 0 where none waits or `to` is too short.
 #[no_mangle]
 pub extern "C" fn jc_seed(run: RunRecord, list: &[f64], to: &mut [f64]) -> usize
-    ensures count { λ r. ⌜ r ≡ copyCount (seedPart (runOf run) (now (list .entry))) (now (to .entry)) ⌝ }
-    ensures copy { λ _. ⌜ now (to .exit) ≡ copied (seedPart (runOf run) (now (list .entry))) (now (to .entry)) ⌝ }
+    ensures count { λ r. ⌜ r ≡ copyCount (seedPart (runFrom run) (now (list .entry))) (now (to .entry)) ⌝ }
+    ensures copy { λ _. ⌜ now (to .exit) ≡ copied (seedPart (runFrom run) (now (list .entry))) (now (to .entry)) ⌝ }
 {
     copy_part(search_calls::next::seed(run_of(run), list), to)
 }
@@ -77,8 +77,8 @@ pub extern "C" fn jc_answer(
     flags: &[u8],
     list: &mut [f64],
 ) -> AnswerFlat
-    ensures reply { λ r. ⌜ r ≡ flatAnswer (answerDef (runOf run) (findingOf «is_solved» solved) (now (rows .entry)) (now (flags .entry)) (now (list .entry)) .reply) ⌝ }
-    ensures written { λ _. ⌜ now (list .exit) ≡ answerDef (runOf run) (findingOf «is_solved» solved) (now (rows .entry)) (now (flags .entry)) (now (list .entry)) .list ⌝ }
+    ensures reply { λ r. ⌜ r ≡ flatAnswer (answerDef (runFrom run) (findingOf «is_solved» solved) (now (rows .entry)) (now (flags .entry)) (now (list .entry)) .reply) ⌝ }
+    ensures written { λ _. ⌜ now (list .exit) ≡ answerDef (runFrom run) (findingOf «is_solved» solved) (now (rows .entry)) (now (flags .entry)) (now (list .entry)) .list ⌝ }
 {
     answer_flat(search_answer::answer(
         run_of(run),
@@ -92,7 +92,7 @@ pub extern "C" fn jc_answer(
 // Result: the run's best, once it is over.
 #[no_mangle]
 pub extern "C" fn jc_result(run: RunRecord) -> ResultFlat
-    ensures { λ r. ⌜ r ≡ flatResult (resultDef (runOf run)) ⌝ }
+    ensures { λ r. ⌜ r ≡ flatResult (resultDef (runFrom run)) ⌝ }
 {
     result_flat(search_calls::result::result(run_of(run)))
 }

@@ -5,15 +5,15 @@ use lib.Dec.{eqb}
 use Rattle.float.specs.Literals.{plusZero}
 use Rattle.camera_tilt.specs.Matrix.{Matrix, at, inverseOf}
 use Rattle.camera_tilt.specs.Sensor.{tiltVerdict, tiltNumber}
-use Rattle.zhang.specs.declared.Estimate.{Estimate}
-use Rattle.zhang.specs.declared.Estimate.the-variants.{Camera, Refused}
+use Rattle.zhang.specs.declared.Estimated.{Estimated}
+use Rattle.zhang.specs.declared.Estimated.the-variants.{Camera, Refused}
 use Rattle.capi_records.specs.declared.camera.Matrix3.{Matrix3}
 use Rattle.capi_records.specs.declared.camera.InverseReply.{InverseReply}
 use Rattle.capi_records.specs.declared.camera.CameraReply.{CameraReply}
 
 -- the nine numbers as three rows
-abbrev pub rowsOf : Matrix3 → Matrix
-rowsOf m = (m .m00 ∷ m .m01 ∷ m .m02 ∷ []) ∷ (m .m10 ∷ m .m11 ∷ m .m12 ∷ []) ∷ (m .m20 ∷ m .m21 ∷ m .m22 ∷ []) ∷ []
+abbrev pub matrixOf : Matrix3 → Matrix
+matrixOf m = (m .m00 ∷ m .m01 ∷ m .m02 ∷ []) ∷ (m .m10 ∷ m .m11 ∷ m .m12 ∷ []) ∷ (m .m20 ∷ m .m21 ∷ m .m22 ∷ []) ∷ []
 
 -- and back
 abbrev pub flatMatrix : Matrix → Matrix3
@@ -49,6 +49,6 @@ flatInverse h =
     cond (eqb n 0) (record { number = 0; inverse = flatMatrix (inverseOf h) }) (record { number = n; inverse = noMatrix })
 
 -- 01, 'Conic to camera': the camera, or 16
-abbrev pub flatEstimate : Estimate → CameraReply
+abbrev pub flatEstimate : Estimated → CameraReply
 flatEstimate (Camera k) = record { number = 0; camera = k }
 flatEstimate (Refused n) = record { number = n; camera = record { fx = plusZero; fy = plusZero; cx = plusZero; cy = plusZero } }

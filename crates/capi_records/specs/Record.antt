@@ -20,32 +20,32 @@ flagOf b = cond b 1 0
 abbrev pub isSet : ℕ → Bool
 isSet n = not (eqb n 0)
 
-abbrev pub placeOf : PlaceRecord → Place
-placeOf p = record { demand = p .demand; round = p .round; step = p .step; len = p .len; at = p .at; number = p .number; over = isSet (p .over) }
+abbrev pub placeFrom : PlaceRecord → Place
+placeFrom p = record { demand = p .demand; round = p .round; step = p .step; len = p .len; at = p .at; number = p .number; over = isSet (p .over) }
 
 abbrev pub flatPlace : Place → PlaceRecord
 flatPlace p = record { demand = p .demand; round = p .round; step = p .step; len = p .len; at = p .at; number = p .number; over = flagOf (p .over) }
 
-abbrev pub waitingOf : WaitingRecord → Waiting
-waitingOf w = record { «is_waiting» = isSet (w .«is_waiting»); seed = w .seed }
+abbrev pub waitingFrom : WaitingRecord → Waiting
+waitingFrom w = record { «is_waiting» = isSet (w .«is_waiting»); seed = w .seed }
 
 abbrev pub flatWaiting : Waiting → WaitingRecord
 flatWaiting w = record { «is_waiting» = flagOf (w .«is_waiting»); seed = w .seed }
 
-abbrev pub bestOf : BestRecord → Best
-bestOf b = record { found = isSet (b .found); candidate = b .candidate }
+abbrev pub bestFrom : BestRecord → Best
+bestFrom b = record { found = isSet (b .found); candidate = b .candidate }
 
 abbrev pub flatBest : Best → BestRecord
 flatBest b = record { found = flagOf (b .found); candidate = b .candidate }
 
-abbrev pub runOf : RunRecord → Run
-runOf r = record {
+abbrev pub runFrom : RunRecord → Run
+runFrom r = record {
   options = r .options;
   center = r .center;
-  place = placeOf (r .place);
-  waiting = waitingOf (r .waiting);
-  «round_best» = bestOf (r .«round_best»);
-  «run_best» = bestOf (r .«run_best»);
+  place = placeFrom (r .place);
+  waiting = waitingFrom (r .waiting);
+  «round_best» = bestFrom (r .«round_best»);
+  «run_best» = bestFrom (r .«run_best»);
 }
 
 abbrev pub flatRun : Run → RunRecord

@@ -2,11 +2,11 @@
 use mathlib.Core.Path.{_≡_, refl}
 use mathlib.Core.Bool.{Bool, true, false}
 use Rattle.search_record.specs.declared.run.Run.{Run}
-use Rattle.capi_records.specs.Record.{flagOf, isSet, runOf, flatRun}
+use Rattle.capi_records.specs.Record.{flagOf, isSet, runFrom, flatRun}
 
 set-flag : (b : Bool) → isSet (flagOf b) ≡ b
 set-flag true = refl
 set-flag false = refl
 
-pub run-back : (r : Run) → runOf (flatRun r) ≡ r
+pub run-back : (r : Run) → runFrom (flatRun r) ≡ r
 run-back r = simp (set-flag (r .place .over), set-flag (r .waiting .«is_waiting»), set-flag (r .«round_best» .found), set-flag (r .«run_best» .found))

@@ -1,10 +1,10 @@
 // A matrix, its inverse and an estimated camera.
 ghost use mathlib.Core.Path.{_≡_};
-ghost use Rattle.capi_records.specs.Camera.{rowsOf, flatMatrix, noMatrix, flatInverse, flatEstimate};
+ghost use Rattle.capi_records.specs.Camera.{matrixOf, flatMatrix, noMatrix, flatInverse, flatEstimate};
 use camera_models::intrinsics::FxFyCxCy;
 use camera_tilt::matrix;
 use camera_tilt::sensor;
-use zhang::Estimate;
+use zhang::Estimated;
 
 // Three rows of three numbers.
 #[repr(C)]
@@ -35,7 +35,7 @@ pub struct CameraReply {
 }
 
 pub fn rows_of(m: Matrix3) -> [[f64; 3]; 3]
-    ensures { λ r. ⌜ r ≡ rowsOf m ⌝ }
+    ensures { λ r. ⌜ r ≡ matrixOf m ⌝ }
 {
     [
         [m.m00, m.m01, m.m02],
@@ -95,15 +95,15 @@ pub fn inverse_reply(h: [[f64; 3]; 3]) -> InverseReply
     }
 }
 
-pub fn estimate_reply(e: Estimate) -> CameraReply
+pub fn estimate_reply(e: Estimated) -> CameraReply
     ensures { λ r. ⌜ r ≡ flatEstimate e ⌝ }
 {
     match e {
-        Estimate::Camera(k) => CameraReply {
+        Estimated::Camera(k) => CameraReply {
             number: 0,
             camera: k,
         },
-        Estimate::Refused(n) => CameraReply {
+        Estimated::Refused(n) => CameraReply {
             number: n,
             camera: FxFyCxCy {
                 fx: 0.0,

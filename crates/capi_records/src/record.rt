@@ -1,6 +1,6 @@
 // The run's record with its flags as bytes, and the ways there and back.
 ghost use mathlib.Core.Path.{_≡_};
-ghost use Rattle.capi_records.specs.Record.{flagOf, placeOf, flatPlace, waitingOf, flatWaiting, bestOf, flatBest, runOf, flatRun, noRun};
+ghost use Rattle.capi_records.specs.Record.{flagOf, placeFrom, flatPlace, waitingFrom, flatWaiting, bestFrom, flatBest, runFrom, flatRun, noRun};
 use camera_models::math::Pt2;
 use score_best::Best;
 use score_best::Candidate;
@@ -50,7 +50,7 @@ pub fn flag(b: bool) -> u8
 }
 
 fn place_of(p: PlaceRecord) -> Place
-    ensures { λ r. ⌜ r ≡ placeOf p ⌝ }
+    ensures { λ r. ⌜ r ≡ placeFrom p ⌝ }
 {
     Place {
         demand: p.demand,
@@ -78,7 +78,7 @@ fn place_record(p: Place) -> PlaceRecord
 }
 
 fn waiting_of(w: WaitingRecord) -> Waiting
-    ensures { λ r. ⌜ r ≡ waitingOf w ⌝ }
+    ensures { λ r. ⌜ r ≡ waitingFrom w ⌝ }
 {
     let seed = w.seed;
     Waiting {
@@ -98,7 +98,7 @@ fn waiting_record(w: Waiting) -> WaitingRecord
 }
 
 fn best_of(b: BestRecord) -> Best
-    ensures { λ r. ⌜ r ≡ bestOf b ⌝ }
+    ensures { λ r. ⌜ r ≡ bestFrom b ⌝ }
 {
     let candidate = b.candidate;
     Best {
@@ -118,7 +118,7 @@ fn best_record(b: Best) -> BestRecord
 }
 
 pub fn run_of(r: RunRecord) -> Run
-    ensures { λ s. ⌜ s ≡ runOf r ⌝ }
+    ensures { λ s. ⌜ s ≡ runFrom r ⌝ }
 {
     let options = r.options;
     let center = r.center;

@@ -15,7 +15,7 @@ use Rattle.score_camera.specs.Penalties.{distortionPenalty, tiltPenalty, centre
 use Rattle.score_rows.specs.Rows.{rowsOf, tiltMatrix, projected, distanceOf, rowError, isCounted, countedErrors, summed, errorSum, meanOf}
 use Rattle.score_outcome.specs.Evaluation.{anyAboveOne, solvedRefusal, findingRefusal, meanWith, scoringOf, evaluated, outcomeOf}
 use Rattle.score_best.specs.Best.{beats, unbeaten, firstUnbeaten, bestOf, noBest, isBetter, improved}
-use Rattle.search_record.specs.Record.{hasPlace, sound, awaiting, withOutcome, entered, nextStep, opened, ended}
+use Rattle.search_record.specs.Record.{hasPlace, sound, awaiting, withOutcome, entered, nextStep, roundOpened, ended}
 use Rattle.search_start.specs.Start.{goodSeed, tooMany, demandOf, openingOf, startReply, startList}
 use Rattle.search_calls.specs.Next.{nextDef, seedLent, seedPart}
 use Rattle.search_answer.specs.Answer.{nextSeeds, closeRound, enterDef, answerDef}
@@ -31,5 +31,5 @@ pub record OnWalk : Type 0 where
   pub whole : walkFrom wholeInputs wholeCalls ≡ wholeReplies
 
 pub on-walk : OnWalk
-unfolding every absOf isFinite minOf maxOf clampOf rootIn isqrt rootOf root productOf firstOther secondOther minorOf cofactorOf determinantOf inverseOf tiltProjectionMatrix tiltVerdict forwardDepth inverseDepth applyHomography applyHomographyInverse radialFactor tangentialX tangentialY distorted jacobianRadial radialDerivative jacobianAt keep hasNear firstNear push mergedInto closer tiltNear cameraNear near within inBound pairs seedGrid initialList offsets nextList laid readFrom damped finiteIntrinsics finiteDistortion validCamera distortionPenalty tiltPenalty centrePenalty scoreOf rowsOf tiltMatrix projected distanceOf rowError isCounted countedErrors summed errorSum meanOf anyAboveOne solvedRefusal findingRefusal meanWith scoringOf evaluated outcomeOf beats unbeaten firstUnbeaten bestOf noBest isBetter improved hasPlace sound awaiting withOutcome entered nextStep opened ended goodSeed tooMany demandOf openingOf startReply startList nextDef seedLent seedPart nextSeeds closeRound enterDef answerDef resultDef runCall walk add sub mul div neg lt le eq isNan ofBits ofInt sum round units odd size span climb
+unfolding every absOf isFinite minOf maxOf clampOf rootIn isqrt rootOf root productOf firstOther secondOther minorOf cofactorOf determinantOf inverseOf tiltProjectionMatrix tiltVerdict forwardDepth inverseDepth applyHomography applyHomographyInverse radialFactor tangentialX tangentialY distorted jacobianRadial radialDerivative jacobianAt keep hasNear firstNear push mergedInto closer tiltNear cameraNear near within inBound pairs seedGrid initialList offsets nextList laid readFrom damped finiteIntrinsics finiteDistortion validCamera distortionPenalty tiltPenalty centrePenalty scoreOf rowsOf tiltMatrix projected distanceOf rowError isCounted countedErrors summed errorSum meanOf anyAboveOne solvedRefusal findingRefusal meanWith scoringOf evaluated outcomeOf beats unbeaten firstUnbeaten bestOf noBest isBetter improved hasPlace sound awaiting withOutcome entered nextStep roundOpened ended goodSeed tooMany demandOf openingOf startReply startList nextDef seedLent seedPart nextSeeds closeRound enterDef answerDef resultDef runCall walk add sub mul div neg lt le eq isNan ofBits ofInt sum round units odd size span climb
 on-walk = record { empty = refl; failed = refl; whole = refl }

@@ -14,7 +14,7 @@ use Rattle.camera_tilt.specs.Sensor.{tiltProjectionMatrix, tiltVerdict, applyHo
 use Rattle.point_maps.specs.declared.centre.Center.{Center}
 use Rattle.point_maps.specs.Centre.{centerReply}
 use Rattle.zhang.specs.declared.Conic.{Conic}
-use Rattle.zhang.specs.declared.Estimate.{Estimate}
+use Rattle.zhang.specs.declared.Estimated.{Estimated}
 use Rattle.zhang.specs.Zhang.{fromHomographies}
 use Rattle.seed_rules.specs.Rules.{seedWith, initialList, offsets, nextList}
 use Rattle.score_camera.specs.Penalties.{tiltPenalty}
@@ -36,7 +36,7 @@ pub data Case : Type 0 where
   tilt : Float → Float → Float → Float → Tilt → Case
   forward backward : Matrix → Pt2 → Pt2 → Case
   centre : List Float → Center → Case
-  conic : Conic → Estimate → Case
+  conic : Conic → Estimated → Case
   -- typed tilts of each axis and the bound, around a centre with a step and the bound: the tilts of the list
   typed : List Float → List Float → Float → List ScheimpflugParams → Case
   around : ScheimpflugParams → Float → Float → List ScheimpflugParams → Case

@@ -14,8 +14,8 @@ use Rattle.point_maps.specs.declared.centre.Center.the-variants.{At}
 use Rattle.point_normalise.specs.Points.{foldPoints}
 use Rattle.point_maps.specs.Centre.{extentOf, centerOf, centerReply}
 use Rattle.zhang.specs.declared.Conic.{Conic}
-use Rattle.zhang.specs.declared.Estimate.{Estimate}
-use Rattle.zhang.specs.declared.Estimate.the-variants as estimate
+use Rattle.zhang.specs.declared.Estimated.{Estimated}
+use Rattle.zhang.specs.declared.Estimated.the-variants as estimate
 use Rattle.zhang.specs.Zhang.{definite, fromHomographies}
 use Rattle.seed_rules.specs.Merge.{keep, hasNear, push, mergedInto}
 use Rattle.seed_rules.specs.Rules.{closer, tiltNear, near, within, inBound, tilts, pairs, seedGrid, initialList, offsets, nextList}
@@ -32,7 +32,7 @@ diagonal = (whole 1 ∷ whole 0 ∷ whole 0 ∷ []) ∷ (whole 0 ∷ whole 1 ∷
 abbrev conicOf : Float → Float → Float → Float → Float → Float → Conic
 conicOf b11 b12 b22 b13 b23 b33 = record { b11 = b11; b12 = b12; b22 = b22; b13 = b13; b23 = b23; b33 = b33 }
 
-abbrev chosen : Estimate
+abbrev chosen : Estimated
 chosen = estimate.Camera (record { fx = whole 2; fy = whole 2; cx = whole 3; cy = whole 1 })
 
 -- 0.125, 0.25, 0.5

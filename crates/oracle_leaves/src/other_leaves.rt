@@ -23,7 +23,7 @@ use point_maps::centre;
 use point_maps::centre::Center;
 use score_camera::pinhole;
 use zhang::Conic;
-use zhang::Estimate;
+use zhang::Estimated;
 
 fn met_row(x: &[f64], at: usize, row: [f64; 3]) -> usize {
     expected::met(x, at, &row)
@@ -84,10 +84,10 @@ fn conic_of(x: &[f64]) -> Conic {
     }
 }
 
-fn met_estimate(x: &[f64], at: usize, estimate: Estimate) -> usize {
+fn met_estimate(x: &[f64], at: usize, estimate: Estimated) -> usize {
     match estimate {
-        Estimate::Refused(number) => met_whole(x, at, wide(number)),
-        Estimate::Camera(k) => {
+        Estimated::Refused(number) => met_whole(x, at, wide(number)),
+        Estimated::Camera(k) => {
             let numbers = [0.0, k.fx, k.fy, k.cx, k.cy];
             expected::met(x, at, &numbers)
         }

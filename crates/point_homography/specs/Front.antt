@@ -13,7 +13,7 @@ use Rattle.common.specs.Refusal.{_when_, firstRefusal}
 use Rattle.common.specs.RefusalLaws.{refuses-none}
 use Rattle.point_normalise.specs.Points.{badLength}
 use Rattle.point_normalise.specs.Linalg.{degenerate, similarityOf, moveXY, movePoints, normalizeRefusal, normalizeInto}
-use Rattle.point_homography.specs.Rows.{pointsRefusal, orElse, rowsOf, rowsRefusal, rowsInto}
+use Rattle.point_homography.specs.Rows.{pointsRefusal, orElse, designRows, rowsRefusal, rowsInto}
 use Rattle.point_normalise.specs.Walk.{each-length}
 use Rattle.point_homography.specs.RowsLaws.{fine, rows-length}
 
@@ -50,14 +50,14 @@ or-none zero n h = refl
 or-none (suc m) n h = h
 
 pub rows-front : (src dst a : List Float) → rowsRefusal src dst (length a) ≡ 0
-    → Front (9 * length src) (rowsOf (similarityOf src) (similarityOf dst) src dst) a (rowsInto src dst a)
+    → Front (9 * length src) (designRows (similarityOf src) (similarityOf dst) src dst) a (rowsInto src dst a)
 unfolding rowsRefusal rowsInto
 rows-front src dst a h =
     let room = length a in
     let f = fine src dst room (or-none (pointsRefusal src dst room) (firstRefusal ((26 when degenerate src) ∷ (26 when degenerate dst) ∷ [])) h) in
     let e = even-length (length src) (f .even) in
     let n = rows-length (similarityOf src) (similarityOf dst) src dst (f .count) in
-    rw h (front (9 * length src) (rowsOf (similarityOf src) (similarityOf dst) src dst) a (omega arith))
+    rw h (front (9 * length src) (designRows (similarityOf src) (similarityOf dst) src dst) a (omega arith))
 
 pub rows-refused : (src dst a : List Float) → (rowsRefusal src dst (length a) ≡ 0 → ⊥) → rowsInto src dst a ≡ a
 unfolding rowsInto

@@ -37,11 +37,8 @@ crossOf p0 p1 p2 = (p1 .x -₆₄ p0 .x) *₆₄ (p2 .y -₆₄ p0 .y) -₆₄ (
 unfoldable pub offLine : Pt2 → Pt2 → Pt2 → Bool
 offLine p0 p1 p2 = not (le (distanceOf p2 p0) leastDistance) && lt leastCross (absOf (crossOf p0 p1 p2))
 
-abbrev pub yes : Pt2 → Bool
-yes p = true
-
 abbrev pub anyOff : Pt2 → Pt2 → List Float → Bool
-anyOff p0 p1 s = findPoint (offLine p0 p1) yes false s
+anyOff p0 p1 s = findPoint (offLine p0 p1) (λ p. true) false s
 
 -- The line goes through p0, the first point, and another one. Where there is none all points are in one place, and collinear.
 unfoldable pub along : Pt2 → Distinct → List Float → Bool

@@ -59,8 +59,8 @@ pairRows p q = firstRow p q ++ secondRow p q
 abbrev pub movedRows : Similarity → Similarity → Pt2 → Pt2 → List Float
 movedRows ts td p q = pairRows (moveBy ts p) (moveBy td q)
 
-abbrev pub rowsOf : Similarity → Similarity → List Float → List Float → List Float
-rowsOf ts td src dst = eachPair (movedRows ts td) src dst
+abbrev pub designRows : Similarity → Similarity → List Float → List Float → List Float
+designRows ts td src dst = eachPair (movedRows ts td) src dst
 
 -- ---- the refusals: 17 for either list; 18 for less room than 18 numbers a source point; 20, 21 a number that isn't finite;
 -- 22 fewer than 4 source points; 23 counts that differ; 24, 25 collinear points; and last 26, where no similarity is found
@@ -72,8 +72,8 @@ placeConditions src dst =
     ∷ (25 when collinearOf dst)
     ∷ []
 
-abbrev pub conditions : List Float → List Float → ℕ → List Check
-conditions src dst room =
+abbrev pub designConditions : List Float → List Float → ℕ → List Check
+designConditions src dst room =
     (17 when badLength (length src))
     ∷ (17 when badLength (length dst))
     ∷ (18 when ltb room (9 * length src))
@@ -82,7 +82,7 @@ conditions src dst room =
     ∷ placeConditions src dst
 
 abbrev pub pointsRefusal : List Float → List Float → ℕ → ℕ
-pointsRefusal src dst room = firstRefusal (conditions src dst room)
+pointsRefusal src dst room = firstRefusal (designConditions src dst room)
 
 abbrev pub orElse : ℕ → ℕ → ℕ
 orElse zero n = n
@@ -100,4 +100,4 @@ rowsReply src dst room = let n = rowsRefusal src dst room in cond (eqb n 0) Writ
 unfoldable pub rowsInto : List Float → List Float → List Float → List Float
 unfolding rowsRefusal similarityOf
 rowsInto src dst a =
-    let w = rowsOf (similarityOf src) (similarityOf dst) src dst in cond (eqb (rowsRefusal src dst (length a)) 0) (w ++ drop (length w) a) a
+    let w = designRows (similarityOf src) (similarityOf dst) src dst in cond (eqb (rowsRefusal src dst (length a)) 0) (w ++ drop (length w) a) a

@@ -17,7 +17,7 @@ use Rattle.point_homography.specs.declared.Rows.the-variants.{Written, R
 use Rattle.point_normalise.specs.Points.{pointAt, badLength}
 use Rattle.point_normalise.specs.Linalg.{moveBy, degenerate, similarityOf}
 use Rattle.point_normalise.specs.Hartley.{good-length}
-use Rattle.point_homography.specs.Rows.{allFinite, pairRows, movedRows, rowsOf, conditions, pointsRefusal, rowsRefusal, rowsReply, rowsInto}
+use Rattle.point_homography.specs.Rows.{allFinite, pairRows, movedRows, designRows, designConditions, pointsRefusal, rowsRefusal, rowsReply, rowsInto}
 use Rattle.point_normalise.specs.Walk.{pair-next, pair-length, sets-append}
 
 eighteen : (p q : Pt2) → length (pairRows p q) ≡ 18
@@ -25,15 +25,15 @@ unfolding pairRows
 eighteen p q = refl
 
 module _ (ts td : Similarity) (src dst : List Float) where
-  pub rows-length : length dst ≡ length src → length (rowsOf ts td src dst) ≡ length src / 2 * 18
+  pub rows-length : length dst ≡ length src → length (designRows ts td src dst) ≡ length src / 2 * 18
   rows-length = pair-length (movedRows ts td) 18 (λ p q. eighteen (moveBy ts p) (moveBy td q)) src dst
 
   -- one pair further
   pub rows-next : (a : List Float) (i : ℕ) → i + 1 < length src → i + 1 < length dst
-      → sets (sets a (9 * i) (movedRows ts td (pointAt src i) (pointAt dst i))) (9 * (i + 2)) (rowsOf ts td (drop (i + 2) src) (drop (i + 2) dst)) ≡ sets a (9 * i) (rowsOf ts td (drop i src) (drop i dst))
+      → sets (sets a (9 * i) (movedRows ts td (pointAt src i) (pointAt dst i))) (9 * (i + 2)) (designRows ts td (drop (i + 2) src) (drop (i + 2) dst)) ≡ sets a (9 * i) (designRows ts td (drop i src) (drop i dst))
   rows-next a i h k =
       let v = movedRows ts td (pointAt src i) (pointAt dst i) in
-      let w = rowsOf ts td (drop (i + 2) src) (drop (i + 2) dst) in
+      let w = designRows ts td (drop (i + 2) src) (drop (i + 2) dst) in
       let n : length v ≡ 18 = eighteen (moveBy ts (pointAt src i)) (moveBy td (pointAt dst i)) in
       let e : 9 * (i + 2) ≡ 9 * i + length v = omega arith in
       ap (λ (j : ℕ). sets (sets a (9 * i) v) j w) e ∙ sym (sets-append a (9 * i) v w) ∙ ap (sets a (9 * i)) (sym (pair-next (movedRows ts td) src dst i h k))
@@ -62,7 +62,7 @@ fine src dst room h0 =
     }
   where
     from : ℕ → ℕ
-    from k = firstRefusal (drop k (conditions src dst room))
+    from k = firstRefusal (drop k (designConditions src dst room))
 
 -- ---- which refusal it is
 module _ (src dst : List Float) (room : ℕ) where
@@ -91,6 +91,6 @@ module _ (src dst a : List Float) where
   refused n e h = let f = ne-eqb n 0 h in (rw (e, f), rw (e, f))
 
   pub written : rowsRefusal src dst (length a) ≡ 0
-      → (Written ≡ rowsReply src dst (length a)) × ((let w = rowsOf (similarityOf src) (similarityOf dst) src dst in w ++ drop (length w) a) ≡ rowsInto src dst a)
+      → (Written ≡ rowsReply src dst (length a)) × ((let w = designRows (similarityOf src) (similarityOf dst) src dst in w ++ drop (length w) a) ≡ rowsInto src dst a)
   unfolding rowsReply rowsInto
   written e = (rw e, rw e)

@@ -6,7 +6,7 @@ ghost use lib.ListN.{length};
 ghost use lib.Seq.{sets};
 ghost use Rattle.common.specs.Refusal.{firstRefusal};
 ghost use Rattle.point_homography.specs.Line.{crossOf, offLine, firstDistinct, anyOff, collinearOf, lineReply};
-ghost use Rattle.point_homography.specs.Rows.{allFinite, placeConditions, pairRows, rowsOf, pointsRefusal, rowsReply, rowsInto};
+ghost use Rattle.point_homography.specs.Rows.{allFinite, placeConditions, pairRows, designRows, pointsRefusal, rowsReply, rowsInto};
 use camera_models::math::Pt2;
 use point_normalise::linalg;
 use point_normalise::linalg::Normalizer;
@@ -138,7 +138,7 @@ fn put_pair(a: &mut [f64], at: usize, p: Pt2, q: Pt2)
 // The rows of all pairs, each point moved by its list's similarity.
 fn put_rows(a: &mut [f64], src: &[f64], dst: &[f64], ts: Similarity, td: Similarity)
     requires { ⌜ (length (now src) ≤ 800) × (length (now dst) ≡ length (now src)) × (9 * length (now src) ≤ length (now a)) ⌝ }
-    ensures { λ _. ⌜ now (a .exit) ≡ sets (now (a .entry)) 0 (rowsOf ts td (now (src .entry)) (now (dst .entry))) ⌝ }
+    ensures { λ _. ⌜ now (a .exit) ≡ sets (now (a .entry)) 0 (designRows ts td (now (src .entry)) (now (dst .entry))) ⌝ }
 {
     let mut i = 0;
     while i + 1 < src.len() {

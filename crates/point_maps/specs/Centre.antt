@@ -30,13 +30,13 @@ unfoldable pub extentOf : List Float → Extent
 unfolding foldPoints
 extentOf s = foldPoints widen (record { «min_x» = infinity; «min_y» = infinity; «max_x» = neg infinity; «max_y» = neg infinity }) s
 
-abbrev pub allFinite : Extent → Bool
-allFinite e = (isFinite (e .«min_x») && isFinite (e .«min_y»)) && (isFinite (e .«max_x») && isFinite (e .«max_y»))
+abbrev pub finiteExtent : Extent → Bool
+finiteExtent e = (isFinite (e .«min_x») && isFinite (e .«min_y»)) && (isFinite (e .«max_x») && isFinite (e .«max_y»))
 
 -- No finite pixel: (0, 0). No negative coordinate: half₆₄ the greatest ones. Else the middle of the range, in both coordinates.
 unfoldable pub centerOf : Extent → Pt2
 centerOf e =
-    cond (allFinite e)
+    cond (finiteExtent e)
     (cond (le plusZero (e .«min_x») && le plusZero (e .«min_y»))
     (record { x = half₆₄ *₆₄ e .«max_x»; y = half₆₄ *₆₄ e .«max_y» })
     (record { x = half₆₄ *₆₄ (e .«min_x» +₆₄ e .«max_x»); y = half₆₄ *₆₄ (e .«min_y» +₆₄ e .«max_y») }))

@@ -6,7 +6,7 @@ ghost use lib.Ieee.{le};
 ghost use Rattle.float.specs.Binary64.{_+₆₄_, _*₆₄_};
 ghost use Rattle.float.specs.Float.{isFinite};
 ghost use Rattle.float.specs.Literals.{plusZero, half₆₄};
-ghost use Rattle.point_maps.specs.Centre.{widen, extentOf, allFinite, centerOf, centerReply};
+ghost use Rattle.point_maps.specs.Centre.{widen, extentOf, finiteExtent, centerOf, centerReply};
 use camera_models::math::Pt2;
 use point_normalise::linalg;
 
@@ -64,7 +64,7 @@ fn extent_of(pixels: &[f64]) -> Extent
 }
 
 fn all_finite(e: Extent) -> bool
-    ensures { λ r. ⌜ r ≡ allFinite e ⌝ }
+    ensures { λ r. ⌜ r ≡ finiteExtent e ⌝ }
 {
     both_finite(e.min_x, e.min_y) && both_finite(e.max_x, e.max_y)
 }

@@ -15,7 +15,7 @@ use Rattle.score_outcome.specs.declared.Outcome.the-variants as outcome
 use Rattle.score_outcome.specs.Evaluation.{outcomeOf, findingRefusal}
 use Rattle.score_best.specs.declared.Best.{Best}
 use Rattle.score_best.specs.declared.Candidate.{Candidate}
-use Rattle.search_record.specs.Record.{sound, entered, nextStep, opened, ended}
+use Rattle.search_record.specs.Record.{sound, entered, nextStep, roundOpened, ended}
 use Rattle.search_record.specs.declared.run.Run.{Run}
 use Rattle.search_answer.specs.declared.Answered.{Answered}
 use Rattle.search_answer.specs.declared.Answered.the-variants.{Scored, Skipped, Refused}
@@ -40,8 +40,8 @@ answerRefusal r n f rows flags =
 
 -- ---- the end of a round
 -- the round's best, or, if it has none, the run's
-abbrev pub orElse : Best → Best → Best
-orElse a b = cond (a .found) a b
+abbrev pub orBest : Best → Best → Best
+orBest a b = cond (a .found) a b
 
 -- the seeds around a candidate, with its camera
 unfoldable pub nextSeeds : Run → Candidate → List CandidateSeed
@@ -50,14 +50,14 @@ nextSeeds r c = nextList (offsets (nextStep r)) (offsets (nextStep r)) (c .senso
 -- a list with seeds is written and opens the next round; otherwise what follows is `rest`
 abbrev pub openRound : Run → List Float → List CandidateSeed → Left → Left
 openRound r l [] rest = rest
-openRound r l (s ∷ ss) rest = left (opened r (length (s ∷ ss))) (written (s ∷ ss) l)
+openRound r l (s ∷ ss) rest = left (roundOpened r (length (s ∷ ss))) (written (s ∷ ss) l)
 
 -- k further rounds are asked for: the next list that has a seed, or the end. An empty list ends its round at once.
 unfoldable pub closeRound : ℕ → Run → List Float → Left
 closeRound zero r l = left (ended r) l
 closeRound (suc k) r l =
-    let b = orElse (r .«round_best») (r .«run_best») in
-    cond (b .found) (openRound r l (nextSeeds r (b .candidate)) (closeRound k (opened r 0) l)) (left (ended r) l)
+    let b = orBest (r .«round_best») (r .«run_best») in
+    cond (b .found) (openRound r l (nextSeeds r (b .candidate)) (closeRound k (roundOpened r 0) l)) (left (ended r) l)
 
 -- ---- an outcome is entered: the round goes on, or ends with its last seed
 unfoldable pub enterDef : Run → List Float → Outcome → Left

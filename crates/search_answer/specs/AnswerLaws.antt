@@ -16,8 +16,8 @@ use Rattle.score_outcome.specs.declared.Finding.{Finding}
 use Rattle.score_outcome.specs.declared.Outcome.{Outcome}
 use Rattle.score_best.specs.declared.Best.{Best}
 use Rattle.score_best.specs.declared.Candidate.{Candidate}
-use Rattle.search_record.specs.Record.{sound, entered, nextStep, opened, ended}
-use Rattle.search_answer.specs.Answer.{Left, left, answerRefusal, orElse, nextSeeds, openRound, closeRound, enterDef}
+use Rattle.search_record.specs.Record.{sound, entered, nextStep, roundOpened, ended}
+use Rattle.search_answer.specs.Answer.{Left, left, answerRefusal, orBest, nextSeeds, openRound, closeRound, enterDef}
 use Rattle.search_record.specs.declared.run.Run.{Run}
 
 -- ---- a finding's refusal, as the last of Answer's
@@ -35,7 +35,7 @@ unfolding nextSeeds
 next-seeds-are r c s l m n is h = rw (← is) h
 
 -- ---- the end of a round, one list at a time
-open-some : (r : Run) (l m : List Float) (n : ℕ) (ss : List CandidateSeed) (rest : Left) → Leaves six 6 ss l m n → (n ≡ 0 → ⊥) → openRound r l ss rest ≡ left (opened r n) m
+open-some : (r : Run) (l m : List Float) (n : ℕ) (ss : List CandidateSeed) (rest : Left) → Leaves six 6 ss l m n → (n ≡ 0 → ⊥) → openRound r l ss rest ≡ left (roundOpened r n) m
 open-some r l m n [] rest h k = absurd (k (h .count-is))
 open-some r l m n (s ∷ ss) rest h k = rw (h .count-is, h .list-is)
 
@@ -49,35 +49,35 @@ unfolding closeRound
 close-last zero r l h = refl
 close-last (suc k) r l h = absurd (omega arith)
 
-pub close-none : (n : ℕ) (r : Run) (l : List Float) (b : Best) → 0 < n → b ≡ orElse (r .«round_best») (r .«run_best») → b .found ≡ false
+pub close-none : (n : ℕ) (r : Run) (l : List Float) (b : Best) → 0 < n → b ≡ orBest (r .«round_best») (r .«run_best») → b .found ≡ false
     → closeRound n r l ≡ left (ended r) l
 unfolding closeRound
 close-none zero r l b p e f = absurd (omega arith)
 close-none (suc k) r l b p e f = rw (← e, f)
 
-pub close-open : (n : ℕ) (r : Run) (l : List Float) (b : Best) (m : List Float) (len : ℕ) → 0 < n → b ≡ orElse (r .«round_best») (r .«run_best») → b .found ≡ true
-    → Leaves six 6 (nextSeeds r (b .candidate)) l m len → (len ≡ 0 → ⊥) → closeRound n r l ≡ left (opened r len) m
+pub close-open : (n : ℕ) (r : Run) (l : List Float) (b : Best) (m : List Float) (len : ℕ) → 0 < n → b ≡ orBest (r .«round_best») (r .«run_best») → b .found ≡ true
+    → Leaves six 6 (nextSeeds r (b .candidate)) l m len → (len ≡ 0 → ⊥) → closeRound n r l ≡ left (roundOpened r len) m
 unfolding closeRound
 close-open zero r l b m len p e f h z = absurd (omega arith)
 close-open (suc k) r l b m len p e f h z = rw (← e, f) (open-some r l m len (nextSeeds r (b .candidate)) _ h z)
 
-pub opened-rounds : (r e : Run) (n : ℕ) → e ≡ opened r n → (e .options ≡ r .options) × (e .place .round ≡ r .place .round + 1)
-unfolding opened
+pub opened-rounds : (r e : Run) (n : ℕ) → e ≡ roundOpened r n → (e .options ≡ r .options) × (e .place .round ≡ r .place .round + 1)
+unfolding roundOpened
 opened-rounds r e n is = (ap (λ (x : Run). x .options) is, ap (λ (x : Run). x .place .round) is)
 
-close-next : (n : ℕ) (r : Run) (l : List Float) (b : Best) (m : List Float) (len : ℕ) → 0 < n → b ≡ orElse (r .«round_best») (r .«run_best») → b .found ≡ true
-    → Leaves six 6 (nextSeeds r (b .candidate)) l m len → len ≡ 0 → closeRound n r l ≡ closeRound (n - 1) (opened r 0) m
+close-next : (n : ℕ) (r : Run) (l : List Float) (b : Best) (m : List Float) (len : ℕ) → 0 < n → b ≡ orBest (r .«round_best») (r .«run_best») → b .found ≡ true
+    → Leaves six 6 (nextSeeds r (b .candidate)) l m len → len ≡ 0 → closeRound n r l ≡ closeRound (n - 1) (roundOpened r 0) m
 unfolding closeRound
 close-next zero r l b m len p e f h z = absurd (omega arith)
 close-next (suc k) r l b m len p e f h z =
     let one-less : suc k - 1 ≡ k = omega arith in
-    let q = open-none r l m len (nextSeeds r (b .candidate)) (closeRound k (opened r 0) l) h z in
+    let q = open-none r l m len (nextSeeds r (b .candidate)) (closeRound k (roundOpened r 0) l) h z in
     rw (← e, f, one-less, q .1) (q .0)
 
-pub close-empty : (r o : Run) (l : List Float) (b : Best) (m : List Float) (len : ℕ) → r .place .round < r .options .«refine_rounds» → b ≡ orElse (r .«round_best») (r .«run_best»)
-    → b .found ≡ true → Leaves six 6 (nextSeeds r (b .candidate)) l m len → len ≡ 0 → o ≡ opened r len
+pub close-empty : (r o : Run) (l : List Float) (b : Best) (m : List Float) (len : ℕ) → r .place .round < r .options .«refine_rounds» → b ≡ orBest (r .«round_best») (r .«run_best»)
+    → b .found ≡ true → Leaves six 6 (nextSeeds r (b .candidate)) l m len → len ≡ 0 → o ≡ roundOpened r len
     → closeRound (r .options .«refine_rounds» - r .place .round) r l ≡ closeRound (o .options .«refine_rounds» - o .place .round) o m
-unfolding opened
+unfolding roundOpened
 close-empty r o l b m len p e f h z is =
     let n = r .options .«refine_rounds» in
     let one-more : n - (r .place .round + 1) ≡ n - r .place .round - 1 = omega arith in

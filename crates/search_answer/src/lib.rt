@@ -7,7 +7,7 @@ ghost use lib.ListN.{length};
 ghost use Rattle.seed_rules.specs.Layout.{Leaves, six};
 ghost use Rattle.seed_rules.specs.Rules.{offsets, nextList};
 ghost use Rattle.search_record.specs.Record.{sound};
-ghost use Rattle.search_answer.specs.Answer.{answerRefusal, orElse, closeRound, enterDef, replyOf, answerDef};
+ghost use Rattle.search_answer.specs.Answer.{answerRefusal, orBest, closeRound, enterDef, replyOf, answerDef};
 use camera_models::intrinsics::FxFyCxCy;
 use camera_tilt::sensor::ScheimpflugParams;
 use score_best::Best;
@@ -46,7 +46,7 @@ fn answer_refusal(run: Run, list_len: usize, finding: Finding, rows: &[f64], fla
 
 // The first best, or, if it has none, the second.
 fn or_else(first: Best, second: Best) -> Best
-    ensures { λ r. ⌜ r ≡ orElse first second ⌝ }
+    ensures { λ r. ⌜ r ≡ orBest first second ⌝ }
 {
     if first.found {
         return first;

@@ -75,8 +75,8 @@ entered r o =
 unfoldable pub nextStep : Run → Float
 nextStep r = cond (eqb (r .place .round) 0) (r .options .«refine_step») (r .place .step *₆₄ half₆₄)
 
-unfoldable pub opened : Run → ℕ → Run
-opened r n =
+unfoldable pub roundOpened : Run → ℕ → Run
+roundOpened r n =
     let p = r .place in
     record {
       options = r .options;

@@ -163,7 +163,7 @@ pub fn next_step(run: Run) -> f64
 // The run at the start of its next round, whose list has this many seeds.
 pub fn opened(mut run: Run, len: usize) -> Run
     requires { ⌜ run .place .round < 16 ⌝ }
-    ensures { λ r. ⌜ r ≡ Rattle.search_record.specs.Record.opened run len ⌝ }
+    ensures { λ r. ⌜ r ≡ Rattle.search_record.specs.Record.roundOpened run len ⌝ }
 {
     let step = next_step(run);
     let round = run.place.round + 1;

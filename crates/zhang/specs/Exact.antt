@@ -17,8 +17,8 @@ use Rattle.root.specs.Root.{root}
 use Rattle.root.specs.Nearest.{root-exact}
 use Rattle.camera_models.specs.declared.intrinsics.FxFyCxCy.{FxFyCxCy}
 use Rattle.zhang.specs.declared.Conic.{Conic}
-use Rattle.zhang.specs.declared.Estimate.{Estimate}
-use Rattle.zhang.specs.declared.Estimate.the-variants.{Camera}
+use Rattle.zhang.specs.declared.Estimated.{Estimated}
+use Rattle.zhang.specs.declared.Estimated.the-variants.{Camera}
 use Rattle.zhang.specs.Zhang.{leastDefinite, leastB11, denom, norm, v0, lambda, alpha, beta, gamma, u0, definite, fromHomographies}
 
 -- ---- the root of a square
@@ -82,7 +82,7 @@ pub record Conic-of (p q x y k : ℕ) (sx sy : Bool) (b : Conic) : Type 0 where
   pub b33 : Num (b .b33) false (x * x * (q * q) + y * y * (p * p) + p * p * (q * q)) (k + k)
 
 -- The reply is a camera whose four numbers equal those of f, as IEEE 754 compares: they are the same but for the sign of a zero.
-pub record Recovered (f : FxFyCxCy) (r : Estimate) : Type 0 where
+pub record Recovered (f : FxFyCxCy) (r : Estimated) : Type 0 where
   pub camera : FxFyCxCy
   pub reply : r ≡ Camera camera
   pub fx : eq (camera .fx) (f .fx) ≡ true

@@ -8,8 +8,8 @@ use Rattle.float.specs.Literals.{plusZero, tenToMinus6, tenToMinus12}
 use Rattle.root.specs.Root.{root}
 use Rattle.camera_models.specs.declared.intrinsics.FxFyCxCy.{FxFyCxCy}
 use Rattle.zhang.specs.declared.Conic.{Conic}
-use Rattle.zhang.specs.declared.Estimate.{Estimate}
-use Rattle.zhang.specs.declared.Estimate.the-variants.{Camera, Refused}
+use Rattle.zhang.specs.declared.Estimated.{Estimated}
+use Rattle.zhang.specs.declared.Estimated.the-variants.{Camera, Refused}
 
 -- 1e-6
 abbrev pub leastDefinite : Float
@@ -59,6 +59,6 @@ unfoldable pub definite : Conic → Bool
 definite b = lt plusZero (norm b) && (lt leastDefinite (denom b /₆₄ norm b) && (not (le (absOf (b .b11)) leastB11) && lt plusZero (lambda b /₆₄ b .b11)))
 
 -- Where the conic isn't definite no camera has it, and the number is 16. A camera that isn't finite is a reply like any other.
-unfoldable pub fromHomographies : Conic → Estimate
+unfoldable pub fromHomographies : Conic → Estimated
 unfolding definite
 fromHomographies b = cond (definite b) (Camera (cameraOf b)) (Refused 16)

@@ -17,7 +17,7 @@ pub struct Conic {
     pub b33: f64,
 }
 
-pub enum Estimate {
+pub enum Estimated {
     Camera(FxFyCxCy),
     // 16: no camera has this conic
     Refused(u8),
@@ -44,7 +44,7 @@ fn camera_of(b: Conic, denom: f64, v0: f64, lambda: f64) -> FxFyCxCy
 }
 
 // The camera whose conic is b.
-pub fn from_homographies(b: Conic) -> Estimate
+pub fn from_homographies(b: Conic) -> Estimated
     ensures { λ r. ⌜ r ≡ fromHomographies b ⌝ }
 {
     let b11 = b.b11;
@@ -56,18 +56,18 @@ pub fn from_homographies(b: Conic) -> Estimate
     let denom = b11 * b22 - b12 * b12;
     let denom_norm = b11 * b11 + b22 * b22;
     if !(denom_norm > 0.0) {
-        return Estimate::Refused(16);
+        return Estimated::Refused(16);
     }
     if !(denom / denom_norm > 1e-6) {
-        return Estimate::Refused(16);
+        return Estimated::Refused(16);
     }
     if float::abs(b11) <= 1e-12 {
-        return Estimate::Refused(16);
+        return Estimated::Refused(16);
     }
     let v0 = (b12 * b13 - b11 * b23) / denom;
     let lambda = b33 - (b13 * b13 + v0 * (b12 * b13 - b11 * b23)) / b11;
     if !(lambda / b11 > 0.0) {
-        return Estimate::Refused(16);
+        return Estimated::Refused(16);
     }
-    Estimate::Camera(camera_of(b, denom, v0, lambda))
+    Estimated::Camera(camera_of(b, denom, v0, lambda))
 }

@@ -1,10 +1,10 @@
 -- `point_homography::any_off_line` meets its contract. The loop's invariant: the search from here finds what the whole search finds. Assumes nothing.
 use borrow.Author.Needs.{needs}
 use mathlib.Core.Path.{_≡_, refl, sym, _∙_}
-use mathlib.Core.Bool.{false}
+use mathlib.Core.Bool.{true, false}
 use Prim.Native.Nat.{_≤_, _-_}
 use lib.ListN.{length, drop}
-use Rattle.point_homography.specs.Line.{yes, offLine, anyOff}
+use Rattle.point_homography.specs.Line.{offLine, anyOff}
 use Rattle.point_normalise.specs.Walk.{find-here, find-next, find-end}
 use Rattle.point_homography.proofs.any_off_line.Statement.{statement}
 use Rattle.point_homography.proofs.any_off_line.Tie as tie
@@ -32,7 +32,7 @@ returns c =
     let l = c .before .before .before .before in
     let a = l .before .before .args in
     let o = c .before .off-line .ensures in
-    sym (find-here (offLine (a .p0) (a .p1)) yes false (a .points .now) (l .loop .k) (search needs) (rw (o, c .before .before .point-at .ensures) at (c .if1 .taken))) ∙ l .loop .inv .1
+    sym (find-here (offLine (a .p0) (a .p1)) (λ p. true) false (a .points .now) (l .loop .k) (search needs) (rw (o, c .before .before .point-at .ensures) at (c .if1 .taken))) ∙ l .loop .inv .1
 
 add-k : tie.Need-add-k Inv-loop μ-loop
 add-k c = search needs
@@ -46,14 +46,14 @@ loop-again c =
     let a = l .before .before .args in
     let o = c .before .off-line .ensures in (
       search needs,
-      sym (find-next (offLine (a .p0) (a .p1)) yes false (a .points .now) (l .loop .k) (search needs) (rw (o, c .before .before .point-at .ensures) at (c .if1 .left))) ∙ l .loop .inv .1,
+      sym (find-next (offLine (a .p0) (a .p1)) (λ p. true) false (a .points .now) (l .loop .k) (search needs) (rw (o, c .before .before .point-at .ensures) at (c .if1 .left))) ∙ l .loop .inv .1,
     )
 
 returns-2 : tie.Need-returns-2 Inv-loop μ-loop
 returns-2 c =
     let l = c .before in
     let a = l .before .before .args in
-    sym (find-end (offLine (a .p0) (a .p1)) yes false (a .points .now) (l .loop .k) (search needs)) ∙ l .loop .inv .1
+    sym (find-end (offLine (a .p0) (a .p1)) (λ p. true) false (a .points .now) (l .loop .k) (search needs)) ∙ l .loop .inv .1
 
 pub any-off-line-spec : {M : Type 1} → statement M
 any-off-line-spec =

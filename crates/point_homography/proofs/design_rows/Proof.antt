@@ -9,7 +9,7 @@ use lib.ListN.{length}
 use lib.Ieee.{Float}
 use Rattle.point_normalise.specs.Linalg.{degenerate, similarityOf}
 use Rattle.point_normalise.specs.Hartley.{no-similarity, similarity}
-use Rattle.point_homography.specs.Rows.{rowsOf, pointsRefusal}
+use Rattle.point_homography.specs.Rows.{designRows, pointsRefusal}
 use Rattle.point_normalise.specs.Walk.{sets-front}
 use Rattle.point_homography.specs.RowsLaws.{Fine, fine, by-points, by-source, by-destination, by-none, refused, written, rows-length}
 use Rattle.point_homography.proofs.design_rows.Statement.{statement}
@@ -108,7 +108,7 @@ returns-4 c =
     let e = t .before .before .before in
     let f = lists e in
     let r = written (source e) (target e) (matrix e) (by-none (source e) (target e) (length (matrix e)) (clear e) (first t .0) (second d .0)) in
-    let rows = rowsOf (similarityOf (source e)) (similarityOf (target e)) (source e) (target e) in
+    let rows = designRows (similarityOf (source e)) (similarityOf (target e)) (source e) (target e) in
     let n : length rows ≡ length (source e) / 2 * 18 = rows-length (similarityOf (source e)) (similarityOf (target e)) (source e) (target e) (f .count) in (
       r .0,
       rw (w .put-rows .ensures, first t .1, second d .1) (sets-front (matrix e) rows (omega (arith, n, f .space)) ∙ r .1),

@@ -1,19 +1,19 @@
--- `point_homography::points_refusal` meets its contract: `pastK` says that with its first K conditions passed the answer is that of the rest. Assumes nothing.
+-- `point_homography::points_refusal` meets its contract: `pastK` says that with its first K designConditions passed the answer is that of the rest. Assumes nothing.
 use borrow.Author.Needs.{needs}
 use borrow.Author.Tests.{lt-ltb, le-ltb}
 use mathlib.Core.Bool.{not}
 use mathlib.Core.Path.{_≡_, sym, ap, _∙_}
 use Prim.Native.Nat.{ℕ, _*_}
 use lib.ListN.{length, drop}
-use Rattle.point_homography.specs.Rows.{conditions}
+use Rattle.point_homography.specs.Rows.{designConditions}
 use Rattle.common.specs.Refusal.{firstRefusal}
 use Rattle.common.specs.RefusalLaws.{refuses, passes}
 use Rattle.point_homography.proofs.points_refusal.Statement.{statement}
 use Rattle.point_homography.proofs.points_refusal.Tie as tie
 
--- the answer of the conditions from the k-th on
+-- the answer of the designConditions from the k-th on
 abbrev from : ℕ → tie.Start → ℕ
-from k s = firstRefusal (drop k (conditions (s .args .src .now) (s .args .dst .now) (s .args .room)))
+from k s = firstRefusal (drop k (designConditions (s .args .src .now) (s .args .dst .now) (s .args .room)))
 
 abbrev start1 : tie.Else1 → tie.Start
 start1 c = c .before .before .before .before

@@ -5,7 +5,7 @@ use Prim.Native.Nat.{_-_, _*_, _≤_}
 use lib.ListN.{length, drop}
 use lib.Seq.{sets, length-sets}
 use Rattle.point_normalise.specs.Points.{pointAt}
-use Rattle.point_homography.specs.Rows.{pairRows, movedRows, rowsOf}
+use Rattle.point_homography.specs.Rows.{pairRows, movedRows, designRows}
 use Rattle.point_normalise.specs.Walk.{pair-end}
 use Rattle.point_homography.specs.RowsLaws.{rows-next}
 use Rattle.point_homography.proofs.put_rows.Statement.{statement}
@@ -13,7 +13,7 @@ use Rattle.point_homography.proofs.put_rows.Tie as tie
 
 abbrev Inv-loop : tie.InvT-loop
 Inv-loop a₀ src dst ts td i₀ a i =
-    (i ≤ length src) × (length a ≡ length a₀) × (sets a (9 * i) (rowsOf ts td (drop i src) (drop i dst)) ≡ sets a₀ 0 (rowsOf ts td src dst))
+    (i ≤ length src) × (length a ≡ length a₀) × (sets a (9 * i) (designRows ts td (drop i src) (drop i dst)) ≡ sets a₀ 0 (designRows ts td src dst))
 
 abbrev μ-loop : tie.MeasureT-loop
 μ-loop a₀ src dst ts td i₀ a i = length src - i

@@ -8,7 +8,7 @@ use Rattle.float.specs.Binary64.{_/₆₄_}
 use Rattle.float.specs.Float.{absOf}
 use Rattle.float.specs.Literals.{plusZero}
 use Rattle.zhang.specs.declared.Conic.{Conic}
-use Rattle.zhang.specs.declared.Estimate.the-variants.{Camera, Refused}
+use Rattle.zhang.specs.declared.Estimated.the-variants.{Camera, Refused}
 use Rattle.zhang.specs.Zhang.{definite, fromHomographies, leastDefinite, leastB11, denom, norm, lambda, cameraOf}
 use Rattle.zhang.proofs.from_homographies.Statement.{statement}
 use Rattle.zhang.proofs.from_homographies.Tie as tie

@@ -4,7 +4,7 @@ use borrow.Author.Needs.{needs}
 use Rattle.score_outcome.specs.declared.Finding.{Finding}
 use Rattle.search_record.specs.declared.run.Run.{Run}
 use Rattle.search_answer.specs.Answer.{AnswerLeft, answerDef}
-use Rattle.capi_records.specs.Record.{runOf}
+use Rattle.capi_records.specs.Record.{runFrom}
 use Rattle.capi_records.specs.Run.{flatAnswer}
 use Rattle.capi.proofs.run.jc_answer.Statement.{statement}
 use Rattle.capi.proofs.run.jc_answer.Tie as tie
@@ -30,7 +30,7 @@ returns c =
     let p = q .before .before in
     let a = p .before .before .before .before .before .args in
     let run = ap (λ (r : Run). answerDef r (p .finding-of .result) (a .rows .now) (a .flags .now) (a .list .now)) (p .before .run-of .ensures) in
-    let finding = ap (λ (f : Finding). answerDef (runOf (a .run)) f (a .rows .now) (a .flags .now) (a .list .now)) (p .finding-of .ensures) in
+    let finding = ap (λ (f : Finding). answerDef (runFrom (a .run)) f (a .rows .now) (a .flags .now) (a .list .now)) (p .finding-of .ensures) in
     let left = run ∙ finding in
     (c .answer-flat .ensures ∙ ap flatAnswer (q .answer .ensures .0 ∙ ap (λ (x : AnswerLeft). x .reply) left), q .answer .ensures .1 ∙ ap (λ (x : AnswerLeft). x .list) left)
 
