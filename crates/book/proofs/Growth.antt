@@ -9,7 +9,8 @@ use lib.Dec.{ltb, eqb}
 use lib.ListN.{length, take, drop}
 use lib.Ieee.{Float}
 use Rattle.common.specs.Tests.{case}
-use Rattle.common.specs.All.{All, all-left}
+use Rattle.common.specs.All.{all-left}
+use Rattle.common.specs.Each.{All}
 use Rattle.seed_rules.specs.declared.CandidateSeed.{CandidateSeed}
 use Rattle.seed_rules.specs.Layout.{six}
 use Rattle.score_outcome.specs.declared.Finding.{Finding}

@@ -10,7 +10,7 @@ use lib.Dec.{ltb, eqb, eqb·suc-zero}
 use lib.ListN.{length}
 use lib.Ieee.{Float}
 use Rattle.common.specs.Tests.{case, both-true}
-use Rattle.common.specs.All.{All, every}
+use Rattle.common.specs.Each.{All, every}
 use Rattle.float.specs.Float.{isFinite}
 use Rattle.seed_rules.specs.declared.CandidateSeed.{CandidateSeed}
 use Rattle.seed_rules.specs.Rules.{inBound}

@@ -10,7 +10,8 @@ use lib.Dec.{ltb, eqb}
 use lib.ListN.{length, getD, length-append, length-map}
 use lib.Ieee.{Float}
 use Rattle.common.specs.Tests.{case}
-use Rattle.common.specs.All.{All, all-append, all-map}
+use Rattle.common.specs.All.{all-append, all-map}
+use Rattle.common.specs.Each.{All}
 use Rattle.seed_rules.specs.declared.CandidateSeed.{CandidateSeed}
 use Rattle.seed_rules.specs.Layout.{six}
 use Rattle.score_outcome.specs.declared.Finding.{Finding}

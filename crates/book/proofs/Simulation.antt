@@ -10,7 +10,8 @@ use lib.Dec.{leb, ltb, eqb, eqb·suc-zero}
 use lib.ListN.{length, getD, take, drop, length-append, take-append-drop}
 use lib.Ieee.{Float}
 use Rattle.common.specs.Tests.{case}
-use Rattle.common.specs.All.{All, all-left, all-right}
+use Rattle.common.specs.All.{all-left, all-right}
+use Rattle.common.specs.Each.{All}
 use Rattle.common.specs.Refusal.{firstRefusal}
 use Rattle.float.specs.Binary64.{_*₆₄_}
 use Rattle.float.specs.Literals.{half₆₄}

@@ -10,7 +10,7 @@ use lib.Dec.{ltb, eqb}
 use lib.ListN.{length}
 use lib.Ieee.{Float}
 use Rattle.common.specs.Tests.{case}
-use Rattle.common.specs.All.{All}
+use Rattle.common.specs.Each.{All}
 use Rattle.score_outcome.specs.declared.Finding.{Finding}
 use Rattle.score_outcome.specs.Evaluation.{findingRefusal}
 use Rattle.score_best.specs.declared.Candidate.{Candidate}

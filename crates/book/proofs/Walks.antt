@@ -2,7 +2,7 @@
 use mathlib.Core.Path.{_≡_, refl, sym, ap, _∙_}
 use mathlib.Core.List.{List, [], _∷_, _++_, append-assoc, append-nil}
 use lib.Ieee.{Float}
-use Rattle.common.specs.All.{All}
+use Rattle.common.specs.Each.{All}
 use Rattle.score_best.specs.Order.{Sound}
 use Rattle.book.specs.Calls.{Call, Reply}
 use Rattle.book.specs.Book.{Inputs, Entry, Book, entries, scoredOf, bookCall, replies, after}

@@ -8,7 +8,8 @@ use lib.Dec.{ltb, eqb}
 use lib.ListN.{length}
 use lib.Ieee.{Float, lt, le, eq, isNan}
 use Rattle.common.specs.Tests.{case, both-true}
-use Rattle.common.specs.All.{All, all-append, all-left, all-right, all-map}
+use Rattle.common.specs.All.{all-append, all-left, all-right, all-map}
+use Rattle.common.specs.Each.{All}
 use Rattle.float.specs.Order.{lt-asym, lt-irrefl, lt-not-eq, le-of-not-lt}
 use Rattle.seed_rules.specs.Rules.{within, inBound}
 use Rattle.score_outcome.specs.declared.Scoring.{Scoring}

@@ -5,7 +5,7 @@ use mathlib.Core.Bool.{true, false}
 use mathlib.Core.List.{List, List·Memᴰ}
 use lib.ListN.{length}
 use lib.Ieee.{Float, lt, le, eq, isNan}
-use Rattle.common.specs.All.{All}
+use Rattle.common.specs.Each.{All}
 use Rattle.float.specs.Float.{absOf, isFinite}
 use Rattle.float.specs.Literals.{plusZero}
 use Rattle.seed_rules.specs.Rules.{within}

@@ -6,11 +6,11 @@ use native.Mathlib.Omega.{arith}
 use lib.Dec.{T, eqb·suc-zero}
 use lib.IntN.{pos}
 use lib.Ieee.{Float, nan, inf, fin, binary64, ofBits, fits, unlike, add, mul, eq}
-use Rattle.float.specs.Float.{isFinite}
-use Rattle.float.specs.Sign.{signBit, eq-zero, fits-zero}
-use Rattle.float.specs.Literals.{plusZero, one₆₄, two₆₄}
+use Rattle.float.specs.Float.{isFinite, signBit}
+use Rattle.float.specs.Sign.{eq-zero, fits-zero}
+use Rattle.float.specs.Literals.{plusZero, one₆₄, two₆₄, zeroOf}
 use Rattle.float.specs.Binary64.{_+₆₄_, _*₆₄_}
-use Rattle.float.specs.Zero.{mul-nan, add-nan, finite-factors, finite-terms, zeroOf, zero-times, times-zero, zero-times-other, zeros-add, plusZeroUnless, add-zero, mul-one₆₄, Signed, mul-signed, add-signed}
+use Rattle.float.specs.Zero.{mul-nan, add-nan, finite-factors, finite-terms, zero-times, times-zero, zero-times-other, zeros-add, plusZeroUnless, add-zero, mul-one₆₄, Signed, mul-signed, add-signed}
 use Rattle.float.specs.Bound.{AtMost, AtLeast, at-most-unless, at-most-finite, mul-at-most, square-at-least, square-overflows, add-at-least, add-at-least′, add-at-most}
 use Rattle.camera_models.specs.Distortion.{squaredNorm, radialFactor, tangentialX, tangentialY, distorted}
 use Rattle.camera_models.specs.declared.math.Pt2.{Pt2}

@@ -1,3 +1,2 @@
 pub mod Undistortion
-pub mod Turns
 pub mod Descent

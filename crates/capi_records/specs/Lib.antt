@@ -2,5 +2,4 @@ pub mod Camera
 pub mod Lists
 pub mod Record
 pub mod Run
-pub mod Copied
 pub mod RoundTrip

@@ -1,7 +1,7 @@
 -- The worked runs on the walk, from Start on, computed. Assumes nothing.
 use mathlib.Core.Path.{_≡_, refl}
 use lib.Ieee.{add, sub, mul, div, neg, lt, le, eq, isNan, ofBits, ofInt, sum, round, units, odd, size, span, climb}
-use Rattle.common.specs.All.{every}
+use Rattle.common.specs.Each.{every}
 use Rattle.float.specs.Float.{absOf, isFinite, minOf, maxOf, clampOf}
 use Rattle.root.specs.Root.{rootIn, isqrt, rootOf, root}
 use Rattle.camera_tilt.specs.Matrix.{productOf, firstOther, secondOther, minorOf, cofactorOf, determinantOf, inverseOf}

@@ -2,7 +2,7 @@
 use mathlib.Core.Path.{refl}
 use mathlib.Core.List.{List, [], _∷_}
 use lib.Ieee.{Float, binary64, ofInt, ofBits, add, sub, mul, div, neg, lt, le, eq, isNan}
-use Rattle.common.specs.All.{All}
+use Rattle.common.specs.Each.{All}
 use Rattle.float.specs.Float.{absOf, isFinite, minOf, maxOf}
 use Rattle.root.specs.Root.{root}
 use Rattle.camera_models.specs.declared.math.Pt2.{Pt2}

@@ -1,13 +1,10 @@
--- What holds of each element of a list. Assumes nothing.
+-- Laws of what holds of each element of a list. Assumes nothing.
 use Prim.Native.Nat.{ℕ, _≤_}
 use mathlib.Core.Path.{_≡_, ap, _∙_}
-use mathlib.Core.Bool.{Bool, true, false, _&&_}
+use mathlib.Core.Bool.{Bool, true, false}
 use mathlib.Core.List.{List, [], _∷_, _++_}
 use lib.ListN.{length, drop, drop-of-length-le}
-
-abbrev pub All : {A : Type 0} → (A → Type 0) → List A → Type 0
-All P [] = Unit {0}
-All P (x ∷ xs) = P x × All P xs
+use Rattle.common.specs.Each.{All, every}
 
 module _ {A : Type 0} (P : A → Type 0) where
   pub all-append : (xs ys : List A) → All P xs → All P ys → All P (xs ++ ys)
@@ -26,12 +23,7 @@ module _ {A : Type 0} (P : A → Type 0) where
   all-map Q f [] h = tt
   all-map Q f (x ∷ xs) h = (f x (h .0), all-map Q f xs (h .1))
 
--- whether a test passes at each element
-unfoldable pub every : {A : Type 0} → (A → Bool) → List A → Bool
-every p [] = true
-every p (x ∷ xs) = p x && every p xs
-
--- the same from place i on, as a loop over the list tests it
+-- ---- a test at each element from place i on, as a loop over the list makes it
 module _ {A : Type 0} (p : A → Bool) (xs : List A) (i : ℕ) where
   pub every-here : (x : A) (ys : List A) → drop i xs ≡ x ∷ ys → p x ≡ false → every p (drop i xs) ≡ false
   unfolding every

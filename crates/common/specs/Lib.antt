@@ -1,3 +1,4 @@
+pub mod Each
 pub mod All
 pub mod Refusal
 pub mod RefusalLaws

@@ -1,4 +1,4 @@
--- Rust's `abs`, `is_finite`, `min`, `max` and `clamp`, on the values of IEEE 754. Definitions only.
+-- Rust's `abs`, `is_finite`, `min`, `max` and `clamp`, and the sign, on the values of IEEE 754. Definitions only.
 use Prim.Native.Nat.{ℕ}
 use mathlib.Core.Bool.{Bool, true, false, cond}
 use lib.Ieee.{Float, nan, inf, fin, lt, isNan}
@@ -8,6 +8,12 @@ unfoldable pub absOf : Float → Float
 absOf nan = nan
 absOf (inf s) = inf false
 absOf (fin s m e) = fin false m e
+
+-- whether the sign is a minus; NaN has none
+unfoldable pub signBit : Float → Bool
+signBit nan = false
+signBit (inf s) = s
+signBit (fin s m e) = s
 
 -- a number, and no infinity
 unfoldable pub isFinite : Float → Bool

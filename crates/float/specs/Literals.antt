@@ -1,9 +1,15 @@
 -- The numbers that rules and formulas name, each written once, by its bits. Definitions only.
-use lib.Ieee.{Float, binary64, ofBits, div}
+use mathlib.Core.Bool.{Bool}
+use lib.IntN.{pos}
+use lib.Ieee.{Float, fin, binary64, ofBits, div}
 
 -- +0
 abbrev pub plusZero : Float
 plusZero = ofBits binary64 0
+
+-- 0 with the sign given: −0 where it is true
+abbrev pub zeroOf : Bool → Float
+zeroOf s = fin s 0 (pos 0)
 
 -- 1, 2, 3, 6, 1 / 2
 abbrev pub one₆₄ : Float

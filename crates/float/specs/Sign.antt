@@ -12,7 +12,7 @@ use lib.Ieee.{Float, nan, inf, fin, Format, binary64, prec, emax, low, ofBits, l
 use lib.Ieee.Fits.{up-pos, down-pos}
 use lib.Ieee.Scale.{round-same}
 use Rattle.float.specs.Literals.{plusZero}
-use Rattle.float.specs.Float.{absOf, isFinite, clampOf}
+use Rattle.float.specs.Float.{absOf, signBit, isFinite, clampOf}
 use Rattle.float.specs.Order.{lt-irrefl, lt-neg, le-of-not-lt}
 use Rattle.float.specs.Exact.{round-own}
 
@@ -159,12 +159,6 @@ abs-add-zero (fin true (suc m) e) h =
     ap absOf (simp (i, j, a, c) (round-own binary64 true m e h))
 
 -- ---- the sign of a result
--- whether the sign is a minus; NaN has none
-unfoldable pub signBit : Float → Bool
-signBit nan = false
-signBit (inf s) = s
-signBit (fin s m e) = s
-
 -- what has no minus is not below zero
 pub unsigned-not-below : (x : Float) → signBit x ≡ false → lt x plusZero ≡ false
 unfolding signBit lt ofBits

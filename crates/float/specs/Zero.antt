@@ -10,9 +10,9 @@ use lib.IntN.{ℤ, pos}
 use lib.Ieee.{Float, nan, inf, fin, Format, binary64, ofBits, up, down, unlike, fits, low, prec, emax, size, nearest, odd, units, round, sum, add, mul, eq}
 use lib.Ieee.Fits.{up-pos, down-pos}
 use lib.Ieee.Scale.{round-same}
-use Rattle.float.specs.Float.{isFinite}
-use Rattle.float.specs.Sign.{eq-zero, fits-zero, signBit}
-use Rattle.float.specs.Literals.{plusZero, one₆₄}
+use Rattle.float.specs.Float.{isFinite, signBit}
+use Rattle.float.specs.Sign.{eq-zero, fits-zero}
+use Rattle.float.specs.Literals.{plusZero, zeroOf, one₆₄}
 use Rattle.float.specs.Exact.{round-own}
 
 -- ---- NaN
@@ -60,9 +60,6 @@ finite-terms f (fin s m e) (inf t) h = absurd (true≢false (sym h))
 finite-terms f (fin s m e) (fin t n d) h = (refl, refl)
 
 -- ---- a zero
-abbrev pub zeroOf : Bool → Float
-zeroOf s = fin s 0 (pos 0)
-
 round-zero : (s : Bool) (c : ℕ) → 0 < c → round binary64 s 0 c ≡ zeroOf s
 unfolding round
 round-zero true c h = round-same binary64 true 0 c 0 1 h (omega arith) (omega arith)

@@ -5,7 +5,7 @@ use mathlib.Core.List.{List, [], _∷_, _++_}
 use lib.Dec.{eqb, ltb}
 use lib.ListN.{length, drop}
 use lib.Ieee.{Float, neg}
-use Rattle.common.specs.All.{every}
+use Rattle.common.specs.Each.{every}
 use Rattle.common.specs.Refusal.{Check, _when_, firstRefusal}
 use Rattle.float.specs.Binary64.{_*₆₄_}
 use Rattle.float.specs.Float.{isFinite}

@@ -1,4 +1,2 @@
 pub mod Maps
-pub mod Written
-pub mod Accepted
 pub mod Centre

@@ -5,7 +5,8 @@ use mathlib.Core.List.{List, [], _∷_}
 use Prim.Native.Nat.{_/_}
 use lib.ListN.{length}
 use lib.Ieee.{Float, binary64, ofBits, lt}
-use Rattle.float.specs.Sign.{signBit, unsigned-not-below, sign-add, sign-square, sign-div, sign-count}
+use Rattle.float.specs.Sign.{unsigned-not-below, sign-add, sign-square, sign-div, sign-count}
+use Rattle.float.specs.Float.{signBit}
 use Rattle.float.specs.Literals.{plusZero}
 use Rattle.root.specs.Laws.{sign-root}
 use Rattle.camera_models.specs.declared.math.Pt2.{Pt2}

@@ -3,7 +3,8 @@ use mathlib.Core.Path.{_≡_, refl, sym, _∙_}
 use mathlib.Core.Bool.{Bool, true, false, not, _&&_, cond, true≢false}
 use mathlib.Core.List.{List, [], _∷_, _++_, append-assoc, append-nil}
 use lib.Ieee.{lt, isNan}
-use Rattle.common.specs.All.{All, all-append, all-left, all-right, all-map}
+use Rattle.common.specs.All.{all-append, all-left, all-right, all-map}
+use Rattle.common.specs.Each.{All}
 use Rattle.float.specs.Order.{lt-asym, lt-cotrans}
 use Rattle.score_best.specs.declared.Candidate.{Candidate}
 use Rattle.score_best.specs.declared.Best.{Best}

@@ -6,9 +6,9 @@ use mathlib.Core.List.{List}
 use native.Mathlib.Omega.{arith}
 use lib.Ieee.{Float, isNan, lt, le, ofBits}
 use Rattle.common.specs.Tests.{case, both-true}
-use Rattle.float.specs.Float.{absOf, isFinite}
+use Rattle.float.specs.Float.{absOf, isFinite, signBit}
 use Rattle.float.specs.Finite.{finite-number}
-use Rattle.float.specs.Sign.{signBit, unsigned-not-below, clamp-magnitude}
+use Rattle.float.specs.Sign.{unsigned-not-below, clamp-magnitude}
 use Rattle.float.specs.Literals.{plusZero}
 use Rattle.camera_models.specs.declared.math.Pt2.{Pt2}
 use Rattle.camera_tilt.specs.declared.sensor.ScheimpflugParams.{ScheimpflugParams}

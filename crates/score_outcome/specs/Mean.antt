@@ -8,7 +8,8 @@ use lib.IntN.{pos}
 use lib.Ieee.{Float, binary64, div, ofBits, ofInt}
 use Rattle.float.specs.Binary64.{_+₆₄_, _/₆₄_}
 use Rattle.float.specs.Literals.{infinity}
-use Rattle.float.specs.Sign.{signBit, sign-add, sign-square, sign-div, sign-count}
+use Rattle.float.specs.Sign.{sign-add, sign-square, sign-div, sign-count}
+use Rattle.float.specs.Float.{signBit}
 use Rattle.root.specs.Laws.{sign-root}
 use Rattle.camera_tilt.specs.Matrix.{Matrix}
 use Rattle.score_camera.specs.Camera.{dampedCamera}

@@ -5,7 +5,7 @@ use mathlib.Core.List.{List, [], _∷_, _++_}
 use lib.Dec.{ltb, eqb}
 use lib.ListN.{length}
 use lib.Ieee.{Float, lt}
-use Rattle.common.specs.All.{every}
+use Rattle.common.specs.Each.{every}
 use Rattle.common.specs.Refusal.{Check, _when_, firstRefusal}
 use Rattle.float.specs.Float.{isFinite}
 use Rattle.float.specs.Literals.{plusZero}

@@ -9,7 +9,7 @@ use borrow.Author.Tests.{ltb-true, ltb-false, not-false, eqb-true, eqb-false, ne
 use lib.Dec.{ltb, eqb}
 use lib.ListN.{length}
 use lib.Ieee.{Float}
-use Rattle.common.specs.All.{every}
+use Rattle.common.specs.Each.{every}
 use Rattle.common.specs.Tests.{both-false}
 use Rattle.common.specs.Refusal.{firstRefusal}
 use Rattle.common.specs.RefusalLaws.{refuses-none}

@@ -3,7 +3,7 @@
 ghost use mathlib.Core.Path.{_≡_};
 ghost use Prim.Native.Nat.{_/_, _≤_};
 ghost use Rattle.common.specs.Refusal.{firstRefusal};
-ghost use Rattle.common.specs.All.{every};
+ghost use Rattle.common.specs.Each.{every};
 ghost use Rattle.float.specs.Float.{isFinite};
 ghost use Rattle.seed_rules.specs.Layout.{allSeeds};
 ghost use Rattle.search_start.specs.Start.{positive, goodSeed, tooMany, demandOf, openingOf, optionsChecks, startRefusal, startReply, startList};

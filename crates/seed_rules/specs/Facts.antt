@@ -10,7 +10,8 @@ use native.Mathlib.Omega.{arith}
 use lib.Dec.{T}
 use lib.ListN.{length}
 use lib.Ieee.{Float, binary64, fits, le}
-use Rattle.common.specs.All.{All, all-append, all-map}
+use Rattle.common.specs.All.{all-append, all-map}
+use Rattle.common.specs.Each.{All}
 use Rattle.float.specs.Binary64.{_+₆₄_}
 use Rattle.float.specs.Sign.{abs-add-zero}
 use Rattle.float.specs.Literals.{plusZero}

@@ -6,7 +6,8 @@ use mathlib.Core.Logic.{_⊎_, inl, inr, ⊎-elim}
 use Prim.Native.Nat.{ℕ, suc, _+_, _≤_}
 use native.Mathlib.Omega.{arith}
 use lib.ListN.{length, length-append}
-use Rattle.common.specs.All.{All, all-append}
+use Rattle.common.specs.All.{all-append}
+use Rattle.common.specs.Each.{All}
 use Rattle.common.specs.Tests.{case}
 use Rattle.seed_rules.specs.declared.Found.the-variants.{At, Nothing}
 use Rattle.seed_rules.specs.Merge.{keep, hasNear, firstNear, push, mergedInto}

@@ -4,7 +4,7 @@ use mathlib.Core.Path.{_≡_, sym, ap, _∙_}
 use native.Mathlib.Omega.{arith}
 use borrow.Author.Needs.{needs}
 use Rattle.camera_undistort.specs.Undistortion.{estimateAt, trials}
-use Rattle.camera_undistort.specs.Turns.{trials-end, trials-accepts, trials-halves}
+use Rattle.camera_undistort.proofs.Turns.{trials-end, trials-accepts, trials-halves}
 use Rattle.camera_undistort.proofs.line_search.Statement.{statement}
 use Rattle.camera_undistort.proofs.line_search.Tie as tie
 

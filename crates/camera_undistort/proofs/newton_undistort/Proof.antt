@@ -4,7 +4,7 @@ use mathlib.Core.Path.{_≡_, sym, ap, _∙_}
 use native.Mathlib.Omega.{arith}
 use borrow.Author.Needs.{needs}
 use Rattle.camera_undistort.specs.Undistortion.{newton, lastStep}
-use Rattle.camera_undistort.specs.Turns.{newton-none, newton-ends, newton-last, newton-next}
+use Rattle.camera_undistort.proofs.Turns.{newton-none, newton-ends, newton-last, newton-next}
 use Rattle.camera_undistort.proofs.newton_undistort.Statement.{statement}
 use Rattle.camera_undistort.proofs.newton_undistort.Tie as tie
 

@@ -11,7 +11,7 @@ use lib.ListN.{length, getD, drop}
 use lib.Seq.{drop-cons, drop-length}
 use lib.Ieee.{Float, nan}
 use Rattle.float.specs.Float.{isFinite}
-use Rattle.common.specs.All.{every}
+use Rattle.common.specs.Each.{every}
 use Rattle.point_homography.specs.Rows.{allFinite}
 use Rattle.point_homography.proofs.all_finite.Statement.{statement}
 use Rattle.point_homography.proofs.all_finite.Tie as tie

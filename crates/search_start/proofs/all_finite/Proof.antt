@@ -7,7 +7,8 @@ use borrow.Author.Tests.{not-true, not-false}
 use lib.ListN.{length, getD, drop}
 use lib.Seq.{drop-cons}
 use lib.Ieee.{nan}
-use Rattle.common.specs.All.{every, every-here, every-next, every-end}
+use Rattle.common.specs.All.{every-here, every-next, every-end}
+use Rattle.common.specs.Each.{every}
 use Rattle.float.specs.Float.{isFinite}
 use Rattle.search_start.proofs.all_finite.Statement.{statement}
 use Rattle.search_start.proofs.all_finite.Tie as tie

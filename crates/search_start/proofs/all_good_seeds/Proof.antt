@@ -8,7 +8,8 @@ use native.Mathlib.Omega.{arith}
 use borrow.Author.Needs.{needs}
 use borrow.Author.Tests.{not-true, not-false}
 use lib.ListN.{length, drop}
-use Rattle.common.specs.All.{every, every-here, every-next, every-end}
+use Rattle.common.specs.All.{every-here, every-next, every-end}
+use Rattle.common.specs.Each.{every}
 use Rattle.seed_rules.specs.Layout.{seedAt, seedsOf}
 use Rattle.seed_rules.specs.LayoutLaws.{read-length, seeds-drop}
 use Rattle.search_start.specs.Start.{goodSeed}

@@ -1,7 +1,7 @@
 -- `capi_records::run::copy_part` meets its contract, by that of `copy`. Assumes nothing.
 use borrow.Author.Needs.{needs}
 use mathlib.Core.Path.{_∙_}
-use Rattle.capi_records.specs.Copied.{count-short, copied-short, count-front, copied-front}
+use Rattle.capi_records.proofs.Copied.{count-short, copied-short, count-front, copied-front}
 use Rattle.capi_records.proofs.run.copy_part.Statement.{statement}
 use Rattle.capi_records.proofs.run.copy_part.Tie as tie
 

@@ -3,7 +3,7 @@ use mathlib.Core.Path.{sym, _∙_}
 use borrow.Author.Tests.{eq-eqb, ne-eqb}
 use borrow.Author.Needs.{needs}
 use Rattle.point_maps.specs.Maps.{mapReply, mapDestination}
-use Rattle.point_maps.specs.Accepted.{accepted}
+use Rattle.point_maps.proofs.Accepted.{accepted}
 use Rattle.point_maps.proofs.maps.map_all.Statement.{statement}
 use Rattle.point_maps.proofs.maps.map_all.Tie as tie
 

@@ -5,7 +5,7 @@ use native.Mathlib.Omega.{arith}
 use borrow.Author.Needs.{needs}
 use lib.ListN.{length, length-set}
 use Rattle.point_maps.specs.Maps.{mappedPoint}
-use Rattle.point_maps.specs.Written.{front, front-none, front-next, front-all}
+use Rattle.point_maps.proofs.Written.{front, front-none, front-next, front-all}
 use Rattle.point_maps.proofs.maps.map_points.Statement.{statement}
 use Rattle.point_maps.proofs.maps.map_points.Tie as tie
 
