@@ -1,4 +1,4 @@
--- Exact cases of the closed form: a camera of whole numbers up to 256, times a power of two, comes back from its conic. Assumes nothing.
+-- Exact cases of the closed form: a camera of whole numbers up to 256, times a power of two, comes back from its conic, and from the negated one. Assumes nothing.
 use mathlib.Core.Path.{_≡_, refl, sym, ap, _∙_, subst}
 use mathlib.Core.Bool.{Bool, true, false, not, true≢false}
 use Prim.Native.Nat.{ℕ, _+_, _*_, _^_, _≤_, _<_}
@@ -11,6 +11,7 @@ use lib.Ieee.Fits.{round-fits, div-fits}
 use lib.Ieee.Positive.{num, den, value→cross, positive-of-value}
 use Rattle.float.specs.Whole.{Is, Num, Few, held, has-value, round-is, neg-is, num-zero, num-mul, num-div, num-add, num-sub, num-less, is-equal, is-positive, div-at-least, one-least, abs-is}
 use Rattle.float.specs.Float.{absOf}
+use Rattle.float.specs.Sign.{abs-neg}
 use Rattle.float.specs.Order.{lt-le-trans, le-not-lt}
 use Rattle.float.specs.Binary64.{_+₆₄_, _-₆₄_, _*₆₄_, _/₆₄_}
 use Rattle.root.specs.Root.{root}
@@ -60,6 +61,19 @@ unlike-itself : (t : Bool) → unlike t t ≡ false
 unlike-itself true = refl
 unlike-itself false = refl
 
+-- a sign that is taken twice is gone
+unlike-twice : (s t : Bool) → unlike s (unlike s t) ≡ t
+unlike-twice true true = refl
+unlike-twice true false = refl
+unlike-twice false true = refl
+unlike-twice false false = refl
+
+unlike-back : (s t : Bool) → unlike (unlike s t) s ≡ t
+unlike-back true true = refl
+unlike-back true false = refl
+unlike-back false true = refl
+unlike-back false false = refl
+
 signed : (x : Float) (s t : Bool) (n z : ℕ) → s ≡ t → Num x s n z → Num x t n z
 signed x s t n z e v = rw (sym e) v
 
@@ -72,14 +86,22 @@ one-large : lt leastB11 (round binary64 false 1 1) ≡ true
 unfolding lt ofBits round
 one-large = refl
 
--- ---- a camera of p 2^k, q 2^k, ±x 2^k and ±y 2^k
-pub record Conic-of (p q x y k : ℕ) (sx sy : Bool) (b : Conic) : Type 0 where
-  pub b11 : Num (b .b11) false (q * q) 0
-  pub b12 : Num (b .b12) false 0 0
-  pub b22 : Num (b .b22) false (p * p) 0
-  pub b13 : Num (b .b13) (not sx) (x * (q * q)) k
-  pub b23 : Num (b .b23) (not sy) (y * (p * p)) k
-  pub b33 : Num (b .b33) false (x * x * (q * q) + y * y * (p * p) + p * p * (q * q)) (k + k)
+-- ---- a whole number above 0 in size is larger than 1e-12
+positive-large : (x : Float) (n : ℕ) → 0 < n → Is x false n → lt leastB11 (absOf x) ≡ true
+positive-large x n p v = rw (abs-is x n p v) (lt-le-trans leastB11 (round binary64 false 1 1) x one-large (one-least x n p v))
+
+large : (x : Float) (s : Bool) (n : ℕ) → 0 < n → Is x s n → lt leastB11 (absOf x) ≡ true
+large x false n p v = positive-large x n p v
+large x true n p v = rw (sym (abs-neg x)) (positive-large (neg x) n p (neg-is x true n v))
+
+-- ---- μ K⁻ᵀ K⁻¹ for a camera K of p 2^k, q 2^k, ±x 2^k and ±y 2^k, where μ is p² q² 2^2k, or where s is true the negative of that
+pub record Conic-of (p q x y k : ℕ) (sx sy s : Bool) (b : Conic) : Type 0 where
+  pub b11 : Num (b .b11) s (q * q) 0
+  pub b12 : Num (b .b12) s 0 0
+  pub b22 : Num (b .b22) s (p * p) 0
+  pub b13 : Num (b .b13) (unlike s (not sx)) (x * (q * q)) k
+  pub b23 : Num (b .b23) (unlike s (not sy)) (y * (p * p)) k
+  pub b33 : Num (b .b33) s (x * x * (q * q) + y * y * (p * p) + p * p * (q * q)) (k + k)
 
 -- The reply is a camera whose four numbers equal those of f, as IEEE 754 compares: they are the same but for the sign of a zero.
 pub record Recovered (f : FxFyCxCy) (r : Estimated) : Type 0 where
@@ -90,7 +112,7 @@ pub record Recovered (f : FxFyCxCy) (r : Estimated) : Type 0 where
   pub cx : eq (camera .cx) (f .cx) ≡ true
   pub cy : eq (camera .cy) (f .cy) ≡ true
 
-module _ (p q x y k : ℕ) (sx sy : Bool) (b : Conic) (c : Conic-of p q x y k sx sy b) (p-pos : 0 < p) (q-pos : 0 < q) (p-le : p ≤ 256) (q-le : q ≤ 256) (x-le : x ≤ 256) (y-le : y ≤ 256) (few : k ≤ 300) where
+module _ (p q x y k : ℕ) (sx sy s : Bool) (b : Conic) (c : Conic-of p q x y k sx sy s b) (p-pos : 0 < p) (q-pos : 0 < q) (p-le : p ≤ 256) (q-le : q ≤ 256) (x-le : x ≤ 256) (y-le : y ≤ 256) (few : k ≤ 300) where
   pp : p * p ≤ 256 * 256
   pp = mul-le-mul p-le p-le
 
@@ -108,19 +130,19 @@ module _ (p q x y k : ℕ) (sx sy : Bool) (b : Conic) (c : Conic-of p q x y k sx
   unfolding D
   denom-is =
       let n : q * q * (p * p) ≤ 65536 * 65536 = mul-le-mul qq pp in
-      let m = signed (b .b11 *₆₄ b .b22) (unlike false false) false D 0 refl (num-mul (b .b11) (b .b22) false false (q * q) (p * p) 0 0 D 0 (c .b11) (c .b22) refl refl (omega arith) (omega arith)) in
-      let o = zero-times (b .b12) (b .b12) false false 0 0 (c .b12) (c .b12) (omega arith) in
-      num-sub (b .b11 *₆₄ b .b22) (b .b12 *₆₄ b .b12) false D 0 D 0 m (num-zero (b .b12 *₆₄ b .b12) false true 0 0 o) (sym (add-zero D)) (omega arith) (omega arith)
+      let m = signed (b .b11 *₆₄ b .b22) (unlike s s) false D 0 (unlike-itself s) (num-mul (b .b11) (b .b22) s s (q * q) (p * p) 0 0 D 0 (c .b11) (c .b22) refl refl (omega arith) (omega arith)) in
+      let o = zero-times (b .b12) (b .b12) s s 0 0 (c .b12) (c .b12) (omega arith) in
+      num-sub (b .b11 *₆₄ b .b22) (b .b12 *₆₄ b .b12) false D 0 D 0 m (num-zero (b .b12 *₆₄ b .b12) s true 0 0 o) (sym (add-zero D)) (omega arith) (omega arith)
 
   -- b12 b13 - b11 b23
   cross-is : Num (b .b12 *₆₄ b .b13 -₆₄ b .b11 *₆₄ b .b23) sy (q * q * (y * (p * p))) k
   cross-is =
       let n : q * q * (y * (p * p)) ≤ 65536 * (256 * 65536) = mul-le-mul qq (mul-le-mul y-le pp) in
       let w = q * q * (y * (p * p)) in
-      let o = zero-times (b .b12) (b .b13) false (not sx) (x * (q * q)) k (c .b12) (c .b13) (omega arith) in
-      let m = num-mul (b .b11) (b .b23) false (not sy) (q * q) (y * (p * p)) 0 k w k (c .b11) (c .b23) refl (sym (zero-add k)) (omega arith) (omega arith) in
-      num-sub (b .b12 *₆₄ b .b13) (b .b11 *₆₄ b .b23) sy 0 w w k (num-zero (b .b12 *₆₄ b .b13) false sy 0 k o)
-      (signed (b .b11 *₆₄ b .b23) (unlike false (not sy)) (not sy) w k (unlike-first (not sy)) m)
+      let o = zero-times (b .b12) (b .b13) s (unlike s (not sx)) (x * (q * q)) k (c .b12) (c .b13) (omega arith) in
+      let m = num-mul (b .b11) (b .b23) s (unlike s (not sy)) (q * q) (y * (p * p)) 0 k w k (c .b11) (c .b23) refl (sym (zero-add k)) (omega arith) (omega arith) in
+      num-sub (b .b12 *₆₄ b .b13) (b .b11 *₆₄ b .b23) sy 0 w w k (num-zero (b .b12 *₆₄ b .b13) s sy 0 k o)
+      (signed (b .b11 *₆₄ b .b23) (unlike s (unlike s (not sy))) (not sy) w k (unlike-twice s (not sy)) m)
       (sym (zero-add w)) (omega arith) (omega arith)
 
   v0-is : Num (v0 b) sy y k
@@ -131,7 +153,7 @@ module _ (p q x y k : ℕ) (sx sy : Bool) (b : Conic) (c : Conic-of p q x y k sx
       (num-div (b .b12 *₆₄ b .b13 -₆₄ b .b11 *₆₄ b .b23) (denom b) sy false w D k 0 y k cross-is denom-is D-pos (simp (mul-assoc, mul-left-comm, mul-comm)) (sym (add-zero k)) (omega arith) (omega arith))
 
   -- (b13² + v0 (b12 b13 - b11 b23)) / b11
-  offset-is : Num ((b .b13 *₆₄ b .b13 +₆₄ v0 b *₆₄ (b .b12 *₆₄ b .b13 -₆₄ b .b11 *₆₄ b .b23)) /₆₄ b .b11) false (x * x * (q * q) + y * y * (p * p)) (k + k)
+  offset-is : Num ((b .b13 *₆₄ b .b13 +₆₄ v0 b *₆₄ (b .b12 *₆₄ b .b13 -₆₄ b .b11 *₆₄ b .b23)) /₆₄ b .b11) s (x * x * (q * q) + y * y * (p * p)) (k + k)
   offset-is =
       let w = b .b12 *₆₄ b .b13 -₆₄ b .b11 *₆₄ b .b23 in
       let n1 = x * (q * q) * (x * (q * q)) in
@@ -142,23 +164,26 @@ module _ (p q x y k : ℕ) (sx sy : Bool) (b : Conic) (c : Conic-of p q x y k sx
       let l3 : x * x * (q * q) ≤ 256 * 256 * 65536 = mul-le-mul (mul-le-mul x-le x-le) qq in
       let l4 : y * y * (p * p) ≤ 256 * 256 * 65536 = mul-le-mul (mul-le-mul y-le y-le) pp in
       let s1 =
-      signed (b .b13 *₆₄ b .b13) (unlike (not sx) (not sx)) false n1 (k + k) (unlike-itself (not sx))
-      (num-mul (b .b13) (b .b13) (not sx) (not sx) (x * (q * q)) (x * (q * q)) k k n1 (k + k) (c .b13) (c .b13) refl refl (omega arith) (omega arith)) in
+      signed (b .b13 *₆₄ b .b13) (unlike (unlike s (not sx)) (unlike s (not sx))) false n1 (k + k) (unlike-itself (unlike s (not sx)))
+      (num-mul (b .b13) (b .b13) (unlike s (not sx)) (unlike s (not sx)) (x * (q * q)) (x * (q * q)) k k n1 (k + k) (c .b13) (c .b13) refl refl (omega arith) (omega arith)) in
       let s2 =
       signed (v0 b *₆₄ w) (unlike sy sy) false n2 (k + k) (unlike-itself sy)
       (num-mul (v0 b) w sy sy y (q * q * (y * (p * p))) k k n2 (k + k) v0-is cross-is refl refl (omega arith) (omega arith)) in
       let s3 = num-add (b .b13 *₆₄ b .b13) (v0 b *₆₄ w) false n1 n2 (n1 + n2) (k + k) s1 s2 refl (omega arith) (omega arith) in
       let e : n1 + n2 ≡ n * (q * q) = simp (add-mul, mul-assoc, mul-left-comm, mul-comm) in
-      num-div (b .b13 *₆₄ b .b13 +₆₄ v0 b *₆₄ w) (b .b11) false false (n1 + n2) (q * q) (k + k) 0 n (k + k) s3 (c .b11) (mul-pos q-pos q-pos) e (sym (add-zero (k + k))) (omega arith) (omega arith)
+      signed ((b .b13 *₆₄ b .b13 +₆₄ v0 b *₆₄ w) /₆₄ b .b11) (unlike false s) s n (k + k) (unlike-first s)
+      (num-div (b .b13 *₆₄ b .b13 +₆₄ v0 b *₆₄ w) (b .b11) false s (n1 + n2) (q * q) (k + k) 0 n (k + k) s3 (c .b11) (mul-pos q-pos q-pos) e (sym (add-zero (k + k))) (omega arith) (omega arith))
 
-  lambda-is : Num (lambda b) false (p * p * (q * q)) (k + k)
+  lambda-is : Num (lambda b) s (p * p * (q * q)) (k + k)
   lambda-is =
       let n : p * p * (q * q) ≤ 65536 * 65536 = mul-le-mul pp qq in
-      num-less (b .b33) ((b .b13 *₆₄ b .b13 +₆₄ v0 b *₆₄ (b .b12 *₆₄ b .b13 -₆₄ b .b11 *₆₄ b .b23)) /₆₄ b .b11) false
+      num-less (b .b33) ((b .b13 *₆₄ b .b13 +₆₄ v0 b *₆₄ (b .b12 *₆₄ b .b13 -₆₄ b .b11 *₆₄ b .b23)) /₆₄ b .b11) s
       (x * x * (q * q) + y * y * (p * p) + p * p * (q * q)) (x * x * (q * q) + y * y * (p * p)) (p * p * (q * q)) (k + k) (c .b33) offset-is refl (omega arith) (omega arith)
 
   ratio-is : Num (lambda b /₆₄ b .b11) false (p * p) (k + k)
-  ratio-is = num-div (lambda b) (b .b11) false false (p * p * (q * q)) (q * q) (k + k) 0 (p * p) (k + k) lambda-is (c .b11) (mul-pos q-pos q-pos) refl (sym (add-zero (k + k))) (omega (arith, pp)) (omega arith)
+  ratio-is =
+      signed (lambda b /₆₄ b .b11) (unlike s s) false (p * p) (k + k) (unlike-itself s)
+      (num-div (lambda b) (b .b11) s s (p * p * (q * q)) (q * q) (k + k) 0 (p * p) (k + k) lambda-is (c .b11) (mul-pos q-pos q-pos) refl (sym (add-zero (k + k))) (omega (arith, pp)) (omega arith))
 
   alpha-is : Num (alpha b) false p k
   alpha-is = num-root (lambda b /₆₄ b .b11) (p * p) (k + k) p k (div-fits binary64 (lambda b) (b .b11)) ratio-is p-pos refl refl (omega arith) (omega arith)
@@ -168,17 +193,19 @@ module _ (p q x y k : ℕ) (sx sy : Bool) (b : Conic) (c : Conic-of p q x y k sx
   beta-is =
       let t = p * p * (q * q) * (q * q) in
       let n : t ≤ 65536 * 65536 * 65536 = mul-le-mul (mul-le-mul pp qq) qq in
-      let m = num-mul (lambda b) (b .b11) false false (p * p * (q * q)) (q * q) (k + k) 0 t (k + k) lambda-is (c .b11) refl (sym (add-zero (k + k))) (omega arith) (omega arith) in
+      let m =
+      signed (lambda b *₆₄ b .b11) (unlike s s) false t (k + k) (unlike-itself s)
+      (num-mul (lambda b) (b .b11) s s (p * p * (q * q)) (q * q) (k + k) 0 t (k + k) lambda-is (c .b11) refl (sym (add-zero (k + k))) (omega arith) (omega arith)) in
       let r = num-div (lambda b *₆₄ b .b11) (denom b) false false t D (k + k) 0 (q * q) (k + k) m denom-is D-pos (simp (mul-assoc, mul-left-comm, mul-comm)) (sym (add-zero (k + k))) (omega (arith, qq)) (omega arith) in
       num-root (lambda b *₆₄ b .b11 /₆₄ denom b) (q * q) (k + k) q k (div-fits binary64 (lambda b *₆₄ b .b11) (denom b)) r q-pos refl refl (omega arith) (omega arith)
 
   gamma-is : Num (gamma b) true 0 0
   gamma-is =
-      let o = num-zero (neg (b .b12)) true true 0 0 (neg-is (b .b12) false (0 * 1) (c .b12)) in
+      let o = num-zero (neg (b .b12)) (not s) true 0 0 (neg-is (b .b12) s (0 * 1) (c .b12)) in
       let o1 = zero-times (neg (b .b12)) (alpha b) true false p k o alpha-is (omega arith) in
       let o2 = zero-times (neg (b .b12) *₆₄ alpha b) (alpha b) true false p k o1 alpha-is (omega arith) in
       let o3 = zero-times (neg (b .b12) *₆₄ alpha b *₆₄ alpha b) (beta b) true false q k o2 beta-is (omega arith) in
-      zero-over (neg (b .b12) *₆₄ alpha b *₆₄ alpha b *₆₄ beta b) (lambda b) true false (p * p * (q * q)) (k + k) o3 lambda-is (mul-pos (mul-pos p-pos p-pos) (mul-pos q-pos q-pos)) (omega arith)
+      zero-over (neg (b .b12) *₆₄ alpha b *₆₄ alpha b *₆₄ beta b) (lambda b) true s (p * p * (q * q)) (k + k) o3 lambda-is (mul-pos (mul-pos p-pos p-pos) (mul-pos q-pos q-pos)) (omega arith)
 
   u0-is : Num (u0 b) sx x k
   u0-is =
@@ -186,12 +213,13 @@ module _ (p q x y k : ℕ) (sx sy : Bool) (b : Conic) (c : Conic-of p q x y k sx
       let l1 : n1 ≤ 256 * 65536 * 256 = mul-le-mul (mul-le-mul x-le qq) p-le in
       let l2 : n1 * p ≤ 256 * 65536 * 256 * 256 = mul-le-mul l1 p-le in
       let o = zero-over (gamma b *₆₄ v0 b) (beta b) true false q k (zero-times (gamma b) (v0 b) true sy y k gamma-is v0-is (omega arith)) beta-is q-pos (omega arith) in
-      let h1 = signed (b .b13 *₆₄ alpha b) (unlike (not sx) false) (not sx) n1 (k + k) (unlike-second (not sx))
-      (num-mul (b .b13) (alpha b) (not sx) false (x * (q * q)) p k k n1 (k + k) (c .b13) alpha-is refl refl (omega arith) (omega arith)) in
-      let h2 = signed (b .b13 *₆₄ alpha b *₆₄ alpha b) (unlike (not sx) false) (not sx) (n1 * p) (k + k + k) (unlike-second (not sx))
-      (num-mul (b .b13 *₆₄ alpha b) (alpha b) (not sx) false n1 p (k + k) k (n1 * p) (k + k + k) h1 alpha-is refl refl (omega arith) (omega arith)) in
-      let h3 = signed (b .b13 *₆₄ alpha b *₆₄ alpha b /₆₄ lambda b) (unlike (not sx) false) (not sx) x k (unlike-second (not sx))
-      (num-div (b .b13 *₆₄ alpha b *₆₄ alpha b) (lambda b) (not sx) false (n1 * p) (p * p * (q * q)) (k + k + k) (k + k) x k h2 lambda-is (mul-pos (mul-pos p-pos p-pos) (mul-pos q-pos q-pos))
+      let t = unlike s (not sx) in
+      let h1 = signed (b .b13 *₆₄ alpha b) (unlike t false) t n1 (k + k) (unlike-second t)
+      (num-mul (b .b13) (alpha b) t false (x * (q * q)) p k k n1 (k + k) (c .b13) alpha-is refl refl (omega arith) (omega arith)) in
+      let h2 = signed (b .b13 *₆₄ alpha b *₆₄ alpha b) (unlike t false) t (n1 * p) (k + k + k) (unlike-second t)
+      (num-mul (b .b13 *₆₄ alpha b) (alpha b) t false n1 p (k + k) k (n1 * p) (k + k + k) h1 alpha-is refl refl (omega arith) (omega arith)) in
+      let h3 = signed (b .b13 *₆₄ alpha b *₆₄ alpha b /₆₄ lambda b) (unlike t s) (not sx) x k (unlike-back s (not sx))
+      (num-div (b .b13 *₆₄ alpha b *₆₄ alpha b) (lambda b) t s (n1 * p) (p * p * (q * q)) (k + k + k) (k + k) x k h2 lambda-is (mul-pos (mul-pos p-pos p-pos) (mul-pos q-pos q-pos))
       (simp (mul-assoc, mul-left-comm, mul-comm)) (omega arith) (omega arith) (omega arith)) in
       num-sub (gamma b *₆₄ v0 b /₆₄ beta b) (b .b13 *₆₄ alpha b *₆₄ alpha b /₆₄ lambda b) sx 0 x x k (num-zero (gamma b *₆₄ v0 b /₆₄ beta b) true sx 0 k o) h3 (sym (zero-add x)) (omega arith) (omega arith)
 
@@ -199,8 +227,10 @@ module _ (p q x y k : ℕ) (sx sy : Bool) (b : Conic) (c : Conic-of p q x y k sx
   norm-is =
       let l1 : q * q * (q * q) ≤ 65536 * 65536 = mul-le-mul qq qq in
       let l2 : p * p * (p * p) ≤ 65536 * 65536 = mul-le-mul pp pp in
-      let m1 = num-mul (b .b11) (b .b11) false false (q * q) (q * q) 0 0 (q * q * (q * q)) 0 (c .b11) (c .b11) refl refl (omega arith) (omega arith) in
-      let m2 = num-mul (b .b22) (b .b22) false false (p * p) (p * p) 0 0 (p * p * (p * p)) 0 (c .b22) (c .b22) refl refl (omega arith) (omega arith) in
+      let m1 = signed (b .b11 *₆₄ b .b11) (unlike s s) false (q * q * (q * q)) 0 (unlike-itself s)
+      (num-mul (b .b11) (b .b11) s s (q * q) (q * q) 0 0 (q * q * (q * q)) 0 (c .b11) (c .b11) refl refl (omega arith) (omega arith)) in
+      let m2 = signed (b .b22 *₆₄ b .b22) (unlike s s) false (p * p * (p * p)) 0 (unlike-itself s)
+      (num-mul (b .b22) (b .b22) s s (p * p) (p * p) 0 0 (p * p * (p * p)) 0 (c .b22) (c .b22) refl refl (omega arith) (omega arith)) in
       num-add (b .b11 *₆₄ b .b11) (b .b22 *₆₄ b .b22) false (q * q * (q * q)) (p * p * (p * p)) (q * q * (q * q) + p * p * (p * p)) 0 m1 m2 refl (omega arith) (omega arith)
 
   -- ---- the tests pass
@@ -223,11 +253,8 @@ module _ (p q x y k : ℕ) (sx sy : Bool) (b : Conic) (c : Conic-of p q x y k sx
       n : 0 < q * q * 1
       n = let Q : 0 < q * q = mul-pos q-pos q-pos in omega arith
 
-      large : lt leastB11 (absOf (b .b11)) ≡ true
-      large = rw (abs-is (b .b11) (q * q * 1) n (c .b11)) (lt-le-trans leastB11 (round binary64 false 1 1) (b .b11) one-large (one-least (b .b11) (q * q * 1) n (c .b11)))
-
       go : (r : Bool) → le (absOf (b .b11)) leastB11 ≡ r → r ≡ false
-      go true h = absurd (true≢false (sym large ∙ le-not-lt (absOf (b .b11)) leastB11 h))
+      go true h = absurd (true≢false (sym (large (b .b11) s (q * q * 1) n (c .b11)) ∙ le-not-lt (absOf (b .b11)) leastB11 h))
       go false h = refl
 
   pos-times : (n z : ℕ) → 0 < n → 0 < n * 2 ^ z
