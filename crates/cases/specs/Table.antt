@@ -7,7 +7,6 @@ use Rattle.float.specs.Float.{absOf, isFinite, minOf, maxOf}
 use Rattle.root.specs.Root.{root}
 use Rattle.camera_models.specs.declared.math.Pt2.{Pt2}
 use Rattle.camera_tilt.specs.declared.sensor.Tilt.the-variants as verdict
-use Rattle.camera_models.specs.Constants.{tiny}
 use Rattle.camera_tilt.specs.Matrix.{Matrix, productOf, firstOther, secondOther, minorOf, determinantOf}
 use Rattle.camera_tilt.specs.Sensor.{tiltProjectionMatrix, tiltVerdict, forwardDepth, inverseDepth, applyHomography, applyHomographyInverse}
 use Rattle.point_maps.specs.declared.centre.Center.the-variants.{At}
@@ -63,7 +62,7 @@ table =
     ∷ penalty (tilts half (whole 0)) (bits 0x3fb0_0000_0000_0000)
     ∷ tilt (whole 1) (whole 0) (whole 0) (whole 1) (verdict.Refused 15)
     ∷ backward diagonal (point (whole 2) (whole 3)) (point (minus 1) (bits 0xbff8_0000_0000_0000))
-    ∷ forward diagonal (point (whole 2) (whole 3)) (point (div binary64 (whole 2) tiny) (div binary64 (whole 3) tiny))
+    ∷ forward diagonal (point (whole 2) (whole 3)) (point (bits 0x427d_1a94_a200_0000) (bits 0x4285_d3ef_7980_0000))
     ∷ []
 
 -- Each row is proved by computing both sides.
