@@ -1,4 +1,5 @@
--- The search takes no side: with every typed tilt negated, round 0's list is the same with each tilt negated. Assumes nothing.
+-- Round 0's list takes no side: with every tilt of Start's inputs negated, the typed ones and those of the decomposition, it is the same list with each tilt negated.
+-- This is about round 0's list alone. From round 1 on the offsets come in the order -s, 0, s, and equal scores fall to the earlier seed. Assumes nothing.
 use mathlib.Core.Path.{_≡_, refl, sym, ap, _∙_}
 use mathlib.Core.Bool.{Bool, _&&_}
 use mathlib.Core.List.{List, [], _∷_, _++_, map, map-append}
@@ -55,17 +56,13 @@ grid-opposite xs ys max =
     ∙ ap (merged tiltNear) (keep-map (inBound max) opposite (bound-opposite max) (pairs xs ys))
     ∙ merged-map tiltNear opposite near-opposite [] (keep (inBound max) (pairs xs ys))
 
--- ---- round 0's list, with the decomposition's seeds negated too
-list-mirrored : (ds : List CandidateSeed) (xs ys : List Float) (base : FxFyCxCy) (max : Float)
+-- ---- round 0's list of the negated seeds is the negated list
+pub initial-list-negated : (ds : List CandidateSeed) (xs ys : List Float) (base : FxFyCxCy) (max : Float)
     → initialList (map mirrored ds) (map neg xs) (map neg ys) base max ≡ map mirrored (initialList ds xs ys base max)
 unfolding initialList
-list-mirrored ds xs ys base max =
+initial-list-negated ds xs ys base max =
     let g = seedGrid xs ys max in
     ap (λ (ts : List ScheimpflugParams). merged near (map mirrored ds ++ map (seedWith base) ts)) (grid-opposite xs ys max)
     ∙ ap (λ (ss : List CandidateSeed). merged near (map mirrored ds ++ ss)) (map-map opposite (seedWith base) (seedWith base) mirrored (λ t. refl) g)
     ∙ ap (merged near) (sym (map-append mirrored ds (map (seedWith base) g)))
     ∙ merged-map near mirrored near-mirrored [] (ds ++ map (seedWith base) g)
-
-pub takes-no-side : (xs ys : List Float) (base : FxFyCxCy) (max : Float)
-    → initialList [] (map neg xs) (map neg ys) base max ≡ map mirrored (initialList [] xs ys base max)
-takes-no-side xs ys base max = list-mirrored [] xs ys base max
