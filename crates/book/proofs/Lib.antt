@@ -10,4 +10,5 @@ pub mod Refusals
 pub mod Starts
 pub mod Walks
 pub mod Opening
+pub mod Ending
 pub mod Theorem

@@ -8,13 +8,14 @@ use mathlib.Core.List.{List, [], _∷_}
 use borrow.Author.Tests.{ltb-true, ltb-false, eqb-true, eqb-false}
 use lib.Dec.{ltb, eqb, eqb·suc-zero}
 use lib.ListN.{length}
-use lib.Ieee.{Float, lt}
+use lib.Ieee.{Float, neg, lt, le}
 use Rattle.common.specs.Each.{every}
 use Rattle.common.specs.Refusal.{Check, _when_, firstRefusal}
 use Rattle.float.specs.Float.{isFinite}
 use Rattle.float.specs.Literals.{plusZero}
 use Rattle.seed_rules.specs.declared.CandidateSeed.{CandidateSeed}
 use Rattle.seed_rules.specs.Rules.{within, inBound}
+use Rattle.seed_rules.specs.Bound.{within-order}
 use Rattle.seed_rules.specs.Layout.{allSeeds}
 use Rattle.search_start.specs.Start.{positive, goodSeed, tooMany, demandOf, startChecks}
 use Rattle.book.specs.Book.{Inputs, demand}
@@ -96,6 +97,9 @@ none-returned ((m when false) ∷ ts) ((k provided C) ∷ cs) d h = none-returne
 not-positive : (x : Float) → Decides (not (positive x)) (NotPositive x)
 not-positive x = not-both (isFinite x) (lt plusZero x) (fails-of (isFinite x)) (fails-of (lt plusZero x))
 
+beyond : (max t : Float) → Decides (not (within max t)) (Beyond max t)
+beyond max t = rw (within-order max t) (not-both (le (neg max) t) (le t max) (fails-of (le (neg max) t)) (fails-of (le t max)))
+
 bad-seed : (max : Float) (s : CandidateSeed) → Decides (not (goodSeed max s)) (BadSeed max s)
 unfolding goodSeed inBound
 bad-seed max s =
@@ -114,7 +118,7 @@ bad-seed max s =
     (fails-of (isFinite (k .cy))))
     (fails-of (isFinite (t .«tilt_x»))))
     (fails-of (isFinite (t .«tilt_y»))))
-    (not-both (within max (t .«tilt_x»)) (within max (t .«tilt_y»)) (fails-of (within max (t .«tilt_x»))) (fails-of (within max (t .«tilt_y»))))
+    (not-both (within max (t .«tilt_x»)) (within max (t .«tilt_y»)) (beyond max (t .«tilt_x»)) (beyond max (t .«tilt_y»)))
 
 too-many : (x y d rounds : ℕ) → Decides (tooMany x y d rounds) (((((16 < x) ⊎ (16 < y)) ⊎ (256 < d / 6)) ⊎ (16 < rounds)) ⊎ (d % 6 ≡ 0 → ⊥))
 unfolding tooMany

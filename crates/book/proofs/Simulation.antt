@@ -269,8 +269,8 @@ unfolding scoredOf
 scored-append [] b = refl
 scored-append (e ∷ a) b =
     case-outcome (e .outcome)
-    (λ n h. simp (scoredOf, h) (scored-append a b))
-    (λ s h. simp (scoredOf, h) (ap (λ (x : List Candidate). candidateOf (e .number) (e .seed .sensor) s ∷ x) (scored-append a b)))
+    (λ n h. simp (scoredOf, h, scored-append a b))
+    (λ s h. simp (scoredOf, h, scored-append a b))
 
 -- ---- an outcome is entered
 abbrev pub entry : Book → Outcome → Entry

@@ -35,6 +35,7 @@ use Rattle.book.proofs.Winner.{winner}
 use Rattle.book.proofs.Walks.{State, Walks, walks}
 use Rattle.book.proofs.Starts.{starts}
 use Rattle.book.proofs.Opening.{Opens, opens}
+use Rattle.book.proofs.Ending.{opened-lasts, run-ends}
 
 -- ---- a run that gives a result
 result-over : (b : Book) (l : List Float) (w : Candidate) → Fine b l → resultDef (runOf b) ≡ Result w → (b .over ≡ true) × (runBest b ≡ chosen w)
@@ -61,20 +62,6 @@ all-handed i b l w q f h o e =
     ∙ ap (λ (j : Inputs). handings j (outcomesIn (entries b)) (suc (j .rounds))) q)
     (h .finished o)
 
--- ---- while it is not over
-next-open : (b : Book) (l : List Float) → Fine b l → runOf b .place .over ≡ false → runOf b .waiting .«is_waiting» ≡ false → nextDef (runOf b) l .reply ≡ handed-as.Candidate (runOf b .place .number)
-unfolding nextDef
-next-open b l f o w =
-    let p : b .over ≡ false = simp run-fields at o in
-    let q : b .waits ≡ false = simp run-fields at w in
-    simp (sound-run b l f, run-fields, p, q, le-ltb (length l) (demand (b .inputs)) (f .there .long))
-
-answer-open : (b : Book) (l : List Float) → Fine b l → runOf b .waiting .«is_waiting» ≡ true → (g : Finding) (rows : List Float) (flags : List ℕ) → findingRefusal g rows flags ≡ 0
-    → answerRefusal (runOf b) (length l) g rows flags ≡ 0
-answer-open b l f w g rows flags z =
-    let q : b .waits ≡ true = simp run-fields at w in
-    simp (sound-run b l f, run-fields, q, z, le-ltb (length l) (demand (b .inputs)) (f .there .long))
-
 -- ---- of an accepted Start's book
 follows : (i : Inputs) (l : List Float) (cs : List Call) → State i (opened i) l → NoNan (after (opened i) cs) → Follows i (runOf (opened i)) l cs
 unfolding NoNan
@@ -95,12 +82,15 @@ follows i l cs t n =
           let r = result-over b m v (s .fine) (rw (w .run-is) at h) in
           rw same (winner i (entries b) v n (s .counted) (s .good .proper) (unfold runBest in r .1));
       few-answers = rw same (count-bound b (s .fine .bounded));
-      next-accepted = rw (w .run-is) (next-open b m (s .fine));
-      answer-accepted = rw (w .run-is) (λ o. answer-open b m (s .fine));
     }
+
+opened-number : (i : Inputs) → runOf (opened i) .place .number ≡ 0
+unfolding runOf opened
+opened-number i = refl
 
 pub search-is-book : SearchIsBook
 search-is-book i l = record {
   starts = starts i l;
   follows = λ r h cs n. let o = opens i l r h in rw (o .run-is) (follows i (startedList i l) cs (o .state) n);
+  ends = λ r h cs. let o = opens i l r h in rw (o .run-is) (run-ends i (runOf (opened i)) cs (opened-lasts i (startedList i l) (o .state .fine)) (opened-number i));
 }

@@ -2,16 +2,18 @@
 use Prim.Native.Nat.{ℕ, zero, suc, _+_, _≤_, _<_}
 use native.Mathlib.Omega.{arith}
 use mathlib.Core.Path.{_≡_, refl, sym, ap, _∙_}
+use mathlib.Core.Logic.{_⊎_, inl, inr}
 use mathlib.Core.Bool.{Bool, true, false, not, _&&_, _||_, cond, true≢false}
 use mathlib.Core.List.{List, [], _∷_, _++_, List·Memᴰ, List·Memᴰ·head, Memᴰ·append-right}
 use lib.Dec.{ltb, eqb}
 use lib.ListN.{length}
-use lib.Ieee.{Float, lt, le, eq, isNan}
+use lib.Ieee.{Float, neg, lt, le, eq, isNan}
 use Rattle.common.specs.Tests.{case, both-true}
 use Rattle.common.specs.All.{all-append, all-left, all-right, all-map}
 use Rattle.common.specs.Each.{All}
 use Rattle.float.specs.Order.{lt-asym, lt-irrefl, lt-not-eq, le-of-not-lt}
 use Rattle.seed_rules.specs.Rules.{within, inBound}
+use Rattle.seed_rules.specs.Bound.{within-order}
 use Rattle.score_outcome.specs.declared.Scoring.{Scoring}
 use Rattle.score_outcome.specs.Evaluation.{outcomeOf, findingRefusal}
 use Rattle.score_outcome.specs.Facts.{ScoredFacts}
@@ -92,16 +94,16 @@ module _ (w : Candidate) where
   AtMost : Candidate → Type 0
   AtMost v = le (w .score) (v .score) ≡ true
 
-  NoEarlier : Candidate → Type 0
-  NoEarlier v = eq (w .score) (v .score) ≡ true → w .number ≤ v .number
+  Later : Candidate → Type 0
+  Later v = eq (w .score) (v .score) ≡ true → (v ≡ w) ⊎ (w .number < v .number)
 
   ahead-most : (v : Candidate) → beats w v ≡ true → AtMost v
   unfolding beats AtMost
   ahead-most v h = below-le (w .score) (v .score) h
 
-  ahead-earlier : (v : Candidate) → beats w v ≡ true → NoEarlier v
-  unfolding beats NoEarlier
-  ahead-earlier v h e = absurd (true≢false (sym e ∙ lt-not-eq (w .score) (v .score) h))
+  ahead-later : (v : Candidate) → beats w v ≡ true → Later v
+  unfolding beats Later
+  ahead-later v h e = absurd (true≢false (sym e ∙ lt-not-eq (w .score) (v .score) h))
 
   own-most : Sound w → AtMost w
   unfolding AtMost
@@ -120,13 +122,13 @@ module _ (w : Candidate) where
       (all-append AtMost (l .before) (w ∷ l .behind) (all-map (λ v. beats w v ≡ true) AtMost ahead-most (l .before) (l .ahead))
       (own-most (r .0), behind-most (l .behind) (r .0) (r .1) (l .unbeaten-by)))
 
-  all-earliest : (ws : List Candidate) → Rising ws → Leads ws w → All NoEarlier ws
-  unfolding NoEarlier
+  all-earliest : (ws : List Candidate) → Rising ws → Leads ws w → All Later ws
+  unfolding Later
   all-earliest ws s l =
       let t : Rising (l .before ++ w ∷ l .behind) = rw (l .split) at s in
       rw (l .split)
-      (all-append NoEarlier (l .before) (w ∷ l .behind) (all-map (λ v. beats w v ≡ true) NoEarlier ahead-earlier (l .before) (l .ahead))
-      ((λ e. omega arith), all-map (λ v. w .number < v .number) NoEarlier (λ v p e. omega arith) (l .behind) (rising-behind (l .before) w (l .behind) t)))
+      (all-append Later (l .before) (w ∷ l .behind) (all-map (λ v. beats w v ≡ true) Later ahead-later (l .before) (l .ahead))
+      ((λ e. inl refl), all-map (λ v. w .number < v .number) Later (λ v p e. inr p) (l .behind) (rising-behind (l .before) w (l .behind) t)))
 
   leads-mem : (ws : List Candidate) → Leads ws w → List·Memᴰ w ws
   leads-mem ws l = rw (l .split) (Memᴰ·append-right (l .before) (List·Memᴰ·head refl))
@@ -148,23 +150,31 @@ scored-proper i (e ∷ es) h =
 leads-proper : (i : Inputs) (ws : List Candidate) (w : Candidate) → All (ProperCandidate i) ws → Leads ws w → ProperCandidate i w
 leads-proper i ws w h l = all-right (ProperCandidate i) (l .before) (w ∷ l .behind) (rw (l .split) at h) .0
 
+-- both sides of the bound
+sides : (max t : Float) → within max t ≡ true → (le (neg max) t ≡ true) × (le t max ≡ true)
+sides max t h = both-true (le (neg max) t) (le t max) (rw within-order at h)
+
 bound-parts : (i : Inputs) (w : Candidate) → inBound (i .max) (w .sensor) ≡ true → (within (i .max) (w .sensor .«tilt_x») ≡ true) × (within (i .max) (w .sensor .«tilt_y») ≡ true)
 unfolding inBound
 bound-parts i w h = both-true (within (i .max) (w .sensor .«tilt_x»)) (within (i .max) (w .sensor .«tilt_y»)) h
 
 pub winner : (i : Inputs) (es : List Entry) (w : Candidate) → All Sound (scoredOf es) → Counted 0 es → All (Proper i) es → bestOf (scoredOf es) ≡ chosen w → Wins i es w
-unfolding AtMost NoEarlier
+unfolding AtMost Later
 winner i es w s c p e =
     let l = found-leads (scoredOf es) w s e in
     let q = leads-proper i (scoredOf es) w (scored-proper i es p) l in
     let t = bound-parts i w (q .0) in
+    let x = sides (i .max) (w .sensor .«tilt_x») (t .0) in
+    let y = sides (i .max) (w .sensor .«tilt_y») (t .1) in
     let f = q .1 in
     record {
       is-scored = leads-mem w (scoredOf es) l;
       lowest = all-most w (scoredOf es) s l;
       earliest = all-earliest w (scoredOf es) (scored-rising 0 es c) l;
-      tilt-x-within = t .0;
-      tilt-y-within = t .1;
+      tilt-x-least = x .0;
+      tilt-x-most = x .1;
+      tilt-y-least = y .0;
+      tilt-y-most = y .1;
       fx-finite = f .fx-finite;
       fy-finite = f .fy-finite;
       fx-positive = f .fx-above;

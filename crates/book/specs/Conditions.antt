@@ -5,11 +5,10 @@ use mathlib.Core.Logic.{_⊎_}
 use mathlib.Core.Bool.{false}
 use mathlib.Core.List.{List, [], _∷_}
 use lib.ListN.{length}
-use lib.Ieee.{Float, lt}
+use lib.Ieee.{Float, neg, lt, le}
 use Rattle.float.specs.Float.{isFinite}
 use Rattle.float.specs.Literals.{plusZero}
 use Rattle.seed_rules.specs.declared.CandidateSeed.{CandidateSeed}
-use Rattle.seed_rules.specs.Rules.{within}
 use Rattle.seed_rules.specs.Layout.{allSeeds}
 use Rattle.book.specs.Book.{Inputs, demand}
 
@@ -38,8 +37,9 @@ NotFinite x = isFinite x ≡ false
 abbrev pub NotAboveZero : Float → Type 0
 NotAboveZero x = lt plusZero x ≡ false
 
+-- below −max or above max, or no number
 abbrev pub Beyond : Float → Float → Type 0
-Beyond max t = within max t ≡ false
+Beyond max t = (le (neg max) t ≡ false) ⊎ (le t max ≡ false)
 
 abbrev pub NotPositive : Float → Type 0
 NotPositive x = NotFinite x ⊎ NotAboveZero x

@@ -4,4 +4,5 @@ pub mod Walk
 pub mod Conditions
 pub mod Trace
 pub mod Named
+pub mod Lent
 pub mod Theorem

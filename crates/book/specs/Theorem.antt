@@ -1,20 +1,22 @@
 -- The theorem about every list of calls, as a type. `book/proofs/Theorem.antt` proves it. Definitions only.
-use Prim.Native.Nat.{ℕ, suc, _≤_, _<_}
+use Prim.Native.Nat.{ℕ, suc, _+_, _≤_, _<_}
 use mathlib.Core.Path.{_≡_}
+use mathlib.Core.Logic.{_⊎_}
 use mathlib.Core.Bool.{true, false}
 use mathlib.Core.List.{List, List·Memᴰ}
 use lib.ListN.{length}
-use lib.Ieee.{Float, lt, le, eq, isNan}
+use lib.Ieee.{Float, neg, lt, le, eq, isNan}
 use Rattle.common.specs.Each.{All}
 use Rattle.float.specs.Float.{absOf, isFinite}
 use Rattle.float.specs.Literals.{plusZero}
-use Rattle.seed_rules.specs.Rules.{within}
 use Rattle.score_outcome.specs.declared.Finding.{Finding}
+use Rattle.score_outcome.specs.declared.Finding.the-variants.{Failed}
 use Rattle.score_camera.specs.declared.pinhole.PinholeCamera.{PinholeCamera}
 use Rattle.score_camera.specs.Camera.{tangentialBound}
 use Rattle.score_outcome.specs.Evaluation.{findingRefusal}
 use Rattle.score_best.specs.declared.Candidate.{Candidate}
 use Rattle.search_record.specs.declared.run.Run.{Run}
+use Rattle.search_record.specs.Record.{sound}
 use Rattle.search_record.specs.declared.run.Options.{Options}
 use Rattle.search_start.specs.declared.Started.{Started}
 use Rattle.search_start.specs.declared.Started.the-variants.{Accepted, Refused}
@@ -25,11 +27,12 @@ use Rattle.search_calls.specs.Next.{nextDef}
 use Rattle.search_answer.specs.Answer.{answerRefusal}
 use Rattle.search_calls.specs.Result.{resultDef}
 use Rattle.book.specs.Calls.{Call, Reply}
-use Rattle.book.specs.Book.{Inputs, Entry, Book, entries, scoredOf, opened, replies, after}
+use Rattle.book.specs.Book.{Inputs, demand, Entry, Book, entries, scoredOf, opened, replies, after}
 use Rattle.book.specs.Conditions.{FirstHolds, NoneHolds, conditions}
 use Rattle.book.specs.Walk.{walk}
-use Rattle.book.specs.Trace.{handed, answers, runAfter, listAfter}
+use Rattle.book.specs.Trace.{handed, answers, runAfter}
 use Rattle.book.specs.Named.{outcomesIn, handings}
+use Rattle.book.specs.Lent.{Lent, through, accepted, stillLeft, Turn, Taken, turns}
 
 -- ---- Start, on the book's inputs and a lent list
 abbrev pub optionsOf : Inputs → Options
@@ -49,12 +52,14 @@ NoNan b = All (λ w. isNan (w .score) ≡ false) (scoredOf (entries b))
 pub record Wins (i : Inputs) (es : List Entry) (w : Candidate) : Type 0 where
   -- it is a scored candidate: its number, camera, tilts, mean and score
   pub is-scored : List·Memᴰ w (scoredOf es)
-  -- every scored candidate has at least as high a score, and an equal one no lower number
+  -- every scored candidate has at least as high a score, and one with an equal score is itself or has a later number
   pub lowest : All (λ v. le (w .score) (v .score) ≡ true) (scoredOf es)
-  pub earliest : All (λ v. eq (w .score) (v .score) ≡ true → w .number ≤ v .number) (scoredOf es)
+  pub earliest : All (λ v. eq (w .score) (v .score) ≡ true → (v ≡ w) ⊎ (w .number < v .number)) (scoredOf es)
   -- its tilts lie within ±max_abs_tilt
-  pub tilt-x-within : within (i .max) (w .sensor .«tilt_x») ≡ true
-  pub tilt-y-within : within (i .max) (w .sensor .«tilt_y») ≡ true
+  pub tilt-x-least : le (neg (i .max)) (w .sensor .«tilt_x») ≡ true
+  pub tilt-x-most : le (w .sensor .«tilt_x») (i .max) ≡ true
+  pub tilt-y-least : le (neg (i .max)) (w .sensor .«tilt_y») ≡ true
+  pub tilt-y-most : le (w .sensor .«tilt_y») (i .max) ≡ true
   -- its focal lengths are finite and positive
   pub fx-finite : isFinite (w .camera .k .fx) ≡ true
   pub fy-finite : isFinite (w .camera .k .fy) ≡ true
@@ -80,13 +85,23 @@ pub record Follows (i : Inputs) (r : Run) (l : List Float) (cs : List Call) : Ty
   -- before, each once, in order, numbered on from 0; and the result is the earliest candidate with the lowest score, within 01's bounds.
   pub handed-out : (w : Candidate) → resultDef (runAfter r l cs) ≡ Result w → handed r l cs ≡ handings i (outcomesIn (answers r l cs)) (suc (i .rounds))
   pub wins : (w : Candidate) → resultDef (runAfter r l cs) ≡ Result w → Wins i (answers r l cs) w
-  -- the end: at most 656 answers are accepted, and until the run is over Next or Answer is
+  -- at most 656 answers are accepted
   pub few-answers : length (answers r l cs) ≤ 656
-  pub next-accepted : runAfter r l cs .place .over ≡ false → runAfter r l cs .waiting .«is_waiting» ≡ false
-      → nextDef (runAfter r l cs) (listAfter r l cs) .reply ≡ handed-as.Candidate (runAfter r l cs .place .number)
-  pub answer-accepted : runAfter r l cs .place .over ≡ false → runAfter r l cs .waiting .«is_waiting» ≡ true
-      → (f : Finding) (rows : List Float) (flags : List ℕ) → findingRefusal f rows flags ≡ 0
-      → answerRefusal (runAfter r l cs) (length (listAfter r l cs)) f rows flags ≡ 0
+
+-- ---- the end of a run, whatever list each call is lent and whatever is answered: s is the run after the calls cs
+pub record Ends (i : Inputs) (r : Run) (cs : List Lent) (s : Run) : Type 0 where
+  -- it is sound; its number counts the accepted answers; with the seeds left and nine for each round left that is at most 656
+  pub is-sound : sound s ≡ true
+  pub number-is : s .place .number ≡ accepted r cs
+  pub few : accepted r cs + stillLeft s ≤ 656
+  -- until it is over Next hands out a seed where none waits, and Answer takes what isn't refused for itself where one does; Failed never is
+  pub next-accepted : s .place .over ≡ false → s .waiting .«is_waiting» ≡ false → (l : List Float) → demand i ≤ length l
+      → nextDef s l .reply ≡ handed-as.Candidate (s .place .number)
+  pub answer-accepted : s .waiting .«is_waiting» ≡ true → (l : List Float) (f : Finding) (rows : List Float) (flags : List ℕ) → demand i ≤ length l
+      → findingRefusal f rows flags ≡ 0 → answerRefusal s (length l) f rows flags ≡ 0
+  pub failed-taken : (rows : List Float) (flags : List ℕ) → findingRefusal Failed rows flags ≡ 0
+  -- a host whose answers are accepted reaches the end
+  pub reaches-end : (ts : List Turn) → All (Taken i) ts → stillLeft s ≤ length ts → through s (turns ts) .place .over ≡ true
 
 -- ---- Start refuses just where one of 01's conditions holds, with the first one's number, and leaves the list as it was; it accepts all else
 pub record Starts (i : Inputs) (l : List Float) : Type 0 where
@@ -99,6 +114,7 @@ pub record Starts (i : Inputs) (l : List Float) : Type 0 where
 pub record IsBook (i : Inputs) (l : List Float) : Type 0 where
   pub starts : Starts i l
   pub follows : (r : Run) → startOf i l ≡ Accepted r → (cs : List Call) → NoNan (after (opened i) cs) → Follows i r (startedList i l) cs
+  pub ends : (r : Run) → startOf i l ≡ Accepted r → (cs : List Lent) → Ends i r cs (through r cs)
 
 abbrev pub SearchIsBook : Type 0
 SearchIsBook = (i : Inputs) (l : List Float) → IsBook i l

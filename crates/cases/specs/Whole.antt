@@ -5,8 +5,11 @@ use mathlib.Core.List.{List, [], _∷_, _++_}
 use lib.Ieee.{Float}
 use Rattle.score_outcome.specs.declared.Finding.the-variants.{Failed}
 use Rattle.score_best.specs.declared.Candidate.{Candidate}
+use Rattle.search_record.specs.declared.run.Run.{Run}
+use Rattle.search_start.specs.Start.{openingOf}
 use Rattle.book.specs.Calls.{Call, next, seed, answer, ask, Reply, candidate, over, part, scored, skipped, result, refused}
 use Rattle.book.specs.Book.{Inputs}
+use Rattle.book.specs.Theorem.{optionsOf}
 use Rattle.cases.specs.Words.{bits, f0, f1, f50, f100, pinhole, centre, solvedWith, untilted, rightAngle, seenAt, inFront, turn, failed}
 
 -- 0.25, 0.5
@@ -29,6 +32,10 @@ wholeInputs = record {
   base = pinhole;
   center = centre;
 }
+
+-- the run that Start opens: two seeds in round 0, and a demand of 54 numbers
+abbrev pub wholeRun : Run
+wholeRun = openingOf (optionsOf wholeInputs) centre 54 2
 
 -- ---- round 0: 54 numbers are wanted; the two seeds score 2 and 1.984375 + 0.015625, which is 2
 abbrev roundZero : List Call

@@ -4,6 +4,7 @@ pub mod Merge
 pub mod MergeLaws
 pub mod Steps
 pub mod Rules
+pub mod Bound
 pub mod RulesLaws
 pub mod Facts
 pub mod Tried
