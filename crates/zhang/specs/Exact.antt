@@ -53,11 +53,11 @@ unlike-first : (t : Bool) → unlike false t ≡ t
 unlike-first true = refl
 unlike-first false = refl
 
-unlike-second : (t : Bool) → unlike t false ≡ t
+pub unlike-second : (t : Bool) → unlike t false ≡ t
 unlike-second true = refl
 unlike-second false = refl
 
-unlike-itself : (t : Bool) → unlike t t ≡ false
+pub unlike-itself : (t : Bool) → unlike t t ≡ false
 unlike-itself true = refl
 unlike-itself false = refl
 
@@ -74,7 +74,7 @@ unlike-back true false = refl
 unlike-back false true = refl
 unlike-back false false = refl
 
-signed : (x : Float) (s t : Bool) (n z : ℕ) → s ≡ t → Num x s n z → Num x t n z
+pub signed : (x : Float) (s t : Bool) (n z : ℕ) → s ≡ t → Num x s n z → Num x t n z
 signed x s t n z e v = rw (sym e) v
 
 -- ---- 1e-6 is below 2^-19, and 1e-12 below 1

@@ -1,0 +1,5 @@
+pub mod Units
+pub mod Lowest
+pub mod Given
+pub mod WholeNumber
+pub mod Turns

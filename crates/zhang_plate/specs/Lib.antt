@@ -1,0 +1,3 @@
+pub mod Plate
+pub mod Theorem
+pub mod Cases
