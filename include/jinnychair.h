@@ -113,6 +113,12 @@ typedef struct {
     jc_intrinsics camera;
 } jc_camera_reply;
 
+/* 0 and six numbers, or 34. */
+typedef struct {
+    uint8_t number;
+    jc_conic conic;
+} jc_plate_reply;
+
 /* 0 and entries (0,0), (0,2), (1,2) of the transform, or 17, 18 or 19. */
 typedef struct {
     uint8_t number;
@@ -203,6 +209,9 @@ jc_distorted_point jc_distort_with_jacobian(jc_distortion b, jc_pt2 p);
 /* At most iters steps of Newton's method; 0 means 20. */
 jc_pt2 jc_undistort(jc_distortion b, uint32_t iters, jc_pt2 p);
 jc_camera_reply jc_conic_to_camera(jc_conic b);
+/* Six numbers from which jc_conic_to_camera gives k back exactly; a zero may have the other sign. 34 where the four are not whole
+ * numbers (focal lengths 1 to 256, centre -256 to 256) times one power of two from 1 to 256. */
+jc_plate_reply jc_known_plate(jc_intrinsics k);
 
 /* ---- lists of points ---- */
 
@@ -261,6 +270,7 @@ jc_options jc_echo_options(jc_options x);
 jc_matrix jc_echo_matrix(jc_matrix x);
 jc_inverse_reply jc_echo_inverse_reply(jc_inverse_reply x);
 jc_camera_reply jc_echo_camera_reply(jc_camera_reply x);
+jc_plate_reply jc_echo_plate_reply(jc_plate_reply x);
 jc_normalize_reply jc_echo_normalize_reply(jc_normalize_reply x);
 jc_line_reply jc_echo_line_reply(jc_line_reply x);
 jc_center_reply jc_echo_center_reply(jc_center_reply x);
@@ -341,6 +351,8 @@ JC_ASSERT(sizeof(jc_inverse_reply) == 80);
 JC_ASSERT(offsetof(jc_inverse_reply, inverse) == 8);
 JC_ASSERT(sizeof(jc_camera_reply) == 40);
 JC_ASSERT(offsetof(jc_camera_reply, camera) == 8);
+JC_ASSERT(sizeof(jc_plate_reply) == 56);
+JC_ASSERT(offsetof(jc_plate_reply, conic) == 8);
 JC_ASSERT(sizeof(jc_normalize_reply) == 32);
 JC_ASSERT(offsetof(jc_normalize_reply, t00) == 8);
 JC_ASSERT(offsetof(jc_normalize_reply, t02) == 16);

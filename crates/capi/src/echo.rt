@@ -12,6 +12,7 @@ use capi_records::camera::Matrix3;
 use capi_records::lists::CenterReply;
 use capi_records::lists::LineReply;
 use capi_records::lists::NormalizeReply;
+use capi_records::plate::PlateReply;
 use capi_records::record::BestRecord;
 use capi_records::record::PlaceRecord;
 use capi_records::record::RunRecord;
@@ -135,6 +136,13 @@ pub extern "C" fn jc_echo_inverse_reply(x: InverseReply) -> InverseReply
 
 #[no_mangle]
 pub extern "C" fn jc_echo_camera_reply(x: CameraReply) -> CameraReply
+    ensures { λ r. ⌜ r ≡ x ⌝ }
+{
+    x
+}
+
+#[no_mangle]
+pub extern "C" fn jc_echo_plate_reply(x: PlateReply) -> PlateReply
     ensures { λ r. ⌜ r ≡ x ⌝ }
 {
     x

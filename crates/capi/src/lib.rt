@@ -4,5 +4,6 @@
 pub mod camera;
 pub mod echo;
 pub mod lists;
+pub mod plate;
 pub mod run;
 pub mod scoring;

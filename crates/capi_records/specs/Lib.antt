@@ -1,5 +1,6 @@
 pub mod Camera
 pub mod Lists
+pub mod Plate
 pub mod Record
 pub mod Run
 pub mod RoundTrip

@@ -2,5 +2,6 @@
 // A refusal is 01's number, and a value that it leaves out is 0; a flag is a byte, 0 or not 0.
 pub mod camera;
 pub mod lists;
+pub mod plate;
 pub mod record;
 pub mod run;

@@ -109,6 +109,14 @@ refusals! {
 }
 
 refusals! {
+    /// Why a camera has no plate with a known answer. A camera with focal lengths 800 and 808 and centre (640, −480) has one:
+    /// 200, 202, 160 and −120 times 4.
+    PlateError {
+        NoSharedPower = 34, "no power of two from 1 to 256 divides all four into whole numbers, 1 to 256 for focal lengths and −256 to 256 for the centre";
+    }
+}
+
+refusals! {
     /// Why points can't be normalised. The destination is unchanged.
     NormalizeError {
         BadPoints = 17, "an odd number of coordinates, or more than 400 points";

@@ -3,6 +3,7 @@
 //! Points of a list stand x then y in one slice. Where a list is written, it goes to the front of the destination, and the rest of
 //! the destination is unchanged; after a refusal all of it is.
 
+pub use crate::known_plate::known_plate;
 use crate::raw;
 use crate::{
     BrownConrady5, ConicError, FxFyCxCy, NormalizeError, PinholeCamera, PointListError,

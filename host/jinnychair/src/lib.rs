@@ -42,14 +42,15 @@ compile_error!("the static library is for x86-64");
 
 mod error;
 pub mod geometry;
+mod known_plate;
 mod raw;
 pub mod record;
 mod search;
 mod types;
 
 pub use error::{
-    AnswerError, ConicError, NextError, NormalizeError, PointListError, PointMapError, ResultError,
-    RowsError, StartError, TiltError,
+    AnswerError, ConicError, NextError, NormalizeError, PlateError, PointListError, PointMapError,
+    ResultError, RowsError, StartError, TiltError,
 };
 pub use search::{Finding, Handed, Inputs, Options, Outcome, Rows, Search, SkipReason};
 pub use types::{

@@ -48,6 +48,13 @@ pub(crate) struct CameraReply {
 
 #[derive(Clone, Copy, Debug, PartialEq)]
 #[repr(C)]
+pub(crate) struct PlateReply {
+    pub number: u8,
+    pub conic: Conic,
+}
+
+#[derive(Clone, Copy, Debug, PartialEq)]
+#[repr(C)]
 pub(crate) struct NormalizeReply {
     pub number: u8,
     pub t00: f64,
@@ -135,6 +142,7 @@ laid_out! {
     FlatMatrix: 72 { rows: 0 }
     InverseReply: 80 { number: 0, inverse: 8 }
     CameraReply: 40 { number: 0, camera: 8 }
+    PlateReply: 56 { number: 0, conic: 8 }
     NormalizeReply: 32 { number: 0, t00: 8, t02: 16, t12: 24 }
     LineReply: 2 { number: 0, collinear: 1 }
     CenterReply: 24 { number: 0, center: 8 }
@@ -161,6 +169,7 @@ unsafe extern "C" {
     pub(crate) safe fn jc_distort_with_jacobian(b: BrownConrady5, p: Pt2) -> DistortedPoint;
     pub(crate) safe fn jc_undistort(b: BrownConrady5, iters: u32, p: Pt2) -> Pt2;
     pub(crate) safe fn jc_conic_to_camera(b: Conic) -> CameraReply;
+    pub(crate) safe fn jc_known_plate(k: FxFyCxCy) -> PlateReply;
     pub(crate) safe fn jc_damp_seed_distortion(distortion: BrownConrady5) -> BrownConrady5;
     pub(crate) safe fn jc_distortion_complexity(distortion: BrownConrady5) -> f64;
     pub(crate) safe fn jc_tilt_complexity(sensor: ScheimpflugParams) -> f64;
@@ -390,6 +399,7 @@ mod tests {
         safe fn jc_echo_matrix(x: FlatMatrix) -> FlatMatrix;
         safe fn jc_echo_inverse_reply(x: InverseReply) -> InverseReply;
         safe fn jc_echo_camera_reply(x: CameraReply) -> CameraReply;
+        safe fn jc_echo_plate_reply(x: PlateReply) -> PlateReply;
         safe fn jc_echo_normalize_reply(x: NormalizeReply) -> NormalizeReply;
         safe fn jc_echo_line_reply(x: LineReply) -> LineReply;
         safe fn jc_echo_center_reply(x: CenterReply) -> CenterReply;
@@ -432,6 +442,11 @@ mod tests {
         fn dist(&mut self) -> BrownConrady5 {
             let [k1, k2, k3, p1, p2] = std::array::from_fn(|_| self.float());
             BrownConrady5 { k1, k2, k3, p1, p2 }
+        }
+
+        fn conic(&mut self) -> Conic {
+            let [b11, b12, b22, b13, b23, b33] = std::array::from_fn(|_| self.float());
+            Conic { b11, b12, b22, b13, b23, b33 }
         }
 
         fn jacobian(&mut self) -> Jacobian {
@@ -527,8 +542,7 @@ mod tests {
         assert_eq!(jc_echo_pinhole_camera(x), x);
         let x = SolvedCamera { camera: n.camera(), trig: n.trig() };
         assert_eq!(jc_echo_solved_camera(x), x);
-        let [b11, b12, b22, b13, b23, b33] = std::array::from_fn(|_| n.float());
-        let x = Conic { b11, b12, b22, b13, b23, b33 };
+        let x = n.conic();
         assert_eq!(jc_echo_conic(x), x);
         let x = n.matrix();
         assert_eq!(jc_echo_matrix(x), x);
@@ -560,6 +574,8 @@ mod tests {
         assert_eq!(jc_echo_inverse_reply(x), x);
         let x = CameraReply { number: n.byte(), camera: n.k() };
         assert_eq!(jc_echo_camera_reply(x), x);
+        let x = PlateReply { number: n.byte(), conic: n.conic() };
+        assert_eq!(jc_echo_plate_reply(x), x);
         let number = n.byte();
         let x = NormalizeReply { number, t00: n.float(), t02: n.float(), t12: n.float() };
         assert_eq!(jc_echo_normalize_reply(x), x);

@@ -11,12 +11,14 @@
 //! | [`solve`] | base camera, decomposition seed, and the solved camera of each tilt |
 //! | [`drive`] | runs the search and keeps every tried tilt |
 //! | [`chart`], [`table`] | what was tried, as a picture and as text |
+//! | [`known_camera`] | checks the camera formula against a chosen camera |
 //! | [`files`] | files that are written whole or not at all |
 
 pub mod chart;
 pub mod drive;
 pub mod files;
 pub mod homography;
+pub mod known_camera;
 pub mod linear;
 pub mod pose;
 pub mod solve;

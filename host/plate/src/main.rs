@@ -6,7 +6,7 @@ use plate::drive::{self, Finished, Tried};
 use plate::solve::Host;
 use plate::synthetic::BUILT_IN;
 use plate::views::Plate;
-use plate::{chart, files, table};
+use plate::{chart, files, known_camera, table};
 use std::io::{IsTerminal, Write};
 use std::path::{Path, PathBuf};
 use std::process::ExitCode;
@@ -14,6 +14,7 @@ use std::process::ExitCode;
 const USAGE: &str = "\
 plate [VIEWS] [--centre X Y] [--out NAME]
 plate --write-views FILE
+plate known-camera FX FY CX CY
 
 Finds the tilt of a sensor from views of a plate, and writes NAME.svg, a chart of every tried tilt, and
 NAME.csv, the same as a table. NAME is `tilts` if not given. Without VIEWS a built-in plate is used.
@@ -21,7 +22,8 @@ NAME.csv, the same as a table. NAME is `tilts` if not given. Without VIEWS a bui
 VIEWS is a text file: a line `view` begins a view, and each line below has four numbers, the place of
 a dot on the plate and the pixel where it is seen. The optical centre is held while the tilt is sought,
 since a free centre takes up any tilt. It is --centre's, else that of the file's line `centre X Y`, else the
-centre of what is seen. `--write-views` writes the built-in plate's views as such a file.";
+centre of what is seen. `--write-views` writes the built-in plate's views as such a file.
+`known-camera` checks the camera formula against a camera of your choice.";
 
 /// What the command line asks for.
 enum Task {
@@ -31,7 +33,12 @@ enum Task {
 }
 
 fn main() -> ExitCode {
-    match parse(std::env::args().skip(1)).and_then(perform) {
+    let words: Vec<String> = std::env::args().skip(1).collect();
+    let done = match words.split_first() {
+        Some((first, four)) if first == "known-camera" => known_camera::run(four),
+        _ => parse(words.into_iter()).and_then(perform),
+    };
+    match done {
         Ok(()) => ExitCode::SUCCESS,
         Err(fault) => {
             eprintln!("plate: {fault}");

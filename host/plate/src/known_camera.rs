@@ -1,0 +1,87 @@
+//! `known-camera FX FY CX CY`: the camera formula checked against a camera that service chooses.
+
+use jinnychair::geometry::{Conic, conic_to_camera, known_plate};
+use jinnychair::{FxFyCxCy, PlateError};
+
+/// The words and what they do.
+pub const USAGE: &str = "\
+plate known-camera FX FY CX CY
+
+Makes the six numbers of a plate seen by this camera, hands them to the camera formula and shows what comes back, which is the
+same camera. The four are whole numbers times one power of two (1, 2, 4 .. 256): 1 to 256 for the focal lengths FX and FY,
+-256 to 256 for the centre CX and CY. For example 800 808 640 -480, which are 200, 202, 160 and -120 times 4.";
+
+/// Checks the formula against the camera of four words, and prints the six numbers and the camera that comes back.
+///
+/// # Errors
+///
+/// The words aren't four numbers, the camera has no such plate, or another camera comes back.
+pub fn run(words: &[String]) -> Result<(), String> {
+    let chosen =
+        camera(words).ok_or_else(|| format!("known-camera takes four numbers\n\n{USAGE}"))?;
+    let conic = known_plate(chosen).map_err(|refusal| explained(&refusal))?;
+    let back = conic_to_camera(conic).map_err(|refusal| different(&refusal.to_string()))?;
+    println!("{}", report(chosen, conic, back));
+    verdict(chosen, back)?;
+    println!("the same camera");
+    Ok(())
+}
+
+fn camera(words: &[String]) -> Option<FxFyCxCy> {
+    let [fx, fy, cx, cy]: [f64; 4] =
+        words.iter().map(|word| word.parse().ok()).collect::<Option<Vec<_>>>()?.try_into().ok()?;
+    Some(FxFyCxCy { fx, fy, cx, cy })
+}
+
+/// The refusal, and what to do.
+fn explained(refusal: &PlateError) -> String {
+    format!("{refusal}\n\n{USAGE}")
+}
+
+fn report(chosen: FxFyCxCy, conic: Conic, back: FxFyCxCy) -> String {
+    let four = |k: FxFyCxCy| format!("fx {}  fy {}  cx {}  cy {}", k.fx, k.fy, k.cx, k.cy);
+    let Conic { b11, b12, b22, b13, b23, b33 } = conic;
+    [
+        format!("chosen camera   {}", four(chosen)),
+        format!("six numbers     b11 {b11}  b12 {b12}  b22 {b22}  b13 {b13}  b23 {b23}  b33 {b33}"),
+        format!("camera back     {}", four(back)),
+    ]
+    .join("\n")
+}
+
+/// Whether the camera that came back is the chosen one; a zero may have changed its sign.
+fn verdict(chosen: FxFyCxCy, back: FxFyCxCy) -> Result<(), String> {
+    if back == chosen { Ok(()) } else { Err(different("another camera came back")) }
+}
+
+/// What it means that the chosen camera doesn't come back: it is proved that it does.
+fn different(what: &str) -> String {
+    format!(
+        "{what}. The library that was proved gives the same camera back on every machine with IEEE 754's arithmetic, so this \
+         library, the machine or what calls the library is at fault: don't use its results. Build the library again and run its tests."
+    )
+}
+
+#[cfg(test)]
+mod tests {
+    use super::*;
+
+    const CHOSEN: FxFyCxCy = FxFyCxCy { fx: 800.0, fy: 808.0, cx: 0.0, cy: -480.0 };
+
+    #[test]
+    fn a_zero_may_change_its_sign() {
+        assert_eq!(verdict(CHOSEN, FxFyCxCy { cx: -0.0, ..CHOSEN }), Ok(()));
+    }
+
+    #[test]
+    fn the_next_number_is_a_difference() {
+        let next = f64::from_bits(800.0f64.to_bits() + 1);
+        for back in [
+            FxFyCxCy { fx: next, ..CHOSEN },
+            FxFyCxCy { cx: 5e-324, ..CHOSEN },
+            FxFyCxCy { cy: f64::NAN, ..CHOSEN },
+        ] {
+            assert!(verdict(CHOSEN, back).unwrap_err().contains("don't use its results"));
+        }
+    }
+}
