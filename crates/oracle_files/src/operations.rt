@@ -1,6 +1,6 @@
 // The operations that a stored file can name: the number of each is its line in the list of names, in crate `stored_files`. Those up to
 // `MEAN_REPROJ_ERROR` answer a number, those from there up to `UNDISTORT` a point. Those from `UNTILT_POINTS` on write lists, those from
-// `UNTILT_POINTS_INTO` up to `DESIGN_ROWS_INTO` to a destination which the case lends, and those from `SEED_LISTS` on begin a search.
+// `UNTILT_POINTS_INTO` up to `DESIGN_ROWS_INTO` to a destination which the case lends, and those from `SEED_LISTS` up to `CALLS` begin a search.
 pub const SQRT: usize = 0;
 
 pub const SQRT_FROM: usize = 1;
@@ -63,5 +63,7 @@ pub const SEARCH: usize = 29;
 
 pub const CALLS: usize = 30;
 
+pub const KNOWN_PLATE: usize = 31;
+
 // No crate answers it.
-pub const UNKNOWN: usize = 31;
+pub const UNKNOWN: usize = 32;

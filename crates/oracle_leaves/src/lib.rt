@@ -4,6 +4,7 @@ pub mod listed_seeds;
 pub mod lists;
 mod number_leaves;
 mod other_leaves;
+pub mod plates;
 mod point_leaves;
 pub mod rows;
 pub mod start;

@@ -84,7 +84,7 @@ fn conic_of(x: &[f64]) -> Conic {
     }
 }
 
-fn met_estimate(x: &[f64], at: usize, estimate: Estimated) -> usize {
+pub fn met_estimate(x: &[f64], at: usize, estimate: Estimated) -> usize {
     match estimate {
         Estimated::Refused(number) => met_whole(x, at, wide(number)),
         Estimated::Camera(k) => {

@@ -29,6 +29,9 @@ fn met(operation: usize, guess: u64, x: &[f64], n: usize) -> usize {
     if operation <= operations::CALLS {
         return oracle_runs::met(operation, x, n);
     }
+    if operation == operations::KNOWN_PLATE {
+        return oracle_leaves::plates::met(x, n);
+    }
     MISSED
 }
 

@@ -1,8 +1,9 @@
 //! Writes the stored cases of every refusal of every call: `refusals [FOLDER]`, by default the
-//! data folder of the crate `vectors`. Each reply is written down here from 01's paragraphs, none
-//! is computed by the code that it judges; no published file is needed. Each run writes the same
-//! bytes.
+//! data folder of the crate `vectors`. Each reply is written down here from 01's paragraphs (a plate's
+//! from 02's), none is computed by the code that it judges; no published file is needed. Each run
+//! writes the same bytes.
 
+mod plates;
 mod points;
 mod runs;
 
@@ -52,10 +53,11 @@ fn beside() -> PathBuf {
 
 /// Each file's name and text.
 fn files() -> Vec<(String, String)> {
-    let made_by = "oracle/refusals: the replies as 01's paragraphs give them";
     let text = |(name, operation, cases): &(&str, &str, Vec<Case>)| {
+        let paper = if *operation == "known_plate" { "02" } else { "01" };
+        let made_by = format!("oracle/refusals: the replies as {paper}'s paragraphs give them");
         let lines: Vec<String> = cases.iter().map(Case::line).collect();
-        (format!("{name}.txt"), file(operation, made_by, &lines))
+        (format!("{name}.txt"), file(operation, &made_by, &lines))
     };
     cases().iter().map(text).collect()
 }
@@ -71,6 +73,7 @@ fn cases() -> Vec<(&'static str, &'static str, Vec<Case>)> {
         ("points_are_collinear_refused", "points_are_collinear", points::odd_lists()),
         ("observed_pixel_center_refused", "observed_pixel_center", points::odd_lists()),
         ("conic_to_camera_refused", "conic_to_camera", points::conic()),
+        ("known_plate", "known_plate", plates::plates()),
     ]
 }
 
