@@ -16,7 +16,7 @@ use Rattle.zhang.specs.Exact.{unlike-second, unlike-itself, signed, Conic-of, R
 use Rattle.zhang.specs.Zhang.{fromHomographies}
 use Rattle.zhang_plate.specs.declared.Plate.the-variants.{Numbers, Refused}
 use Rattle.zhang_plate.specs.Plate.{unitFrom, conicWith, plateOf}
-use Rattle.zhang_plate.specs.Theorem.{Units, Shared, PlateRight}
+use Rattle.zhang_plate.specs.Theorem.{Units, PlateRight}
 use Rattle.zhang_plate.proofs.Units.{units, shares}
 use Rattle.zhang_plate.proofs.Lowest.{found, missed}
 

@@ -1,9 +1,9 @@
 -- What the definition's tests mean: a number passes where it is ± n 2 ^ k with n at most 256, and four numbers where they are such numbers in their ranges.
 -- Assumes nothing.
-use Prim.Native.Nat.{ℕ, zero, suc, _+_, _*_, _/_, _%_, _^_, _≤_, _<_}
-use native.Mathlib.Nat.{add-zero, mul-pos, mul-assoc, mul-mod-left, mul-div-left, div-add-mod'}
+use Prim.Native.Nat.{ℕ, zero, suc, _*_, _/_, _%_, _^_, _≤_, _<_}
+use native.Mathlib.Nat.{mul-pos, mul-assoc, mul-mod-left, mul-div-left, div-mul-cancel, dvd-of-mod-eq-zero}
 use native.Mathlib.Omega.{arith}
-use mathlib.Core.Path.{_≡_, refl, sym, ap, _∙_}
+use mathlib.Core.Path.{_≡_, refl, sym, _∙_}
 use mathlib.Core.Bool.{Bool, true, false, _&&_, true≢false}
 use borrow.Author.Tests.{ltb-true, leb-true, eqb-true, le-leb, eq-eqb}
 use lib.Dec.{leb, eqb}
@@ -25,7 +25,7 @@ record Times (k : ℕ) (x : Float) : Type 0 where
   is : Num x minus n k
 
 pub whole-part : (v d : ℕ) → v % d ≡ 0 → v ≡ v / d * d
-whole-part v d h = sym (div-add-mod' v d) ∙ ap (λ (r : ℕ). v / d * d + r) h ∙ add-zero (v / d * d)
+whole-part v d h = sym (div-mul-cancel d (dvd-of-mod-eq-zero d h))
 
 times : (k : ℕ) (x : Float) → timesUnit (2 ^ k) x ≡ true → Times k x
 unfolding timesUnit

@@ -17,7 +17,7 @@ use Rattle.zhang_plate.specs.Plate.{timesUnit}
 use Rattle.zhang_plate.proofs.Units.{whole-part}
 
 -- ---- v / D in units of u
-module _ (v D u : ℕ) (d : 0 < D) (low : 1 ≤ u) (high : u ≤ 256) where
+module _ (v D u : ℕ) (d : 0 < D) (high : u ≤ 256) where
   test : Bool
   test = eqb (v % (u * D)) 0 && leb (v / (u * D)) 256
 
@@ -85,7 +85,7 @@ cut-is : (m : ℕ) (e : ℤ) → m * up e < 65537 * down e → toUnsigned 64 (fi
 unfolding toUnsigned
 cut-is m e h = let l = cut m e h in min-eq-left (omega arith)
 
-pub in-range : (x : Float) → lt (absOf x) limit ≡ true → T (lt (fin true 1 (pos 0)) (absOf x)) × T (lt (absOf x) (fin false 1 (pos 64)))
+in-range : (x : Float) → lt (absOf x) limit ≡ true → T (lt (fin true 1 (pos 0)) (absOf x)) × T (lt (absOf x) (fin false 1 (pos 64)))
 unfolding lt absOf ofBits
 in-range nan h = absurd (true≢false (sym h))
 in-range (inf s) h = absurd (true≢false (sym h))
@@ -94,7 +94,7 @@ in-range (fin s m e) h =
     let l = below-limit m e h in
     (lt→ltb 0 (1 * down e + m * up e * 1) (omega arith), lt→ltb (m * up e * 1) (18446744073709551616 * down e) (omega arith))
 
-pub small-cut : (x : Float) → lt (absOf x) limit ≡ true → toUnsigned 64 (absOf x) ≤ 65536
+small-cut : (x : Float) → lt (absOf x) limit ≡ true → toUnsigned 64 (absOf x) ≤ 65536
 unfolding lt absOf ofBits
 small-cut nan h = absurd (true≢false (sym h))
 small-cut (inf s) h = absurd (true≢false (sym h))
@@ -117,12 +117,12 @@ equal-is (fin t a d) n m e v h =
     eq-of-mul-eq-mul-right (down d) (down-pos d) (m * up e) (n * down e) (sym l ∙ ap (λ (i : ℕ). i * down e) (v .1) ∙ mul-right-comm n (down d) (down e))
 
 -- ---- the three ways through the test
-module _ (u : ℕ) (low : 1 ≤ u) (high : u ≤ 256) where
+module _ (u : ℕ) (high : u ≤ 256) where
   fails-large : (x : Float) → lt (absOf x) limit ≡ false → timesUnit u x ≡ false
   unfolding timesUnit absOf test
   fails-large nan h = refl
   fails-large (inf s) h = refl
-  fails-large (fin s m e) h = large (m * up e) (down e) u (down-pos e) low high (from-limit m e h)
+  fails-large (fin s m e) h = large (m * up e) (down e) u (down-pos e) high (from-limit m e h)
 
   fails-fraction : (x : Float) → lt (absOf x) limit ≡ true → ne (ofInt binary64 (pos (toUnsigned 64 (absOf x)))) (absOf x) ≡ true → timesUnit u x ≡ false
   unfolding timesUnit absOf test ne
@@ -132,7 +132,7 @@ module _ (u : ℕ) (low : 1 ≤ u) (high : u ≤ 256) where
       let n = m * up e / down e in
       let l = below-limit m e h in
       let k' : eq (ofInt binary64 (pos n)) (fin false m e) ≡ false = rw (cut-is m e l) at (not-true (eq (ofInt binary64 (pos (toUnsigned 64 (fin false m e)))) (fin false m e)) k) in
-      fraction (m * up e) (down e) u (down-pos e) low high
+      fraction (m * up e) (down e) u (down-pos e) high
       (λ z. true≢false (sym (is-equal (ofInt binary64 (pos n)) (fin false m e) false n (float-is n (omega (arith, cut m e l))) (λ p. refl, z)) ∙ k'))
 
   whole-number : (x : Float) → lt (absOf x) limit ≡ true → ne (ofInt binary64 (pos (toUnsigned 64 (absOf x)))) (absOf x) ≡ false
@@ -143,13 +143,13 @@ module _ (u : ℕ) (low : 1 ≤ u) (high : u ≤ 256) where
   whole-number (fin s m e) h k =
       let n = toUnsigned 64 (fin false m e) in
       let l = below-limit m e h in
-      whole (m * up e) (down e) u (down-pos e) low high n
+      whole (m * up e) (down e) u (down-pos e) high n
       (equal-is (ofInt binary64 (pos n)) n m e (float-is n (small-cut (fin s m e) h)) (not-false (eq (ofInt binary64 (pos n)) (fin false m e)) k))
 
 -- ---- the same over the code's values: a is the size, and n its whole part
-module _ (u : ℕ) (low : 1 ≤ u) (high : u ≤ 256) (x a : Float) (is-abs : a ≡ absOf x) where
+module _ (u : ℕ) (high : u ≤ 256) (x a : Float) (is-abs : a ≡ absOf x) where
   pub too-large : not (lt a limit) ≡ true → false ≡ timesUnit u x
-  too-large h = sym (fails-large u low high x (rw is-abs at (not-true (lt a limit) h)))
+  too-large h = sym (fails-large u high x (rw is-abs at (not-true (lt a limit) h)))
 
   module _ (below : not (lt a limit) ≡ false) where
     size-below : lt (absOf x) limit ≡ true
@@ -167,8 +167,8 @@ module _ (u : ℕ) (low : 1 ≤ u) (high : u ≤ 256) (x a : Float) (is-abs : a 
       counted = le→leb n (2 ^ 53) (let l : n ≤ 65536 = rw cut-of (small-cut x size-below) in omega arith)
 
       pub has-fraction : ne (ofInt binary64 (pos n)) a ≡ true → false ≡ timesUnit u x
-      has-fraction h = sym (fails-fraction u low high x size-below (rw (cut-of, is-abs) at h))
+      has-fraction h = sym (fails-fraction u high x size-below (rw (cut-of, is-abs) at h))
 
       module _ (no-fraction : ne (ofInt binary64 (pos n)) a ≡ false) where
         pub counts : (eqb (n % u) 0 && leb (n / u) 256) ≡ timesUnit u x
-        counts = sym (rw cut-of (whole-number u low high x size-below (rw (cut-of, is-abs) at no-fraction)))
+        counts = sym (rw cut-of (whole-number u high x size-below (rw (cut-of, is-abs) at no-fraction)))

@@ -7,9 +7,10 @@ use jinnychair::{FxFyCxCy, PlateError};
 pub const USAGE: &str = "\
 plate known-camera FX FY CX CY
 
-Makes the six numbers of a plate seen by this camera, hands them to the camera formula and shows what comes back, which is the
-same camera. The four are whole numbers times one power of two (1, 2, 4 .. 256): 1 to 256 for the focal lengths FX and FY,
--256 to 256 for the centre CX and CY. For example 800 808 640 -480, which are 200, 202, 160 and -120 times 4.";
+Makes the six numbers of a plate seen by this camera, hands them to the camera formula and shows what
+comes back, which is the same camera. The four are whole numbers times one power of two (1, 2, 4 .. 256):
+1 to 256 for the focal lengths FX and FY, -256 to 256 for the centre CX and CY. For example
+800 808 640 -480, which are 200, 202, 160 and -120 times 4.";
 
 /// Checks the formula against the camera of four words, and prints the six numbers and the camera that comes back.
 ///
@@ -57,8 +58,8 @@ fn verdict(chosen: FxFyCxCy, back: FxFyCxCy) -> Result<(), String> {
 /// What it means that the chosen camera doesn't come back: it is proved that it does.
 fn different(what: &str) -> String {
     format!(
-        "{what}. The library that was proved gives the same camera back on every machine with IEEE 754's arithmetic, so this \
-         library, the machine or what calls the library is at fault: don't use its results. Build the library again and run its tests."
+        "{what}. It is proved that the same camera comes back wherever the arithmetic is IEEE 754's, so this library or \
+         this machine is at fault: don't use its results. Build the library again, and run its tests."
     )
 }
 
