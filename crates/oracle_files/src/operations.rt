@@ -1,4 +1,4 @@
-// The operations that a stored file can name: the number of each is its line in the list of names, in crate `stored_files`. Those up to
+// The operations that a stored file can name: the number of each is its line in the list of names, in names.rt. Those up to
 // `MEAN_REPROJ_ERROR` answer a number, those from there up to `UNDISTORT` a point. Those from `UNTILT_POINTS` on write lists, those from
 // `UNTILT_POINTS_INTO` up to `DESIGN_ROWS_INTO` to a destination which the case lends, and those from `SEED_LISTS` up to `CALLS` begin a search.
 pub const SQRT: usize = 0;

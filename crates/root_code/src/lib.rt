@@ -1,5 +1,7 @@
-// The square root, computed: its operand taken apart, the root of a whole number, and the float put together.
-// Every loop has a constant number of turns.
+// The square root that IEEE 754 asks for, worked out from the bits of an f64 with whole numbers. The crate root defines it.
+//
+// A guess from a short fixed-point calculation is checked exactly and, if it fails, the digits are worked out one by one, so the
+// answer does not rest on the guess. Every loop has a constant number of turns.
 mod digits;
 pub mod estimate;
 pub mod from_guess;

@@ -1,5 +1,5 @@
-// Lists of seeds as they stand in the lent numbers: when one seed is near another, the search for a near one, and a list that is
-// extended by a seed where none is near.
+// Seeds and tilts in a lent list of numbers, and merging: one that lies near a kept one is not kept.
+// Each function equals its rule, for the reply and every number of the list.
 pub mod checks;
 
 ghost use mathlib.Core.Path.{_≡_};
