@@ -1,6 +1,6 @@
 -- The tilted sensor: OpenCV's homography of two tilts, its verdict, and a point under a homography and under an inverse. Definitions only.
 use Prim.Native.Nat.{ℕ}
-use mathlib.Core.Bool.{cond}
+use mathlib.Core.Bool.{Bool, cond}
 use mathlib.Core.List.{[], _∷_}
 use lib.Ieee.{Float, neg, lt, eq}
 use Rattle.float.specs.Float.{absOf}
@@ -26,9 +26,12 @@ projZ r = (at r 2 2 ∷ plusZero ∷ neg (at r 0 2) ∷ []) ∷ (plusZero ∷ at
 unfoldable pub tiltProjectionMatrix : Float → Float → Float → Float → Matrix
 tiltProjectionMatrix sinX cosX sinY cosY = let r = productOf (rotY sinY cosY) (rotX sinX cosX) in productOf (projZ r) r
 
--- 15 where the determinant equals 0, of either sign
+-- 15: the determinant equals 0, of either sign
+abbrev pub isSingular : Matrix → Bool
+isSingular h = eq (determinantOf h) plusZero
+
 unfoldable pub tiltVerdict : Matrix → Tilt
-tiltVerdict h = cond (eq (determinantOf h) plusZero) (Refused 15) Invertible
+tiltVerdict h = cond (isSingular h) (Refused 15) Invertible
 
 abbrev pub tiltNumber : Tilt → ℕ
 tiltNumber Invertible = 0

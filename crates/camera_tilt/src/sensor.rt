@@ -3,10 +3,8 @@
 
 ghost use mathlib.Core.Path.{_≡_};
 ghost use Prim.Native.Nat.{_<_};
-ghost use lib.Ieee.{eq};
-ghost use Rattle.float.specs.Literals.{plusZero};
-ghost use Rattle.camera_tilt.specs.Matrix.{productOf, determinantOf};
-ghost use Rattle.camera_tilt.specs.Sensor.{rotX, rotY, projZ, tiltProjectionMatrix, tiltVerdict, tiltNumber, homogeneous, forwardDepth, inverseDepth, applyHomography, applyHomographyInverse};
+ghost use Rattle.camera_tilt.specs.Matrix.{productOf};
+ghost use Rattle.camera_tilt.specs.Sensor.{rotX, rotY, projZ, tiltProjectionMatrix, isSingular, tiltVerdict, tiltNumber, homogeneous, forwardDepth, inverseDepth, applyHomography, applyHomographyInverse};
 use crate::matrix::determinant;
 use crate::matrix::entry;
 use crate::matrix::product;
@@ -55,7 +53,7 @@ pub fn tilt_projection_matrix(sin_x: f64, cos_x: f64, sin_y: f64, cos_y: f64) ->
 }
 
 fn is_singular(h: [[f64; 3]; 3]) -> bool
-    ensures { λ r. ⌜ r ≡ eq (determinantOf h) plusZero ⌝ }
+    ensures { λ r. ⌜ r ≡ isSingular h ⌝ }
 {
     determinant(h) == 0.0
 }

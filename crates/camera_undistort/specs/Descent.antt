@@ -1,11 +1,12 @@
 -- The squared length of `distorted b p - target` falls strictly along the points that undistortion accepts, from the target on; the reply is the last Newton step
 -- from the last of them. Of that step itself nothing is claimed: no trial looks at it. Assumes nothing.
 use mathlib.Core.Path.{_≡_, refl, sym, ap, subst}
-use mathlib.Core.Bool.{Bool, true, false, _&&_, cond, true≢false}
+use mathlib.Core.Bool.{Bool, true, false, cond}
 use mathlib.Core.List.{List, [], _∷_}
 use Prim.Native.Nat.{ℕ, zero, suc}
 use lib.Dec.{eqb}
 use lib.Ieee.{Float, lt, eq}
+use Rattle.common.specs.Tests.{both-true}
 use Rattle.float.specs.Float.{isFinite}
 use Rattle.float.specs.Literals.{plusZero}
 use Rattle.camera_models.specs.Distortion.{squaredNorm, distorted}
@@ -54,13 +55,9 @@ module _ (b : BrownConrady5) (target : Pt2) where
   abbrev Better : Pt2 → Estimate → Type 0
   Better p next = (next ≡ estimateAt b target (next .point)) × Closer (next .point) p
 
-  both : (a c : Bool) → (a && c) ≡ true → (a ≡ true) × (c ≡ true)
-  both true c h = (refl, h)
-  both false c h = absurd (true≢false (sym h))
-
   improves-better : (p q : Pt2) → improves (estimateAt b target q) (estimateAt b target p) ≡ true → Better p (estimateAt b target q)
   unfolding improves estimateAt
-  improves-better p q h = let c = both _ _ h in (refl, record { finite = c .0; lower = c .1 })
+  improves-better p q h = let c = both-true _ _ h in (refl, record { finite = c .0; lower = c .1 })
 
   abbrev Found : Pt2 → TrialResult → Type 0
   Found p Exhausted = Unit {0}

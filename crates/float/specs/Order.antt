@@ -8,6 +8,7 @@ use borrow.Author.Tests.{ltb-true, ltb-false, eqb-true, lt-ltb, le-ltb, eq-eqb, 
 use lib.Dec.{ltb, eqb, eqb·zero-suc, eqb·suc-zero}
 use lib.Ieee.{Float, nan, inf, fin, up, down, below, level, lt, le, eq, ne, neg, isNan}
 use lib.Ieee.Fits.{down-pos}
+use Rattle.common.specs.Tests.{both-true}
 
 -- only NaN differs from itself
 pub ne-self : (x : Float) → ne x x ≡ isNan x
@@ -132,16 +133,8 @@ lt-cotrans (fin s m e) (fin t j d) (fin u o g) n h k =
 
 -- ---- x ≤ y, so not y < x
 below-level : (s : Bool) (a : ℕ) (t : Bool) (b : ℕ) → level s a t b ≡ true → below t b s a ≡ false
-below-level s a t b h = go s t (eqb-true a b (and-first (eqb a b) (Bool·beq s t || eqb a 0) h)) (and-second (eqb a b) (Bool·beq s t || eqb a 0) h)
+below-level s a t b h = let p = both-true (eqb a b) (Bool·beq s t || eqb a 0) h in go s t (eqb-true a b (p .0)) (p .1)
   where
-    and-first : (u v : Bool) → (u && v) ≡ true → u ≡ true
-    and-first true v e = refl
-    and-first false v e = absurd (true≢false (sym e))
-
-    and-second : (u v : Bool) → (u && v) ≡ true → v ≡ true
-    and-second true v e = e
-    and-second false v e = absurd (true≢false (sym e))
-
     go : (s t : Bool) → a ≡ b → (Bool·beq s t || eqb a 0) ≡ true → below t b s a ≡ false
     go false false e z = le-ltb b a (omega arith)
     go false true e z = le-ltb 0 (b + a) (let w = eqb-true a 0 z in omega arith)

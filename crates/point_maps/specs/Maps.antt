@@ -4,14 +4,13 @@ use mathlib.Core.Bool.{_||_, cond}
 use mathlib.Core.List.{List, [], _∷_, _++_}
 use lib.Dec.{eqb, ltb}
 use lib.ListN.{length, drop}
-use lib.Ieee.{Float, eq}
+use lib.Ieee.{Float}
 use Rattle.common.specs.Refusal.{_when_, firstRefusal}
-use Rattle.float.specs.Literals.{plusZero}
 use Rattle.camera_models.specs.declared.math.Pt2.{Pt2}
 use Rattle.camera_models.specs.declared.intrinsics.FxFyCxCy.{FxFyCxCy}
 use Rattle.camera_models.specs.Intrinsics.{pixelToSensor, sensorToPixel}
-use Rattle.camera_tilt.specs.Matrix.{Matrix, determinantOf, inverseOf}
-use Rattle.camera_tilt.specs.Sensor.{applyHomographyInverse}
+use Rattle.camera_tilt.specs.Matrix.{Matrix, inverseOf}
+use Rattle.camera_tilt.specs.Sensor.{isSingular, applyHomographyInverse}
 use Rattle.camera_undistort.specs.Undistortion.{undistorted}
 use Rattle.point_maps.specs.declared.maps.Lens.{Lens}
 use Rattle.point_maps.specs.declared.maps.Lens.the-variants.{Kept, Removed}
@@ -43,7 +42,7 @@ refusalOf h numbers room =
     firstRefusal
     ((17 when (eqb (numbers % 2) 1 || ltb 800 numbers))
     ∷ (18 when ltb room numbers)
-    ∷ (15 when eq (determinantOf h) plusZero)
+    ∷ (15 when isSingular h)
     ∷ [])
 
 -- the reply, and the destination afterwards, which a refusal leaves as it was
