@@ -7,7 +7,7 @@ use Rattle.root.specs.Root.{rootIn, isqrt, rootOf, root}
 use Rattle.camera_tilt.specs.Matrix.{productOf, firstOther, secondOther, minorOf, cofactorOf, determinantOf, inverseOf}
 use Rattle.camera_tilt.specs.Sensor.{tiltProjectionMatrix, tiltVerdict, forwardDepth, inverseDepth, applyHomography, applyHomographyInverse}
 use Rattle.camera_models.specs.Distortion.{radialFactor, tangentialX, tangentialY, distorted, jacobianRadial, radialDerivative, jacobianAt}
-use Rattle.seed_rules.specs.Merge.{keep, hasNear, firstNear, push, mergedInto}
+use Rattle.seed_rules.specs.Merge.{keep, hasNear, push, mergedInto}
 use Rattle.seed_rules.specs.Rules.{closer, tiltNear, cameraNear, near, within, inBound, pairs, seedGrid, initialList, offsets, nextList}
 use Rattle.seed_rules.specs.Layout.{laid, readFrom}
 use Rattle.score_camera.specs.Camera.{damped, finiteIntrinsics, finiteDistortion, validCamera}
@@ -28,5 +28,5 @@ pub record OnBook : Type 0 where
   pub no-nan : NoNan (after (opened wholeInputs) wholeCalls)
 
 pub on-book : OnBook
-unfolding NoNan every absOf isFinite minOf maxOf clampOf rootIn isqrt rootOf root productOf firstOther secondOther minorOf cofactorOf determinantOf inverseOf tiltProjectionMatrix tiltVerdict forwardDepth inverseDepth applyHomography applyHomographyInverse radialFactor tangentialX tangentialY distorted jacobianRadial radialDerivative jacobianAt keep hasNear firstNear push mergedInto closer tiltNear cameraNear near within inBound pairs seedGrid initialList offsets nextList laid readFrom damped finiteIntrinsics finiteDistortion validCamera distortionPenalty tiltPenalty centrePenalty scoreOf rowsOf tiltMatrix projected distanceOf rowError isCounted countedErrors summed errorSum meanOf anyAboveOne solvedRefusal findingRefusal meanWith scoringOf evaluated outcomeOf beats unbeaten firstUnbeaten bestOf noBest isBetter improved demand scoredOf roundBest runBest stepOf firstList listAround opened withWaiting withEntry withRound withEnd closeRound bookEnter bookNext bookSeed bookAnswer bookResult bookCall replies after add sub mul div neg lt le eq isNan ofBits ofInt sum round units odd size span climb
+unfolding NoNan every absOf isFinite minOf maxOf clampOf rootIn isqrt rootOf root productOf firstOther secondOther minorOf cofactorOf determinantOf inverseOf tiltProjectionMatrix tiltVerdict forwardDepth inverseDepth applyHomography applyHomographyInverse radialFactor tangentialX tangentialY distorted jacobianRadial radialDerivative jacobianAt keep hasNear push mergedInto closer tiltNear cameraNear near within inBound pairs seedGrid initialList offsets nextList laid readFrom damped finiteIntrinsics finiteDistortion validCamera distortionPenalty tiltPenalty centrePenalty scoreOf rowsOf tiltMatrix projected distanceOf rowError isCounted countedErrors summed errorSum meanOf anyAboveOne solvedRefusal findingRefusal meanWith scoringOf evaluated outcomeOf beats unbeaten firstUnbeaten bestOf noBest isBetter improved demand scoredOf roundBest runBest stepOf firstList listAround opened withWaiting withEntry withRound withEnd closeRound bookEnter bookNext bookSeed bookAnswer bookResult bookCall replies after add sub mul div neg lt le eq isNan ofBits ofInt sum round units odd size span climb
 on-book = record { empty = refl; failed = refl; whole = refl; no-nan = (refl, (refl, (refl, tt))) }

@@ -7,7 +7,7 @@ use Rattle.root.specs.Root.{rootIn, isqrt, rootOf, root}
 use Rattle.camera_tilt.specs.Matrix.{productOf, firstOther, secondOther, minorOf, cofactorOf, determinantOf, inverseOf}
 use Rattle.camera_tilt.specs.Sensor.{tiltProjectionMatrix, tiltVerdict, forwardDepth, inverseDepth, applyHomography, applyHomographyInverse}
 use Rattle.camera_models.specs.Distortion.{radialFactor, tangentialX, tangentialY, distorted, jacobianRadial, radialDerivative, jacobianAt}
-use Rattle.seed_rules.specs.Merge.{keep, hasNear, firstNear, push, mergedInto}
+use Rattle.seed_rules.specs.Merge.{keep, hasNear, push, mergedInto}
 use Rattle.seed_rules.specs.Rules.{closer, tiltNear, cameraNear, near, within, inBound, pairs, seedGrid, initialList, offsets, nextList}
 use Rattle.seed_rules.specs.Layout.{laid, readFrom}
 use Rattle.score_camera.specs.Camera.{damped, finiteIntrinsics, finiteDistortion, validCamera}
@@ -35,5 +35,5 @@ pub record OnWalk : Type 0 where
   pub whole-result : resultDef (runAfter wholeRun (startedList wholeInputs sixty) wholeCalls) ≡ Result wholeWinner
 
 pub on-walk : OnWalk
-unfolding every absOf isFinite minOf maxOf clampOf rootIn isqrt rootOf root productOf firstOther secondOther minorOf cofactorOf determinantOf inverseOf tiltProjectionMatrix tiltVerdict forwardDepth inverseDepth applyHomography applyHomographyInverse radialFactor tangentialX tangentialY distorted jacobianRadial radialDerivative jacobianAt keep hasNear firstNear push mergedInto closer tiltNear cameraNear near within inBound pairs seedGrid initialList offsets nextList laid readFrom damped finiteIntrinsics finiteDistortion validCamera distortionPenalty tiltPenalty centrePenalty scoreOf rowsOf tiltMatrix projected distanceOf rowError isCounted countedErrors summed errorSum meanOf anyAboveOne solvedRefusal findingRefusal meanWith scoringOf evaluated outcomeOf beats unbeaten firstUnbeaten bestOf noBest isBetter improved hasPlace sound awaiting withOutcome entered nextStep roundOpened ended goodSeed tooMany demandOf openingOf startReply startList nextDef seedLent seedPart nextSeeds closeRound enterDef answerDef resultDef runCall walk runAfter add sub mul div neg lt le eq isNan ofBits ofInt sum round units odd size span climb
+unfolding every absOf isFinite minOf maxOf clampOf rootIn isqrt rootOf root productOf firstOther secondOther minorOf cofactorOf determinantOf inverseOf tiltProjectionMatrix tiltVerdict forwardDepth inverseDepth applyHomography applyHomographyInverse radialFactor tangentialX tangentialY distorted jacobianRadial radialDerivative jacobianAt keep hasNear push mergedInto closer tiltNear cameraNear near within inBound pairs seedGrid initialList offsets nextList laid readFrom damped finiteIntrinsics finiteDistortion validCamera distortionPenalty tiltPenalty centrePenalty scoreOf rowsOf tiltMatrix projected distanceOf rowError isCounted countedErrors summed errorSum meanOf anyAboveOne solvedRefusal findingRefusal meanWith scoringOf evaluated outcomeOf beats unbeaten firstUnbeaten bestOf noBest isBetter improved hasPlace sound awaiting withOutcome entered nextStep roundOpened ended goodSeed tooMany demandOf openingOf startReply startList nextDef seedLent seedPart nextSeeds closeRound enterDef answerDef resultDef runCall walk runAfter add sub mul div neg lt le eq isNan ofBits ofInt sum round units odd size span climb
 on-walk = record { empty = refl; failed = refl; whole = refl; whole-result = refl }

@@ -8,7 +8,7 @@ ghost use Prim.Native.Nat.{_+_, _*_, _≤_};
 ghost use lib.ListN.{length};
 ghost use lib.Seq.{sets};
 ghost use Rattle.seed_rules.specs.Layout.{six, seedAt, seedsOf, Leaves, two, tiltsAt, tiltsOf};
-ghost use Rattle.seed_rules.specs.Merge.{keep, firstNear, push, mergedInto};
+ghost use Rattle.seed_rules.specs.Merge.{keep, newestNear, push, mergedInto};
 ghost use Rattle.seed_rules.specs.Rules as rules;
 ghost use Rattle.seed_rules.specs.Rules.{tiltNear, inBound, seedsWithin};
 use crate::checks::in_bound;
@@ -55,17 +55,18 @@ fn put_seed(seeds: &mut [f64], i: usize, seed: CandidateSeed)
     seeds[at + 5] = seed.sensor.tilt_y;
 }
 
-// The first of the kept seeds that is near this one.
+// The newest of the kept seeds that is near this one: a decomposition's seeds lie close to their predecessors.
 fn find_near(seeds: &[f64], count: usize, seed: CandidateSeed) -> Found
     requires { ⌜ 6 * count ≤ length (now seeds) ⌝ }
-    ensures { λ r. ⌜ r ≡ firstNear rules.near 0 (seedsOf count (now (seeds .entry))) seed ⌝ }
+    ensures { λ r. ⌜ r ≡ newestNear rules.near 0 (seedsOf count (now (seeds .entry))) seed ⌝ }
 {
-    let mut i = 0;
-    while i < count {
+    let mut seeds_left = count;
+    while seeds_left > 0 {
+        let i = seeds_left - 1;
         if near(seed_at(seeds, i), seed) {
             return Found::At(i);
         }
-        i += 1;
+        seeds_left -= 1;
     }
     Found::Nothing
 }
@@ -128,17 +129,18 @@ fn put_tilts(grid: &mut [f64], i: usize, t: ScheimpflugParams)
     grid[at + 1] = t.tilt_y;
 }
 
-// The first of the kept tilts that are near these.
+// The newest of the kept tilts that are near these.
 fn find_tilt_near(grid: &[f64], count: usize, t: ScheimpflugParams) -> Found
     requires { ⌜ 2 * count ≤ length (now grid) ⌝ }
-    ensures { λ r. ⌜ r ≡ firstNear tiltNear 0 (tiltsOf count (now (grid .entry))) t ⌝ }
+    ensures { λ r. ⌜ r ≡ newestNear tiltNear 0 (tiltsOf count (now (grid .entry))) t ⌝ }
 {
-    let mut i = 0;
-    while i < count {
+    let mut tilts_left = count;
+    while tilts_left > 0 {
+        let i = tilts_left - 1;
         if tilt_near(tilts_at(grid, i), t) {
             return Found::At(i);
         }
-        i += 1;
+        tilts_left -= 1;
     }
     Found::Nothing
 }

@@ -137,8 +137,5 @@ seeds-take n i l h = read-take (λ m. seedAt m 0) 6 n i l h ∙ ap (λ (s : Cand
 tilts-from : (l : List Float) (i : ℕ) → tiltsAt (drop (2 * i) l) 0 ≡ tiltsAt l i
 tilts-from l i = simp (getD-drop, add-zero)
 
-pub tilts-drop : (n i : ℕ) (l : List Float) → i < n → drop i (tiltsOf n l) ≡ tiltsAt l i ∷ drop (suc i) (tiltsOf n l)
-tilts-drop n i l h = read-drop (λ m. tiltsAt m 0) 2 n i l h ∙ ap (λ (t : ScheimpflugParams). t ∷ drop (suc i) (tiltsOf n l)) (tilts-from l i)
-
 pub tilts-take : (n i : ℕ) (l : List Float) → i < n → take (suc i) (tiltsOf n l) ≡ take i (tiltsOf n l) ++ (tiltsAt l i ∷ [])
 tilts-take n i l h = read-take (λ m. tiltsAt m 0) 2 n i l h ∙ ap (λ (t : ScheimpflugParams). take i (tiltsOf n l) ++ (t ∷ [])) (tilts-from l i)

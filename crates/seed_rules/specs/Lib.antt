@@ -2,6 +2,7 @@ pub mod Layout
 pub mod LayoutLaws
 pub mod Merge
 pub mod MergeLaws
+pub mod Newest
 pub mod Steps
 pub mod Rules
 pub mod Bound

@@ -1,16 +1,24 @@
 -- Laws of merging under any relation: lengths, what holds of the kept ones, what is near a dropped one, and merging in parts. Assumes nothing.
 use mathlib.Core.Path.{_≡_, refl, sym, ap, _∙_}
-use mathlib.Core.Bool.{Bool, true, false, cond, true≢false}
+use mathlib.Core.Bool.{Bool, true, false, _||_, cond, true≢false}
 use mathlib.Core.List.{List, [], _∷_, _++_, map, map-append, List·Memᴰ, List·Memᴰ·head, List·Memᴰ·tail, List·Memᴰ·not-nil, List·Memᴰ·cases-cons, Memᴰ·append-left, Memᴰ·append-right}
 use mathlib.Core.Logic.{_⊎_, inl, inr, ⊎-elim}
 use Prim.Native.Nat.{ℕ, suc, _+_, _≤_}
+use native.Mathlib.Nat.{add-zero}
 use native.Mathlib.Omega.{arith}
 use lib.ListN.{length, length-append}
 use Rattle.common.specs.All.{all-append}
 use Rattle.common.specs.Each.{All}
 use Rattle.common.specs.Tests.{case}
+use Rattle.seed_rules.specs.declared.Found.{Found}
 use Rattle.seed_rules.specs.declared.Found.the-variants.{At, Nothing}
-use Rattle.seed_rules.specs.Merge.{keep, hasNear, firstNear, push, mergedInto}
+use Rattle.seed_rules.specs.Merge.{foundElse, isFound, keep, hasNear, newestNear, push, mergedInto}
+
+found-in : (r : Found) (c : Bool) (i : ℕ) → isFound (foundElse r (cond c (At i) Nothing)) ≡ (c || isFound r)
+found-in (At j) true i = refl
+found-in (At j) false i = refl
+found-in Nothing true i = refl
+found-in Nothing false i = refl
 
 module _ {A : Type 0} where
   -- ---- those that pass a test
@@ -50,19 +58,70 @@ module _ {A : Type 0} where
       case (p x) (λ e. simp (h x, e, r)) (λ e. simp (h x, e, r))
 
   module _ (near : A → A → Bool) where
-    -- ---- the near search: whether there is one is all that merging asks
-    pub first-at : (i j : ℕ) (ks : List A) (s : A) → firstNear near i ks s ≡ At j → hasNear near ks s ≡ true
-    unfolding firstNear hasNear
-    first-at i j [] s h = let z : _≡_ {A = ℕ} 0 1 = cc in absurd (omega arith)
-    first-at i j (k ∷ ks) s h = case (near k s) (λ e. simp e) (λ e. simp e (first-at (suc i) j ks s (simp e at h)))
+    -- ---- the near search: it finds one exactly where there is one
+    pub newest-found : (i : ℕ) (ks : List A) (s : A) → isFound (newestNear near i ks s) ≡ hasNear near ks s
+    unfolding newestNear hasNear
+    newest-found i [] s = refl
+    newest-found i (k ∷ ks) s = found-in (newestNear near (suc i) ks s) (near k s) i ∙ ap (λ (b : Bool). near k s || b) (newest-found (suc i) ks s)
 
-    pub first-nothing : (i : ℕ) (ks : List A) (s : A) → firstNear near i ks s ≡ Nothing → hasNear near ks s ≡ false
-    unfolding firstNear hasNear
-    first-nothing i [] s h = refl
-    first-nothing i (k ∷ ks) s h =
-        case (near k s)
-        (λ e. let f : At i ≡ Nothing = simp e at h in let z : _≡_ {A = ℕ} 0 1 = cc in absurd (omega arith))
-        (λ e. simp e (first-nothing (suc i) ks s (simp e at h)))
+    -- which is all that merging asks: pushing by what the search says is pushing by the rule, so the same seeds are kept
+    pub same-kept : (ks : List A) (s : A) → cond (isFound (newestNear near 0 ks s)) ks (ks ++ (s ∷ [])) ≡ push near ks s
+    unfolding push
+    same-kept ks s = rw (newest-found 0 ks s)
+
+    -- the one it names is near, and none behind it is
+    pub record Newest (i : ℕ) (ks : List A) (s : A) (j : ℕ) : Type 0 where
+      pub earlier : List A
+      pub named : A
+      pub later : List A
+      pub split : ks ≡ earlier ++ (named ∷ later)
+      pub place : j ≡ i + length earlier
+      pub nearby : near named s ≡ true
+      pub none-later : hasNear near later s ≡ false
+
+    pub newest-named : (i j : ℕ) (ks : List A) (s : A) → newestNear near i ks s ≡ At j → Newest i ks s j
+    unfolding newestNear
+    newest-named i j [] s h = let z : _≡_ {A = ℕ} 0 1 = cc in absurd (omega arith)
+    newest-named i j (k ∷ ks) s h = go (newestNear near (suc i) ks s) refl h (newest-named (suc i) j ks s)
+      where
+        go : (r : Found) → newestNear near (suc i) ks s ≡ r → foundElse r (cond (near k s) (At i) Nothing) ≡ At j
+            → (newestNear near (suc i) ks s ≡ At j → Newest (suc i) ks s j) → Newest i (k ∷ ks) s j
+        go (At m) e g behind =
+            let n = behind (e ∙ g) in
+            record {
+              earlier = k ∷ n .earlier;
+              named = n .named;
+              later = n .later;
+              split = ap (λ (l : List A). k ∷ l) (n .split);
+              place = let p = n .place in omega arith;
+              nearby = n .nearby;
+              none-later = n .none-later;
+            }
+        go Nothing e g behind =
+            case (near k s)
+            (λ c.
+            let f : At i ≡ At j = simp c at g in
+            let p : i ≡ j = cc in
+            record {
+              earlier = [];
+              named = k;
+              later = ks;
+              split = refl;
+              place = omega arith;
+              nearby = c;
+              none-later = sym (newest-found (suc i) ks s) ∙ ap isFound e;
+            })
+            (λ c. let f : Nothing ≡ At j = simp c at g in let z : _≡_ {A = ℕ} 0 1 = cc in absurd (omega arith))
+
+    -- one more kept one is looked at first
+    pub newest-snoc : (i : ℕ) (ks : List A) (k s : A)
+        → newestNear near i (ks ++ (k ∷ [])) s ≡ cond (near k s) (At (i + length ks)) (newestNear near i ks s)
+    unfolding newestNear
+    newest-snoc i [] k s = ap (λ (n : ℕ). cond (near k s) (At n) Nothing) (sym (add-zero i))
+    newest-snoc i (l ∷ ks) k s =
+        let h = newest-snoc (suc i) ks k s in
+        let n : suc i + length ks ≡ i + suc (length ks) = omega arith in
+        case (near k s) (λ e. simp (h, e, n)) (λ e. simp (h, e))
 
     -- ---- in parts
     pub merged-append : (ks xs ys : List A) → mergedInto near ks (xs ++ ys) ≡ mergedInto near (mergedInto near ks xs) ys

@@ -1,44 +1,47 @@
--- Steps of the loops, for records of any width and any relation of nearness: a search from place i on, and a merge in parts on a lent list. Assumes nothing.
+-- Steps of the loops, for records of any width and any relation of nearness: a search from the last record back, and a merge in parts on a lent list. Assumes nothing.
 use mathlib.Core.Path.{_≡_, refl, sym, ap, _∙_}
-use mathlib.Core.Bool.{Bool, true, false, _&&_, true≢false}
+use mathlib.Core.Bool.{Bool, true, false, _&&_, cond, true≢false}
 use mathlib.Core.List.{List, [], _∷_, _++_}
-use Prim.Native.Nat.{ℕ, suc, _+_, _*_, _≤_}
+use Prim.Native.Nat.{ℕ, suc, _+_, _-_, _*_, _≤_, _<_}
+use native.Mathlib.Nat.{zero-add}
 use native.Mathlib.Omega.{arith}
-use lib.ListN.{length, drop, length-append, drop-of-length-le}
-use lib.Seq.{sets}
+use lib.ListN.{length, take, drop, length-append}
+use lib.Seq.{sets, length-take-le}
 use lib.Ieee.{Float}
 use Rattle.seed_rules.specs.declared.Found.the-variants.{At, Nothing}
 use Rattle.seed_rules.specs.Layout.{readFrom, writtenBy, Leaves}
 use Rattle.seed_rules.specs.LayoutLaws.{Layout, read-length, read-written, written-own, written-over, stored}
-use Rattle.seed_rules.specs.Merge.{firstNear, hasNear, push, mergedInto}
-use Rattle.seed_rules.specs.MergeLaws.{merged-append, merged-longer, merged-length}
+use Rattle.seed_rules.specs.Merge.{isFound, newestNear, push, mergedInto}
+use Rattle.seed_rules.specs.MergeLaws.{newest-snoc, same-kept, merged-append, merged-longer, merged-length}
 
--- ---- the search
-module _ {A : Type 0} (near : A → A → Bool) (ks : List A) (i : ℕ) (s : A) where
-  pub found-here : (k : A) (rest : List A) → drop i ks ≡ k ∷ rest → near k s ≡ true → firstNear near i (drop i ks) s ≡ At i
-  unfolding firstNear
-  found-here k rest e t = simp (e, t)
+-- ---- the search, with the first `left` records still to be looked at
+module _ {A : Type 0} (near : A → A → Bool) (ks : List A) (left : ℕ) (s : A) where
+  pub found-none : left ≡ 0 → newestNear near 0 (take left ks) s ≡ Nothing
+  unfolding newestNear
+  found-none h = rw h
 
-  pub found-next : (k : A) → drop i ks ≡ k ∷ drop (suc i) ks → near k s ≡ false → firstNear near i (drop i ks) s ≡ firstNear near (suc i) (drop (suc i) ks) s
-  unfolding firstNear
-  found-next k e t = ap (λ (l : List A). firstNear near i l s) e ∙ simp t
+  module _ (k : A) (some : 0 < left) (last : take (suc (left - 1)) ks ≡ take (left - 1) ks ++ (k ∷ [])) where
+    looks : newestNear near 0 (take left ks) s ≡ cond (near k s) (At (0 + length (take (left - 1) ks))) (newestNear near 0 (take (left - 1) ks) s)
+    looks =
+        let e : left ≡ suc (left - 1) = omega arith in
+        ap (λ (n : ℕ). newestNear near 0 (take n ks) s) e ∙ ap (λ (l : List A). newestNear near 0 l s) last ∙ newest-snoc near 0 (take (left - 1) ks) k s
 
-  pub found-none : length ks ≤ i → firstNear near i (drop i ks) s ≡ Nothing
-  unfolding firstNear
-  found-none h = rw (drop-of-length-le ks h)
+    pub found-here : left ≤ length ks → near k s ≡ true → newestNear near 0 (take left ks) s ≡ At (left - 1)
+    found-here h t = looks ∙ simp (t, length-take-le (left - 1) ks (omega arith), zero-add (left - 1))
+
+    pub found-before : near k s ≡ false → newestNear near 0 (take left ks) s ≡ newestNear near 0 (take (left - 1) ks) s
+    found-before t = looks ∙ simp t
 
 -- ---- one record pushed, and the merge
 module _ {A : Type 0} {numbers : A → List Float} {first : List Float → A} {w : ℕ} (y : Layout numbers first w) (near : A → A → Bool) where
-  pub push-drops : (l : List Float) (n : ℕ) (s : A) → w * n ≤ length l → hasNear near (readFrom first w n l) s ≡ true
+  pub push-drops : (l : List Float) (n : ℕ) (s : A) → w * n ≤ length l → isFound (newestNear near 0 (readFrom first w n l) s) ≡ true
       → Leaves numbers w (push near (readFrom first w n l) s) l l n
-  unfolding push
-  push-drops l n s h e = simp e (record { count-is = sym (read-length first w n l); list-is = sym (written-own y n l h) })
+  push-drops l n s h e = rw (← same-kept near (readFrom first w n l) s, e) (record { count-is = sym (read-length first w n l); list-is = sym (written-own y n l h) })
 
-  pub push-stores : (l m : List Float) (n : ℕ) (s : A) → w * n + w ≤ length l → hasNear near (readFrom first w n l) s ≡ false → m ≡ sets l (w * n) (numbers s)
+  pub push-stores : (l m : List Float) (n : ℕ) (s : A) → w * n + w ≤ length l → isFound (newestNear near 0 (readFrom first w n l) s) ≡ false → m ≡ sets l (w * n) (numbers s)
       → Leaves numbers w (push near (readFrom first w n l) s) l m (n + 1)
-  unfolding push
   push-stores l m n s h e q =
-      simp e (record {
+      rw (← same-kept near (readFrom first w n l) s, e) (record {
         count-is = omega (arith, length-append (readFrom first w n l) (s ∷ []), read-length first w n l);
         list-is = q ∙ stored y n l s h;
       })

@@ -1,26 +1,32 @@
--- `seed_lists::find_near` meets its contract. The loop's invariant: the search from place i on finds what the whole search finds. Assumes nothing.
+-- `seed_lists::find_near` meets its contract. The loop's invariant: among the first `left` seeds the search finds what it finds among all. Assumes nothing.
 use mathlib.Core.Path.{_≡_, sym, ap, _∙_}
-use Prim.Native.Nat.{suc, _≤_, _-_}
-use native.Mathlib.Numerals.{add-one}
+use mathlib.Core.List.{List}
+use Prim.Native.Nat.{_≤_, _-_}
 use borrow.Author.Needs.{needs}
-use lib.ListN.{drop}
+use lib.ListN.{take}
+use lib.Seq.{take-all}
 use Rattle.seed_rules.specs.declared.CandidateSeed.{CandidateSeed}
 use Rattle.seed_rules.specs.Layout.{seedAt, seedsOf}
-use Rattle.seed_rules.specs.LayoutLaws.{read-length, seeds-drop}
-use Rattle.seed_rules.specs.Merge.{firstNear}
+use Rattle.seed_rules.specs.LayoutLaws.{read-length, seeds-take}
+use Rattle.seed_rules.specs.Merge.{newestNear}
 use Rattle.seed_rules.specs.Rules.{near}
-use Rattle.seed_rules.specs.Steps.{found-here, found-next, found-none}
+use Rattle.seed_rules.specs.Steps.{found-here, found-before, found-none}
 use Rattle.seed_lists.proofs.find_near.Statement.{statement}
 use Rattle.seed_lists.proofs.find_near.Tie as tie
 
 abbrev Inv-loop : tie.InvT-loop
-Inv-loop seeds count seed i₀ i = (i ≤ count) × (firstNear near i (drop i (seedsOf count seeds)) seed ≡ firstNear near 0 (seedsOf count seeds) seed)
+Inv-loop seeds count seed left₀ left = (left ≤ count) × (newestNear near 0 (take left (seedsOf count seeds)) seed ≡ newestNear near 0 (seedsOf count seeds) seed)
 
 abbrev μ-loop : tie.MeasureT-loop
-μ-loop seeds count seed i₀ i = count - i
+μ-loop seeds count seed left₀ left = left
 
 loop-holds : tie.Need-loop-holds Inv-loop μ-loop
-loop-holds c = search needs
+loop-holds c =
+    let a = c .before .args in
+    (search needs, ap (λ (ks : List CandidateSeed). newestNear near 0 ks (a .seed)) (take-all (a .count) (seedsOf (a .count) (a .seeds .now)) (rw read-length (search needs))))
+
+sub-i : tie.Need-sub-i Inv-loop μ-loop
+sub-i c = search needs
 
 seed-at-requires : tie.Need-seed-at-requires Inv-loop μ-loop
 seed-at-requires c κs = search needs
@@ -34,12 +40,12 @@ returns c =
     let l = b .before .before .args .seeds .now in
     let n = b .before .before .args .count in
     let s = b .before .before .args .seed in
-    let i = b .loop .i in
+    let left = b .loop .seeds-left in
     let t = ap (λ (k : CandidateSeed). near k s) (sym (c .before .before .seed-at .ensures)) ∙ sym (c .before .near .ensures) ∙ c .if1 .taken in
-    sym (found-here near (seedsOf n l) i s (seedAt l i) (drop (suc i) (seedsOf n l)) (seeds-drop n i l (search needs)) t) ∙ b .loop .inv .1
+    sym (found-here near (seedsOf n l) left s (seedAt l (left - 1)) (search needs) (seeds-take n (left - 1) l (search needs)) (rw read-length (search needs)) t) ∙ b .loop .inv .1
 
-add-i : tie.Need-add-i Inv-loop μ-loop
-add-i c = search needs
+sub-seeds-left : tie.Need-sub-seeds-left Inv-loop μ-loop
+sub-seeds-left c = search needs
 
 loop-less : tie.Need-loop-less Inv-loop μ-loop
 loop-less c = search needs
@@ -50,16 +56,15 @@ loop-again c =
     let l = b .before .before .args .seeds .now in
     let n = b .before .before .args .count in
     let s = b .before .before .args .seed in
-    let i = b .loop .i in
+    let left = b .loop .seeds-left in
     let t = ap (λ (k : CandidateSeed). near k s) (sym (c .before .before .seed-at .ensures)) ∙ sym (c .before .near .ensures) ∙ c .if1 .left in
-    (search needs, rw (add-one i) (sym (found-next near (seedsOf n l) i s (seedAt l i) (seeds-drop n i l (search needs)) t) ∙ b .loop .inv .1))
+    (search needs, sym (found-before near (seedsOf n l) left s (seedAt l (left - 1)) (search needs) (seeds-take n (left - 1) l (search needs)) t) ∙ b .loop .inv .1)
 
 returns-2 : tie.Need-returns-2 Inv-loop μ-loop
 returns-2 c =
     let b = c .before in
-    let l = b .before .before .args .seeds .now in
-    let n = b .before .before .args .count in
-    sym (found-none near (seedsOf n l) (b .loop .i) (b .before .before .args .seed) (rw read-length (search needs))) ∙ b .loop .inv .1
+    let a = b .before .before .args in
+    sym (found-none near (seedsOf (a .count) (a .seeds .now)) (b .loop .seeds-left) (a .seed) (search needs)) ∙ b .loop .inv .1
 
 pub find-near-spec : {M : Type 1} → statement M
 find-near-spec =
@@ -68,10 +73,11 @@ find-near-spec =
     Inv-loop
     μ-loop
     loop-holds
+    sub-i
     seed-at-requires
     near-requires
     returns
-    add-i
+    sub-seeds-left
     loop-less
     loop-again
     returns-2)

@@ -1,9 +1,8 @@
 -- `seed_lists::push_candidate_seed` meets its contract: a seed with a near one among the kept is dropped, any other is stored behind them. Assumes nothing.
-use mathlib.Core.Path.{_∙_, sym}
+use mathlib.Core.Path.{sym, ap, _∙_}
 use borrow.Author.Needs.{needs}
-use Rattle.seed_rules.specs.Layout.{seedsOf}
 use Rattle.seed_rules.specs.LayoutLaws.{seeds-layout}
-use Rattle.seed_rules.specs.MergeLaws.{first-at, first-nothing}
+use Rattle.seed_rules.specs.Merge.{isFound}
 use Rattle.seed_rules.specs.Rules.{near}
 use Rattle.seed_rules.specs.Steps.{push-drops, push-stores}
 use Rattle.seed_lists.proofs.push_candidate_seed.Statement.{statement}
@@ -27,7 +26,7 @@ returns c =
     let l = a .seeds .now in
     let n = a .count in
     let e = sym (c .before .before .find-near .ensures) ∙ c .enum-told2 .given .1 in
-    push-drops seeds-layout near l n (a .seed) (search needs) (first-at near 0 (c .enum-told2 .given .0 .0) (seedsOf n l) (a .seed) e)
+    push-drops seeds-layout near l n (a .seed) (search needs) (ap isFound e)
 
 put-seed-requires : tie.Need-put-seed-requires
 put-seed-requires c κs = search needs
@@ -46,7 +45,7 @@ returns-2 c =
     let l = a .seeds .now in
     let n = a .count in
     let e = sym (q .find-near .ensures) ∙ p .before .before .enum-told .given .1 in
-    push-stores seeds-layout near l (p .put-seed .last .0) n (a .seed) (search needs) (first-nothing near 0 (seedsOf n l) (a .seed) e) (p .put-seed .ensures)
+    push-stores seeds-layout near l (p .put-seed .last .0) n (a .seed) (search needs) (ap isFound e) (p .put-seed .ensures)
 
 pub push-candidate-seed-spec : {M : Type 1} → statement M
 push-candidate-seed-spec =

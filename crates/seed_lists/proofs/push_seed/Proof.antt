@@ -1,12 +1,10 @@
 -- `seed_lists::push_seed` meets its contract: tilts beyond the bound, or with near ones among the kept, are dropped, any others stored behind them. Assumes nothing.
-use mathlib.Core.Path.{_≡_, sym, _∙_}
+use mathlib.Core.Path.{_≡_, sym, ap, _∙_}
 use mathlib.Core.Bool.{true, false}
 use borrow.Author.Tests.{not-true, not-false}
 use borrow.Author.Needs.{needs}
-use Rattle.seed_rules.specs.Layout.{tiltsOf}
 use Rattle.seed_rules.specs.LayoutLaws.{tilts-layout}
-use Rattle.seed_rules.specs.Merge.{keep, mergedInto}
-use Rattle.seed_rules.specs.MergeLaws.{first-at, first-nothing}
+use Rattle.seed_rules.specs.Merge.{isFound, keep, mergedInto}
 use Rattle.seed_rules.specs.Rules.{tiltNear, inBound}
 use Rattle.seed_rules.specs.Steps.{push-drops, push-stores, merging-start}
 use Rattle.seed_lists.proofs.push_seed.Statement.{statement}
@@ -43,7 +41,7 @@ returns-2 c =
     let n = a .count in
     let e : inBound (a .max-abs-tilt) (a .t) ≡ true = sym (b .before .in-bound .ensures) ∙ not-false _ (b .if1 .left) in
     let f = sym (c .before .before .find-tilt-near .ensures) ∙ c .enum-told2 .given .1 in
-    simp e (push-drops tilts-layout tiltNear l n (a .t) (search needs) (first-at tiltNear 0 (c .enum-told2 .given .0 .0) (tiltsOf n l) (a .t) f))
+    simp e (push-drops tilts-layout tiltNear l n (a .t) (search needs) (ap isFound f))
 
 put-tilts-requires : tie.Need-put-tilts-requires
 put-tilts-requires c κs = search needs
@@ -65,7 +63,7 @@ returns-3 c =
     let n = a .count in
     let e : inBound (a .max-abs-tilt) (a .t) ≡ true = sym (b .before .in-bound .ensures) ∙ not-false _ (b .if1 .left) in
     let f = sym (q .find-tilt-near .ensures) ∙ p .before .before .enum-told .given .1 in
-    simp e (push-stores tilts-layout tiltNear l (p .put-tilts .last .0) n (a .t) (search needs) (first-nothing tiltNear 0 (tiltsOf n l) (a .t) f) (p .put-tilts .ensures))
+    simp e (push-stores tilts-layout tiltNear l (p .put-tilts .last .0) n (a .t) (search needs) (ap isFound f) (p .put-tilts .ensures))
 
 pub push-seed-spec : {M : Type 1} → statement M
 push-seed-spec =
