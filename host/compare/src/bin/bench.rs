@@ -107,7 +107,8 @@ fn main() {
     roots(&mut random);
     distortions(&mut random);
     scoring(&mut random);
-    first_list();
+    first_list("building a round-0 list of 512 seeds", &most_seeds(), 512);
+    first_list("the same of 256 seeds near their predecessors", &close_seeds(), 65);
     let rows = rows(&mut random);
     whole_run("a whole run of 656 answers with 900 rows", &rows);
     whole_run("the same with one row: all but the scoring", &rows[..1]);
@@ -221,13 +222,24 @@ fn most_seeds() -> Inputs {
     }
 }
 
-fn first_list() {
-    let inputs = most_seeds();
-    let for_library = compare::library::library_inputs(&inputs);
+/// 256 decomposition seeds, each near the one before it: every fourth is kept, and the three behind it lie near that one alone.
+/// One typed pair of tilts, near none of them.
+fn close_seeds() -> Inputs {
+    let decomposition = |i: u32| [800.0, 790.0, 320.5, 239.25, 0.1 + 3e-13 * f64::from(i), 0.0625];
+    Inputs {
+        tilt_x_seeds: vec![0.0],
+        tilt_y_seeds: vec![0.0],
+        decomposition: (0..256).flat_map(decomposition).collect(),
+        ..most_seeds()
+    }
+}
+
+fn first_list(name: &str, inputs: &Inputs, kept: usize) {
+    let for_library = compare::library::library_inputs(inputs);
     let mut list = vec![0.0; 6 * 512];
     let library = || {
         let run = start(black_box(&for_library), &mut list).expect("good inputs");
-        assert_eq!(black_box(run).place.len, 512);
+        assert_eq!(black_box(run).place.len, kept);
     };
     let (dataset, options) = (inputs.dataset(), inputs.options());
     let base = pinhole_camera(CAMERA).k;
@@ -237,9 +249,9 @@ fn first_list() {
             published::validate_options(&dataset, &options)?;
             published::initial_seed_grid(&dataset, &base, &options)
         });
-        assert_eq!(black_box(seeds).expect("good inputs").len(), 512);
+        assert_eq!(black_box(seeds).expect("good inputs").len(), kept);
     };
-    report("building a round-0 list of 512 seeds", medians(1, library, rust));
+    report(name, medians(1, library, rust));
 }
 
 fn whole_run(name: &str, rows: &[Row]) {
