@@ -1,0 +1,143 @@
+-- The exported calls are the walk's, and so the book's. Assumes nothing.
+use Prim.Native.Nat.{ℕ, _≤_}
+use native.Mathlib.Omega.{arith}
+use mathlib.Core.Path.{_≡_, refl, ap, _∙_}
+use mathlib.Core.Bool.{not, cond, true≢false}
+use mathlib.Core.List.{List, [], _∷_, _++_, map}
+use borrow.Author.Tests.{le-leb}
+use lib.Dec.{eqb}
+use lib.ListN.{length, take, drop, length-take}
+use lib.Ieee.{Float}
+use Rattle.common.specs.Tests.{case}
+use Rattle.float.specs.Float.{isFinite}
+use Rattle.camera_models.specs.declared.math.Pt2.{Pt2}
+use Rattle.camera_tilt.specs.declared.sensor.ScheimpflugParams.{ScheimpflugParams}
+use Rattle.score_camera.specs.Camera.{dampedCamera, validCamera}
+use Rattle.score_outcome.specs.declared.Finding.{Finding}
+use Rattle.score_outcome.specs.declared.Finding.the-variants.{Failed, Solved}
+use Rattle.score_outcome.specs.Evaluation.{meanWith, evaluated, outcomeOf}
+use Rattle.search_record.specs.declared.run.Run.{Run}
+use Rattle.search_start.specs.declared.Started.the-variants.{Accepted, Refused}
+use Rattle.search_start.specs.Start.{startReply, startRefusal}
+use Rattle.search_calls.specs.declared.next.Handed.{Handed}
+use Rattle.search_calls.specs.declared.next.Handed.the-variants as handed
+use Rattle.search_calls.specs.Next.{nextRefusal, nextDef, seedLent, seedPart}
+use Rattle.search_answer.specs.declared.Answered.{Answered}
+use Rattle.search_answer.specs.declared.Answered.the-variants as answered
+use Rattle.search_answer.specs.Answer.{answerRefusal, enterDef, answerDef, replyOf}
+use Rattle.search_calls.specs.Result.{resultRefusal, resultDef}
+use Rattle.capi_records.specs.Record.{flatRun}
+use Rattle.capi_records.specs.RoundTrip.{run-back}
+use Rattle.capi_records.specs.Run.{flatStarted, flatHanded, flatNext, flatAnswered, flatAnswer, flatResult, findingOf, copied, copyCount}
+use Rattle.book.specs.Book.{Inputs}
+use Rattle.book.specs.Calls.{Reply, part}
+use Rattle.book.specs.Walk.{Step, handedReply, answeredReply, resultedReply, runCall, walk}
+use Rattle.book.specs.Theorem.{optionsOf, startOf, startedList}
+use Rattle.book.proofs.Theorem.{search-is-book}
+use Rattle.capi_book.specs.Exported.{Exported, jc-next, jc-seed, jc-answer, jc-result, callOf, readNext, readAnswer, readResult, FlatStep, flatCall, flatWalk}
+use Rattle.capi_book.specs.Theorem.{flatStart, ExportedIsWalk, ExportedIsBook}
+
+-- ---- the record in a reply
+next-run : (h : Handed) (r : Run) → flatHanded h r .run ≡ flatRun r
+next-run (handed.Candidate n) r = refl
+next-run handed.Over r = refl
+next-run (handed.Refused n) r = refl
+
+answer-run : (a : Answered) (r : Run) → flatAnswered a r .run ≡ flatRun r
+answer-run (answered.Scored s) r = refl
+answer-run (answered.Skipped reason) r = refl
+answer-run (answered.Refused n) r = refl
+
+-- ---- what is read off a reply: no refusal has the number 0, and no skip the reason 0
+next-read : (r : Run) (l : List Float) → readNext (flatNext (nextDef r l)) ≡ handedReply (nextDef r l .reply)
+unfolding nextDef
+next-read r l =
+    case (eqb (nextRefusal r (length l)) 0)
+    (λ h. case (r .place .over) (λ o. simp h (simp o)) (λ o. simp h (simp o)))
+    (λ h. simp h)
+
+result-read : (r : Run) → readResult (flatResult (resultDef r)) ≡ resultedReply (resultDef r)
+unfolding resultDef
+result-read r = case (eqb (resultRefusal r) 0) (λ h. simp h) (λ h. simp h)
+
+outcome-read : (f : Finding) (sensor : ScheimpflugParams) (center : Pt2) (rows : List Float) (flags : List ℕ) (r : Run)
+    → readAnswer (flatAnswered (replyOf (outcomeOf f sensor center rows flags)) r) ≡ answeredReply (replyOf (outcomeOf f sensor center rows flags))
+unfolding outcomeOf evaluated
+outcome-read Failed sensor center rows flags r = refl
+outcome-read (Solved s) sensor center rows flags r =
+    case (not (validCamera (dampedCamera (s .camera))))
+    (λ h. simp h)
+    (λ h. case (not (isFinite (meanWith s rows flags))) (λ k. simp (h, k)) (λ k. simp (h, k)))
+
+answer-read : (r : Run) (f : Finding) (rows : List Float) (flags : List ℕ) (l : List Float)
+    → readAnswer (flatAnswer (answerDef r f rows flags l .reply)) ≡ answeredReply (answerDef r f rows flags l .reply .reply)
+unfolding answerDef
+answer-read r f rows flags l =
+    let t = r .waiting .seed .sensor in
+    let o = outcomeOf f t (r .center) rows flags in
+    case (eqb (answerRefusal r (length l) f rows flags) 0) (λ h. simp h (outcome-read f t (r .center) rows flags (enterDef r l o .run))) (λ h. simp h)
+
+-- the seed in a destination with room for it
+take-front : (w rest : List Float) → take (length w) (w ++ rest) ≡ w
+take-front [] rest = refl
+take-front (x ∷ w) rest = ap (λ (v : List Float). x ∷ v) (take-front w rest)
+
+seed-short : (r : Run) (l : List Float) → length (seedPart r l) ≤ 6
+unfolding seedPart
+seed-short r l = case (seedLent r (length l)) (λ h. simp (h, length-take) (omega arith)) (λ h. simp h (omega arith))
+
+seed-read : (r : Run) (l to : List Float) → 6 ≤ length to → take (copyCount (seedPart r l) to) (copied (seedPart r l) to) ≡ seedPart r l
+seed-read r l to room =
+    let w = seedPart r l in
+    simp (le-leb (length w) (length to) (let s = seed-short r l in omega arith)) (take-front w (drop (length w) to))
+
+-- ---- a call reads as the walk's, and leaves the flat record of its run and the same list
+record Same (a : FlatStep) (b : Step) : Type 0 where
+  reply : a .reply ≡ b .reply
+  run : a .run ≡ flatRun (b .run)
+  list : a .list ≡ b .list
+
+call-same : (r : Run) (l : List Float) (c : Exported) → Same (flatCall (flatRun r) l c) (runCall r l (callOf c))
+unfolding flatCall runCall
+call-same r l (jc-next n) =
+    let a = nextDef r (take n l) in
+    record { reply = rw (run-back r) (next-read r (take n l)); run = rw (run-back r) (next-run (a .reply) (a .run)); list = refl }
+call-same r l (jc-seed n to room) = record { reply = rw (run-back r) (ap part (seed-read r (take n l) to room)); run = refl; list = refl }
+call-same r l (jc-answer n solved camera rows flags) =
+    let f = findingOf solved camera in
+    let a = answerDef r f rows flags (take n l) .reply in
+    record {
+      reply = rw (run-back r) (answer-read r f rows flags (take n l));
+      run = rw (run-back r) (answer-run (a .reply) (a .run));
+      list = rw (run-back r) refl;
+    }
+call-same r l jc-result = record { reply = rw (run-back r) (result-read r); run = refl; list = refl }
+
+walk-more : (r : Run) (l : List Float) (c : Exported) (cs : List Exported)
+    → ((s : Run) (k : List Float) → flatWalk (flatRun s) k cs ≡ walk s k (map callOf cs)) → flatWalk (flatRun r) l (c ∷ cs) ≡ walk r l (map callOf (c ∷ cs))
+unfolding flatWalk walk
+walk-more r l c cs ih =
+    let s = call-same r l c in
+    let b = runCall r l (callOf c) in
+    rw (s .reply, s .run, s .list) (ap (λ (z : List Reply). b .reply ∷ z) (ih (b .run) (b .list)))
+
+pub exported-is-walk : ExportedIsWalk
+unfolding flatWalk walk
+exported-is-walk r l [] = refl
+exported-is-walk r l (c ∷ cs) = walk-more r l c cs (λ s k. exported-is-walk s k cs)
+
+-- ---- after Start: its reply has the number 0 only where it is accepted
+accepts : (n : ℕ) (r : Run) → flatStarted (cond (eqb n 0) (Accepted r) (Refused n)) .number ≡ 0 → cond (eqb n 0) (Accepted r) (Refused n) ≡ Accepted r
+accepts n r h =
+    case (eqb n 0)
+    (λ a. simp a)
+    (λ a. let k : n ≡ 0 = simp a at h in absurd (true≢false (rw k at a)))
+
+accepted : (i : Inputs) (l : List Float) → flatStart i l .number ≡ 0 → (r : Run) × (startOf i l ≡ Accepted r)
+unfolding startReply
+accepted i l h = (_, accepts (startRefusal (i .views) (optionsOf i) (i .xs) (i .ys) (i .decomposition) (length l)) _ h)
+
+pub exported-is-book : ExportedIsBook
+exported-is-book i l h cs n =
+    let a = accepted i l h in
+    rw (a .1) (exported-is-walk (a .0) (startedList i l) cs ∙ search-is-book i l .follows (a .0) (a .1) (map callOf cs) n .same-replies)

@@ -1,0 +1,66 @@
+-- The exported calls, what a host reads off their flat replies, and a list of such calls, each given the flat record and the seed list as the
+-- calls before left them, by the very definitions that the exported functions' contracts name. Definitions only.
+use Prim.Native.Nat.{ℕ, _≤_}
+use mathlib.Core.Bool.{cond}
+use mathlib.Core.List.{List, [], _∷_, _++_}
+use lib.Dec.{eqb}
+use lib.ListN.{length, take, drop}
+use lib.Ieee.{Float}
+use Rattle.score_outcome.specs.declared.SolvedCamera.{SolvedCamera}
+use Rattle.search_calls.specs.Next.{nextDef, seedPart}
+use Rattle.search_answer.specs.Answer.{answerDef}
+use Rattle.search_calls.specs.Result.{resultDef}
+use Rattle.capi_records.specs.declared.record.RunRecord.{RunRecord}
+use Rattle.capi_records.specs.declared.run.NextFlat.{NextFlat}
+use Rattle.capi_records.specs.declared.run.AnswerFlat.{AnswerFlat}
+use Rattle.capi_records.specs.declared.run.ResultFlat.{ResultFlat}
+use Rattle.capi_records.specs.Record.{runFrom}
+use Rattle.capi_records.specs.Run.{flatNext, flatAnswer, flatResult, findingOf, copied, copyCount}
+use Rattle.book.specs.Calls.{Call, Reply, candidate, over, part, scored, skipped, result, refused}
+use Rattle.book.specs.Calls as book
+
+-- An exported call with its arguments, but for the run's record and the seed list. n is how many numbers of the list are lent; jc_seed also
+-- gets a destination, with room for a seed.
+pub data Exported : Type 0 where
+  jc-next : ℕ → Exported
+  jc-seed : ℕ → (to : List Float) → 6 ≤ length to → Exported
+  jc-answer : ℕ → ℕ → SolvedCamera → List Float → List ℕ → Exported
+  jc-result : Exported
+
+-- the call of the book that it makes
+abbrev pub callOf : Exported → Call
+callOf (jc-next n) = book.next n
+callOf (jc-seed n to room) = book.seed n
+callOf (jc-answer n solved camera rows flags) = book.answer n (findingOf solved camera) rows flags
+callOf jc-result = book.ask
+
+-- ---- what a host reads off a reply: a number that isn't 0 is a refusal's, and then the flags say which field counts
+abbrev pub readNext : NextFlat → Reply
+readNext f = cond (eqb (f .number) 0) (cond (eqb (f .over) 0) (candidate (f .candidate)) over) (refused (f .number))
+
+abbrev pub readAnswer : AnswerFlat → Reply
+readAnswer f = cond (eqb (f .number) 0) (cond (eqb (f .skipped) 0) (scored (f .score)) (skipped (f .skipped))) (refused (f .number))
+
+abbrev pub readResult : ResultFlat → Reply
+readResult f = cond (eqb (f .number) 0) (result (f .candidate)) (refused (f .number))
+
+-- ---- what is read of a call, and the record and the whole seed list after it
+pub record FlatStep : Type 0 where
+  pub reply : Reply
+  pub run : RunRecord
+  pub list : List Float
+
+unfoldable pub flatCall : RunRecord → List Float → Exported → FlatStep
+flatCall r l (jc-next n) = let f = flatNext (nextDef (runFrom r) (take n l)) in record { reply = readNext f; run = f .run; list = l }
+flatCall r l (jc-seed n to room) =
+    let seed = seedPart (runFrom r) (take n l) in
+    record { reply = part (take (copyCount seed to) (copied seed to)); run = r; list = l }
+flatCall r l (jc-answer n solved camera rows flags) =
+    let a = answerDef (runFrom r) (findingOf solved camera) rows flags (take n l) in
+    let f = flatAnswer (a .reply) in
+    record { reply = readAnswer f; run = f .run; list = a .list ++ drop n l }
+flatCall r l jc-result = record { reply = readResult (flatResult (resultDef (runFrom r))); run = r; list = l }
+
+unfoldable pub flatWalk : RunRecord → List Float → List Exported → List Reply
+flatWalk r l [] = []
+flatWalk r l (c ∷ cs) = let a = flatCall r l c in a .reply ∷ flatWalk (a .run) (a .list) cs
