@@ -82,15 +82,8 @@ pub extern "C" fn jc_apply_homography_inverse(h_inv: Matrix3, p: Pt2) -> Pt2
     sensor::apply_homography_inverse(rows_of(h_inv), p)
 }
 
-#[no_mangle]
-pub extern "C" fn jc_distort(b: BrownConrady5, p: Pt2) -> Pt2
-    ensures { λ r. ⌜ r ≡ distorted b p ⌝ }
-{
-    distortion::distort(b, p)
-}
-
-// The same with the numbers one by one. These travel in registers; the struct is stored by the caller and read here at once in
-// other pieces, for which the processor waits.
+// The numbers one by one, since these travel in registers: a struct would be stored by the caller and read here at once in other pieces,
+// for which the processor waits. The header's jc_distort takes the struct apart.
 #[no_mangle]
 pub extern "C" fn jc_distort_numbers(
     k1: f64,

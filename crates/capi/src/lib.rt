@@ -7,3 +7,4 @@ pub mod lists;
 pub mod plate;
 pub mod run;
 pub mod scoring;
+pub mod version;
