@@ -1,12 +1,27 @@
-/* The proved sensor-tilt search and its geometry: the functions of libcapi.a, which is for x86-64 Linux.
+/* The proved sensor-tilt search and its geometry: the functions of libcapi.a, which is for x86-64 Linux. C11 or later, or C++11 or later.
  *
- * A slice is a pointer and a length in numbers. The pointer is not NULL, also where the length is 0; it is aligned for its type and
- * valid for the length, for reading, and where it is not const also for writing. What a call may write to overlaps nothing else that
- * it is given. Nothing else is asked of a caller: every number is taken, and every function returns.
+ *     cc -std=c11 search.c $(pkg-config --cflags --libs jinnychair)           (a release: PKG_CONFIG_PATH=.../lib/pkgconfig)
+ *     cc -std=c11 search.c -Iinclude target/staticlib/libcapi.a               (this repository)
  *
- * A number of 0 means that nothing is refused; the others are explained in docs/NUMBERS.md. After a refusal nothing that was lent
- * is changed, and fields of a reply that have no value are 0. A flag is read as 0 or not 0, and written as 0 or 1. Lists of points have x then y; seed lists
- * have fx, fy, cx, cy, tilt x, tilt y. Where a list is written, it goes to the front of its destination, and the rest stays as it was.
+ * examples/search.c is a whole search. Call jc_is_compatible() first: an archive of another version has other structs.
+ *
+ * Slices. A slice is a pointer and a length in numbers. The pointer is not NULL, also where the length is 0 (give any array); it is aligned
+ * for its type and valid for the length, for reading, and where it is not const also for writing. What a call may write to overlaps nothing
+ * else that it is given. Nothing else is asked of a caller: every number is taken, and every function returns.
+ *
+ * Replies. A number of 0 means that nothing is refused; the others are JC_TOO_FEW_VIEWS and so on below, and docs/NUMBERS.md says what to do.
+ * After a refusal nothing that was lent is changed, and fields of a reply that have no value are 0. Where several refusals apply, the first
+ * of those that the function's comment names is given.
+ *
+ * Flags of records and replies are read as 0 or not 0, and written as 0 or 1. The flags of rows are 0 or 1, and any other is refused.
+ *
+ * Lists of points have x then y; seed lists have fx, fy, cx, cy, tilt x, tilt y. Where a list is written, it goes to the front of its
+ * destination, and the rest stays as it was. Angles are in radians, pixels and focal lengths in pixels.
+ *
+ * Threads. Every call is a function of its arguments alone; nothing is kept between calls, and threads need no lock.
+ *
+ * Floats. The processor rounds to nearest and keeps subnormal numbers, as every thread starts. Under another rounding mode (fesetround) or
+ * with subnormals flushed to zero (-ffast-math at link time sets this) results have other bits.
  */
 #ifndef JINNYCHAIR_H
 #define JINNYCHAIR_H
@@ -18,14 +33,85 @@
 #ifndef __x86_64__
 #error "libcapi.a is for x86-64"
 #endif
+#if !defined(__cplusplus) && (!defined(__STDC_VERSION__) || __STDC_VERSION__ < 201112L)
+#error "C11 or later is needed"
+#endif
 
 #ifdef __cplusplus
 extern "C" {
 #endif
 
+/* ---- version ---- */
+
+/* The version that this header is for: 65,536 times the major, 256 times the minor, and the patch number, here 0.2.0. */
+#define JC_VERSION 0x0200u
+
+/* That of the linked archive. */
+uint32_t jc_version(void);
+
+/* 1 where they are the same; 0 where the archive is to be replaced before anything else is called. */
+static inline int jc_is_compatible(void) { return jc_version() == JC_VERSION; }
+
+/* ---- numbers ---- */
+
+/* Why a call refuses. */
+enum {
+    JC_TOO_FEW_VIEWS = 1,          /* fewer than 3 views */
+    JC_NO_TILTS = 2,               /* a tilt list is empty */
+    JC_BAD_BOUND = 3,              /* max_abs_tilt isn't finite or isn't above 0 */
+    JC_BAD_STEP = 4,               /* rounds are asked for and refine_step isn't finite or isn't above 0 */
+    JC_TOO_MANY = 5,               /* more tilts, decomposition seeds or rounds than the limits below; or the seeds aren't in sixes */
+    JC_BAD_SEED = 6,               /* a decomposition seed that isn't finite, has a focal length not above 0, or lies beyond the bound */
+    JC_TILT_NOT_FINITE = 7,        /* a tilt of a list isn't finite */
+    JC_LIST_TOO_SHORT = 8,         /* the seed list is shorter than JC_LIST_LEN */
+    JC_SEED_WAITING = 9,           /* a seed is waiting for its answer */
+    JC_LIST_SHORTENED = 10,        /* less of the seed list is lent than jc_start needed */
+    JC_NOTHING_SCORED = 11,        /* the run ended and no candidate was scored */
+    JC_NO_SEED_WAITING = 12,       /* no seed is waiting */
+    JC_BAD_ROWS = 13,              /* more than JC_MOST_ROWS rows, not four numbers for each flag, or a flag above 1 */
+    JC_NOT_OVER = 14,              /* the run isn't over */
+    JC_SINGULAR_TILT = 15,         /* the tilt's determinant is 0 */
+    JC_DEGENERATE_VIEWS = 16,      /* no camera has this conic */
+    JC_BAD_POINTS = 17,            /* an odd number of coordinates, or more than JC_MOST_POINTS points */
+    JC_DESTINATION_TOO_SHORT = 18, /* the destination is too short */
+    JC_COINCIDENT = 19,            /* no points, or all in one place */
+    JC_SOURCE_NOT_FINITE = 20,     /* a source coordinate isn't finite */
+    JC_DESTINATION_NOT_FINITE = 21, /* a destination coordinate isn't finite */
+    JC_TOO_FEW_POINTS = 22,        /* fewer than 4 source points */
+    JC_COUNTS_DIFFER = 23,         /* not as many destination points as source points */
+    JC_SOURCE_COLLINEAR = 24,      /* the source points lie on a line */
+    JC_DESTINATION_COLLINEAR = 25, /* the destination points lie on a line */
+    JC_NORMALIZING_FAILS = 26      /* the points can't be normalised */
+};
+
+/* Why a candidate isn't scored. */
+enum {
+    JC_SKIP_HOST_FAILED = 1, /* the host failed */
+    JC_SKIP_BAD_CAMERA = 2,  /* a number of the camera isn't finite, or a focal length isn't above 0 */
+    JC_SKIP_NO_MEAN = 3      /* the mean error isn't finite */
+};
+
+/* Limits. */
+enum {
+    JC_MOST_POINTS = 400,   /* of a list of points, but for the line test and the centre */
+    JC_MOST_ROWS = 1024,    /* of an answer */
+    JC_MOST_TILTS = 16,     /* of a tilt list */
+    JC_MOST_SEEDS = 256,    /* of the decomposition */
+    JC_MOST_ROUNDS = 16,    /* after round 0 */
+    JC_MOST_ANSWERS = 656,  /* of a run */
+    JC_SEED_NUMBERS = 6,    /* of a seed */
+    JC_ROW_NUMBERS = 4,     /* of an answer's row */
+    JC_DESIGN_NUMBERS = 18, /* of a point's two design rows */
+    JC_MOST_LIST = 3072     /* numbers that a seed list can need */
+};
+
+/* How many numbers the seed list of a search needs. */
+#define JC_LIST_LEN(seeds, x_tilts, y_tilts) \
+    (6 * ((seeds) + (x_tilts) * (y_tilts)) < 54 ? 54 : 6 * ((seeds) + (x_tilts) * (y_tilts)))
+
 /* ---- values ---- */
 
-/* A point. */
+/* A point: pixels, or coordinates on the sensor in focal lengths. */
 typedef struct {
     double x, y;
 } jc_pt2;
@@ -35,12 +121,12 @@ typedef struct {
     double fx, fy, cx, cy;
 } jc_intrinsics;
 
-/* Radial and tangential distortion. */
+/* Radial (k) and tangential (p) distortion, after Brown and Conrady. */
 typedef struct {
     double k1, k2, k3, p1, p2;
 } jc_distortion;
 
-/* Derivatives of a distorted point. */
+/* Derivatives of a distorted point: of x by x, of x by y, of y by x, of y by y. */
 typedef struct {
     double xx, xy, yx, yy;
 } jc_jacobian;
@@ -55,7 +141,7 @@ typedef struct {
     double tilt_x, tilt_y;
 } jc_scheimpflug_params;
 
-/* Sine and cosine of each tilt. */
+/* Sine and cosine of each tilt. The caller works them out, so that a score doesn't depend on the machine's own sine. */
 typedef struct {
     double sin_x, cos_x, sin_y, cos_y;
 } jc_trig;
@@ -65,13 +151,13 @@ typedef struct {
     jc_distortion dist;
 } jc_pinhole_camera;
 
-/* What the host solved for a seed. */
+/* What the host solved for a seed: the camera, and the sine and cosine of the seed's tilts. */
 typedef struct {
     jc_pinhole_camera camera;
     jc_trig trig;
 } jc_solved_camera;
 
-/* A conic, in the order of Zhang's equations. */
+/* A conic, the symmetric matrix K^-T K^-1 times any factor, in the order of Zhang's equations. */
 typedef struct {
     double b11, b12, b22, b13, b23, b33;
 } jc_conic;
@@ -82,7 +168,7 @@ typedef struct {
     jc_scheimpflug_params sensor;
 } jc_candidate_seed;
 
-/* A scored candidate. */
+/* A scored candidate: its number, its camera with damped distortion, its tilts, mean error in pixels and score. */
 typedef struct {
     size_t number;
     jc_pinhole_camera camera;
@@ -90,7 +176,8 @@ typedef struct {
     double mean_reproj_error, score;
 } jc_candidate;
 
-/* What a search is asked for, beside the tilts of its grid. */
+/* What a search is asked for, beside the tilts of its grid: how many rounds follow round 0, each around the best candidate of the round
+ * before; the first of these rounds' step, in radians, which halves from round to round; and the bound on either tilt, in radians. */
 typedef struct {
     size_t refine_rounds;
     double refine_step, max_abs_tilt;
@@ -101,13 +188,13 @@ typedef struct {
     double m00, m01, m02, m10, m11, m12, m20, m21, m22;
 } jc_matrix;
 
-/* 0 and the inverse, or 15. */
+/* 0 and the inverse, or JC_SINGULAR_TILT. */
 typedef struct {
     uint8_t number;
     jc_matrix inverse;
 } jc_inverse_reply;
 
-/* 0 and the camera, or 16. */
+/* 0 and the camera, or JC_DEGENERATE_VIEWS. */
 typedef struct {
     uint8_t number;
     jc_intrinsics camera;
@@ -119,24 +206,25 @@ typedef struct {
     jc_conic conic;
 } jc_plate_reply;
 
-/* 0 and entries (0,0), (0,2), (1,2) of the transform, or 17, 18 or 19. */
+/* 0 and entries (0,0), (0,2), (1,2) of the transform s, 0, a; 0, s, b; 0, 0, 1; or a refusal. */
 typedef struct {
     uint8_t number;
     double t00, t02, t12;
 } jc_normalize_reply;
 
-/* 0, and 1 where the points are collinear; or 17. */
+/* 0, and 1 where the points are collinear; or JC_BAD_POINTS. */
 typedef struct {
     uint8_t number, collinear;
 } jc_line_reply;
 
-/* 0 and the centre, or 17. */
+/* 0 and the centre, or JC_BAD_POINTS. */
 typedef struct {
     uint8_t number;
     jc_pt2 center;
 } jc_center_reply;
 
-/* How far a run has come. */
+/* How far a run has come: the numbers that the list must have, the round, the step of its list, its seeds, how many of them are answered,
+ * the next candidate's number, and whether the run is over. */
 typedef struct {
     size_t demand, round;
     double step;
@@ -156,7 +244,7 @@ typedef struct {
     jc_candidate candidate;
 } jc_best_record;
 
-/* A run. The caller keeps it and hands it on unchanged from call to call. */
+/* A run. The caller keeps it and hands it on unchanged from call to call; it may be copied and stored. Nothing in it is a pointer. */
 typedef struct {
     jc_options options;
     jc_pt2 center;
@@ -165,27 +253,27 @@ typedef struct {
     jc_best_record round_best, run_best;
 } jc_run_record;
 
-/* 0 and the run, or 1 to 8. */
+/* 0 and the run, or a refusal. */
 typedef struct {
     uint8_t number;
     jc_run_record run;
 } jc_start_flat;
 
-/* 0 and a candidate's number; 0 and over, 1; or 9, 10 or 11. */
+/* 0 and a candidate's number; 0 and over, 1; or a refusal. */
 typedef struct {
     uint8_t number, over;
     size_t candidate;
     jc_run_record run;
 } jc_next_flat;
 
-/* 0 and a score, where skipped is 0; 0 and the reason of a skip, 1, 2 or 3; or 12, 10, 13 or 15. */
+/* 0 and a score, where skipped is 0; 0 and JC_SKIP_...; or a refusal. */
 typedef struct {
     uint8_t number, skipped;
     double score;
     jc_run_record run;
 } jc_answer_flat;
 
-/* 0 and the winner, or 14 or 11. */
+/* 0 and the winner, or a refusal. */
 typedef struct {
     uint8_t number;
     jc_candidate candidate;
@@ -193,21 +281,30 @@ typedef struct {
 
 /* ---- root, camera, tilt, distortion ---- */
 
+/* The correctly rounded square root. */
 double jc_sqrt(double x);
+/* (u - cx) / fx, (v - cy) / fy. */
 jc_pt2 jc_pixel_to_sensor(jc_intrinsics k, jc_pt2 pixel);
+/* fx x + cx, fy y + cy. */
 jc_pt2 jc_sensor_to_pixel(jc_intrinsics k, jc_pt2 sensor);
+/* The homography from the sensor without tilt to the tilted one. With R the rotation about x, then y, it is P R, where P is
+ * r22, 0, -r02; 0, r22, -r12; 0, 0, 1. */
 jc_matrix jc_tilt_projection_matrix(jc_trig trig);
 double jc_determinant(jc_matrix m);
+/* The transposed cofactors, each divided by the determinant. */
 jc_inverse_reply jc_inverse(jc_matrix m);
+/* A point under a homography: h (x, y, 1), its first two numbers divided by the third. A third number that isn't above 1e-12 counts as 1e-12. */
 jc_pt2 jc_apply_homography(jc_matrix h, jc_pt2 p);
+/* The same for the inverse of a homography, where a third number below -1e-12 is divided by too. */
 jc_pt2 jc_apply_homography_inverse(jc_matrix h_inv, jc_pt2 p);
-jc_pt2 jc_distort(jc_distortion b, jc_pt2 p);
-/* The same with the numbers one by one, which is faster. */
-jc_pt2 jc_distort_numbers(
-    double k1, double k2, double k3, double p1, double p2, double x, double y);
+/* The distorted point. The numbers travel one by one: in registers, which is faster than a struct. */
+jc_pt2 jc_distort_numbers(double k1, double k2, double k3, double p1, double p2, double x, double y);
+static inline jc_pt2 jc_distort(jc_distortion b, jc_pt2 p) { return jc_distort_numbers(b.k1, b.k2, b.k3, b.p1, b.p2, p.x, p.y); }
 jc_distorted_point jc_distort_with_jacobian(jc_distortion b, jc_pt2 p);
-/* At most iters steps of Newton's method; 0 means 20. */
+/* The point that is distorted to this one, by Newton's method with at most iters steps; 0 means 20, which is enough for any real lens. A lens
+ * that isn't one may need all steps: with iters near 2^32 a call can take seconds (42 million steps were seen). */
 jc_pt2 jc_undistort(jc_distortion b, uint32_t iters, jc_pt2 p);
+/* Zhang's closed form: focal lengths and centre of the camera whose conic this is. 16 where none has it; a camera that is not finite passes. */
 jc_camera_reply jc_conic_to_camera(jc_conic b);
 /* Six numbers from which jc_conic_to_camera gives k back exactly; a zero may have the other sign. 34 where the four are not whole
  * numbers (focal lengths 1 to 256, centre -256 to 256) times one power of two from 1 to 256. */
@@ -215,44 +312,61 @@ jc_plate_reply jc_known_plate(jc_intrinsics k);
 
 /* ---- lists of points ---- */
 
-/* 0, or 17, 18 or 15. As many numbers are written as points has. */
+/* The pixels that a sensor without tilt would show. 0, or 17, 18, 15. As many numbers are written as points has. */
 uint8_t jc_untilt_points(jc_intrinsics k, jc_trig trig, const double *points, size_t points_len, double *to, size_t to_len);
+/* The pixels that a camera with neither tilt nor distortion would show. 0, or 17, 18, 15. iters is that of jc_undistort. */
 uint8_t jc_ideal_points(jc_pinhole_camera camera, uint32_t iters, jc_trig trig, const double *points, size_t points_len,
                         double *to, size_t to_len);
-/* As many numbers are written as points has. */
+/* The points moved and scaled so that their centroid is the origin and their mean distance from it is the root of 2. 17, 18, 19. */
 jc_normalize_reply jc_normalize_points_2d(const double *points, size_t points_len, double *to, size_t to_len);
+/* Whether all points lie on a line: the one through the first point and the next that is farther than 1e-9 from it. A point is beside it where
+ * its cross product with these two is above 1e-6 in size. Points all in one place lie on a line, fewer than three don't. 17 for an odd length. */
 jc_line_reply jc_points_are_collinear(const double *points, size_t points_len);
-/* 0, or 17, 18 or 20 to 26. 18 numbers are written for each source point. */
+/* The design matrix of the homography h from source to destination, both normalised: for each pair of points (x, y) and (u, v) two rows of
+ * nine numbers, -x, -y, -1, 0, 0, 0, u x, u y, u and 0, 0, 0, -x, -y, -1, v x, v y, v, whose products with h, row by row, should be 0.
+ * 0, or 17, 18, 20 to 26. */
 uint8_t jc_design_rows(const double *source, size_t source_len, const double *destination, size_t destination_len,
                        double *to, size_t to_len);
+/* The centre of the finite pixels: half the greatest coordinates, or, where one is negative, the middle of their range; 0, 0 where there are
+ * none. 17 for an odd length. */
 jc_center_reply jc_observed_pixel_center(const double *pixels, size_t pixels_len);
 
-/* ---- what a score is made of ---- */
+/* ---- what a score is made of: mean error + distortion + tilt + centre ---- */
 
+/* The distortion as it is scored: k1, k2, k3 become 0, p1 and p2 are brought within 0.05 in size. */
 jc_distortion jc_damp_seed_distortion(jc_distortion distortion);
+/* 0.25 (k1^2 + k2^2 + 0.25 k3^2 + p1^2 + p2^2). */
 double jc_distortion_complexity(jc_distortion distortion);
+/* 0.25 (tilt_x^2 + tilt_y^2). */
 double jc_tilt_complexity(jc_scheimpflug_params sensor);
+/* 0 times the squared distance between the camera's centre and the observed one, in focal lengths: 0, or NaN where that isn't finite. */
 double jc_principal_point_complexity(jc_intrinsics k, jc_pt2 center);
-/* The camera is used as given. Rows have x, y (ideal point), u, v (seen pixel); only rows with the flag 1 count. */
+/* The mean distance between projected and seen pixels. The camera is used as given, not damped. Rows have x, y (ideal point), u, v (seen pixel);
+ * only rows with the flag 1 and a finite error count, and where none does the mean is infinity. It ends at the shorter of the two lists, and
+ * refuses nothing: a tilt that jc_answer would refuse with 15 has some mean here. */
 double jc_mean_reproj_error(jc_pinhole_camera camera, jc_trig trig, const double *rows, size_t rows_len, const uint8_t *flags,
                             size_t flags_len);
 
 /* ---- the search ---- */
 
-/* 1 to 8, in this order, or a run. The list needs max(54, 6 * (decomposition seeds + x tilts * y tilts)) numbers, and the calls
- * below need as many (10). */
+/* Starts a run and writes round 0's seeds to the front of the list: the decomposition's, then the grid of the tilts (radians) with the base
+ * camera. 0, or 1 to 8. The list needs JC_LIST_LEN numbers, and the calls below are lent as many (10). A decomposition without seeds is any
+ * array with the length 0. */
 jc_start_flat jc_start(size_t views, jc_options options, const double *tilt_x_seeds, size_t tilt_x_seeds_len,
                        const double *tilt_y_seeds, size_t tilt_y_seeds_len, const double *decomposition, size_t decomposition_len,
                        jc_intrinsics base, jc_pt2 center, double *list, size_t list_len);
+/* Hands out the list's next seed, as a candidate; or says that the run is over and has a result. 9, 10, 11. */
 jc_next_flat jc_next(jc_run_record run, const double *list, size_t list_len);
 /* Copies the waiting seed's six numbers to the front of `to`, and returns 6; 0 where no seed waits, or the list or `to` is too short. */
 size_t jc_seed(jc_run_record run, const double *list, size_t list_len, double *to, size_t to_len);
-/* is_solved 0: the host failed, and neither solved nor rows nor flags are read. A flag is 1 for a point in front of the camera, else 0. */
+/* Takes what the host found for the waiting seed; a round's last answer writes the next list. 12, 10, 13, 15. is_solved 0: the host failed, and
+ * neither solved nor rows nor flags are read. A row's flag is 1 for a point in front of the camera, else 0. */
 jc_answer_flat jc_answer(jc_run_record run, uint8_t is_solved, jc_solved_camera solved, const double *rows, size_t rows_len,
                          const uint8_t *flags, size_t flags_len, double *list, size_t list_len);
+/* The best candidate of a run that is over. 14, 11. */
 jc_result_flat jc_result(jc_run_record run);
 
-/* ---- each struct as it came, to test that both sides lay it out alike ---- */
+/* ---- for tests only: each struct as it came, to see that both sides lay it out alike ---- */
 
 jc_pt2 jc_echo_pt2(jc_pt2 x);
 jc_intrinsics jc_echo_intrinsics(jc_intrinsics x);

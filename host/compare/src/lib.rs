@@ -1,7 +1,4 @@
-//! The proved library beside two judges: the oracle, which is the published Rust text, for each operation and for searches in
-//! order; and the plain book, for whole lists of calls in any order, with changed lists and records that no search can have made.
+//! The proved library beside the oracle, which is the published Rust text, for each operation and for searches in order. The crate
+//! `beside` has the lists of calls that it and the plain book are given.
 
-pub mod calls;
-pub mod findings;
 pub mod library;
-pub mod record_words;

@@ -48,33 +48,32 @@ pub fn answer_words(operation: &str, input: &[u64]) -> Result<Words, String> {
             point_words(b.undistort(iters, point(&mut r)?))
         }
         "untilt_points" => {
-            let (k, t, points) = (intrinsics(&mut r)?, trig(&mut r)?, r.list()?);
-            lent(points.len(), |to| {
+            let (k, t, points) = (intrinsics(&mut r)?, trig(&mut r)?, points(&mut r)?);
+            lent(points.len(), |to: &mut [Pt2]| {
                 geometry::untilt_points(k, t, &points, to).map_err(|e| e.number()).map(|()| vec![])
             })?
         }
         "ideal_points" => {
             let camera = PinholeCamera { k: intrinsics(&mut r)?, dist: distortion(&mut r)? };
-            let (iters, t, points) = (iterations(&mut r)?, trig(&mut r)?, r.list()?);
-            lent(points.len(), |to| {
+            let (iters, t, points) = (iterations(&mut r)?, trig(&mut r)?, points(&mut r)?);
+            lent(points.len(), |to: &mut [Pt2]| {
                 let mapped = geometry::ideal_points(camera, iters, t, &points, to);
                 mapped.map_err(|e| e.number()).map(|()| vec![])
             })?
         }
         "normalize_points_2d" => {
-            let points = r.list()?;
-            lent(points.len(), |to| {
+            let points = points(&mut r)?;
+            lent(points.len(), |to: &mut [Pt2]| {
                 let t = geometry::normalize_points_2d(&points, to).map_err(|e| e.number())?;
                 Ok(float_words(&[t.scale, t.offset_x, t.offset_y]))
             })?
         }
         "points_are_collinear" => {
-            let reply = geometry::points_are_collinear(&r.list()?).map_err(|e| e.to_string())?;
-            vec![u64::from(reply)]
+            vec![u64::from(geometry::points_are_collinear(&points(&mut r)?))]
         }
         "design_rows" => {
-            let (source, destination) = (r.list()?, r.list()?);
-            lent(9 * source.len(), |to| {
+            let (source, destination) = (points(&mut r)?, points(&mut r)?);
+            lent(18 * source.len(), |to: &mut [f64]| {
                 let rows = geometry::design_rows(&source, &destination, to);
                 rows.map_err(|e| e.number()).map(|()| vec![])
             })?
@@ -87,8 +86,7 @@ pub fn answer_words(operation: &str, input: &[u64]) -> Result<Words, String> {
             }
         }
         "observed_pixel_center" => {
-            let center = geometry::observed_pixel_center(&r.list()?);
-            point_words(center.map_err(|e| e.to_string())?)
+            point_words(geometry::observed_pixel_center(&points(&mut r)?))
         }
         "damp_seed_distortion" => distortion_words(distortion(&mut r)?.damped()),
         "distortion_complexity" => vec![word(distortion(&mut r)?.complexity())],
@@ -112,32 +110,78 @@ pub fn answer_words(operation: &str, input: &[u64]) -> Result<Words, String> {
     Ok(words)
 }
 
-/// An operation that writes `len` numbers to a destination: with room to spare, with no room to spare, and with one too few.
+/// Numbers, or points of two numbers, as a destination holds them.
+trait Element: Copy {
+    const UNTOUCHED: Self;
+    fn words(elements: &[Self]) -> Words;
+    fn bits(self) -> [u64; 2];
+}
+
+impl Element for f64 {
+    const UNTOUCHED: Self = UNTOUCHED;
+
+    fn words(elements: &[Self]) -> Words {
+        float_words(elements)
+    }
+
+    fn bits(self) -> [u64; 2] {
+        [self.to_bits(); 2]
+    }
+}
+
+impl Element for Pt2 {
+    const UNTOUCHED: Self = Pt2 { x: UNTOUCHED, y: UNTOUCHED };
+
+    fn words(elements: &[Self]) -> Words {
+        elements.iter().flat_map(|p| point_words(*p)).collect()
+    }
+
+    fn bits(self) -> [u64; 2] {
+        [self.x.to_bits(), self.y.to_bits()]
+    }
+}
+
+fn is_untouched<T: Element>(elements: &[T]) -> bool {
+    elements.iter().all(|x| x.bits() == T::UNTOUCHED.bits())
+}
+
+/// An operation that writes `len` numbers or points to a destination: with room to spare, with no room to spare, and with one too few.
 /// 0, the written numbers and the operation's own words; or the refusal's number.
-fn lent(len: usize, operation: impl Fn(&mut [f64]) -> Result<Words, u8>) -> Result<Words, String> {
-    let mut roomy = vec![UNTOUCHED; len + 5];
+fn lent<T: Element>(
+    len: usize,
+    operation: impl Fn(&mut [T]) -> Result<Words, u8>,
+) -> Result<Words, String> {
+    let mut roomy = vec![T::UNTOUCHED; len + 5];
     let reply = operation(&mut roomy);
     let written = if reply.is_ok() { len } else { 0 };
-    if roomy[written..].iter().any(|x| x.to_bits() != UNTOUCHED.to_bits()) {
+    if !is_untouched(&roomy[written..]) {
         return Err("a number beyond what is written changed".into());
     }
-    let mut exact = vec![UNTOUCHED; len];
+    let mut exact = vec![T::UNTOUCHED; len];
     let again = operation(&mut exact);
-    let same = float_words(&exact) == float_words(&roomy[..len]);
+    let same = T::words(&exact) == T::words(&roomy[..len]);
     if again != reply || !same {
         return Err(format!("exact room gives {again:?}, more room {reply:?}"));
     }
     if len > 0 && reply != Err(17) {
-        let mut short = vec![UNTOUCHED; len - 1];
+        let mut short = vec![T::UNTOUCHED; len - 1];
         let refused = operation(&mut short);
-        if refused != Err(18) || short.iter().any(|x| x.to_bits() != UNTOUCHED.to_bits()) {
+        if refused != Err(18) || !is_untouched(&short) {
             return Err(format!("too little room gives {refused:?}"));
         }
     }
     Ok(match reply {
         Err(number) => vec![number.into()],
-        Ok(more) => [vec![0], float_words(&exact), more].concat(),
+        Ok(more) => [vec![0], T::words(&exact), more].concat(),
     })
+}
+
+fn points(r: &mut Reader) -> Result<Vec<Pt2>, String> {
+    let numbers = r.list()?;
+    if !numbers.len().is_multiple_of(2) {
+        return Err("an odd number of coordinates".into());
+    }
+    Ok(numbers.chunks_exact(2).map(|p| Pt2 { x: p[0], y: p[1] }).collect())
 }
 
 fn inverse(m: Matrix3) -> Words {
@@ -288,11 +332,15 @@ fn search(r: &mut Reader) -> Result<Words, String> {
     };
     let mut words = vec![0, answers as u64];
     for number in 0..answers {
-        let handed = next(&mut run, &list);
-        if handed != Ok(Handed::Candidate(number)) {
-            return Err(format!("candidate {number}: Next gives {handed:?}"));
+        let waits = match next(&mut run, &list) {
+            Ok(Handed::Candidate { number: given, seed }) if given == number => seed.numbers(),
+            other => return Err(format!("candidate {number}: Next gives {other:?}")),
+        };
+        let part = seed(&run, &list).ok_or("no seed waits")?;
+        if float_words(&waits) != float_words(&part) {
+            return Err(format!("candidate {number}: {waits:?} is handed out, and {part:?} waits"));
         }
-        words.extend(float_words(&seed(&run, &list).ok_or("no seed waits")?));
+        words.extend(float_words(&part));
         let solved = if r.flag()? { Some(HostAnswer::read_solved(r)?) } else { None };
         let finding = solved.as_ref().map_or(Finding::Failed, HostAnswer::finding);
         match answer(&mut run, &finding, &mut list).map_err(|e| e.to_string())? {

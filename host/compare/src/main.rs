@@ -2,7 +2,7 @@
 //!
 //!     compare [LEAF CASES] [SEARCHES] [SEED]
 
-use compare::calls::{Tally, play};
+use beside::calls::{Tally, play};
 use compare::library::answer_words;
 use oracle::generate::{Endless, endless};
 use oracle::operations::search::Inputs;
@@ -86,6 +86,17 @@ fn compare_with_book(count: usize, seed: &str, differences: &mut Differences) {
     let mut tally = Tally::default();
     for (i, (input, _)) in lists.take(count).enumerate() {
         let inputs = Inputs::read(&mut Reader::new(&input)).expect("the oracle answered them");
+        let inputs = book::Inputs {
+            views: inputs.views,
+            tilt_x_seeds: inputs.tilt_x_seeds,
+            tilt_y_seeds: inputs.tilt_y_seeds,
+            rounds: inputs.rounds,
+            refine_step: inputs.refine_step,
+            max_abs_tilt: inputs.max_abs_tilt,
+            decomposition: inputs.decomposition,
+            base: inputs.base,
+            centre: inputs.center,
+        };
         if let Err(fault) = play(inputs, &mut random.fork(), &mut tally) {
             differences.add(&format!("list of calls {i}, {}: {fault}", line(&input)));
         }
@@ -93,7 +104,7 @@ fn compare_with_book(count: usize, seed: &str, differences: &mut Differences) {
     println!("lists of calls              {count} cases");
     println!("  {} accepted Starts, {} calls in all", tally.runs, tally.calls);
     let [scored, skipped @ ..] = tally.entered;
-    println!("  {scored} answers scored, skipped by reasons 1 to 3: {skipped:?}");
+    println!("  {scored} answers scored, skipped, by reason: {skipped:?}");
     let refused = tally.refused.iter().enumerate().filter(|(_, times)| **times > 0);
     let refused: Vec<String> = refused.map(|(n, times)| format!("{n}: {times}")).collect();
     println!("  refused, by number: {}", refused.join(", "));

@@ -1,42 +1,115 @@
-//! Why an operation refuses. Each enum names one operation's refusals; `number` gives 01's number,
-//! and `Display` says the cause.
+//! Why an operation refuses. Each enum names one operation's refusals; `number` gives 01's number, and `Display` says the cause
+//! and what to do.
 
 use std::error::Error;
 use std::fmt::{Display, Formatter, Result as FmtResult};
 
-/// Declares an enum of refusals with their numbers and causes.
-macro_rules! refusals {
-    ($(#[$doc:meta])* $name:ident { $($variant:ident = $number:literal, $cause:literal;)+ }) => {
+/// What is wrong and what to do, number by number, as docs/NUMBERS.md has it.
+macro_rules! refusal {
+    (1 $part:ident) => { part!($part "fewer than 3 views", "Take more views of the plate, each held at another angle.") };
+    (2 $part:ident) => { part!($part "a tilt list is empty", "Give at least one tilt for x and one for y; `0` alone will do.") };
+    (3 $part:ident) => { part!($part "`max_abs_tilt` isn't finite or isn't above 0", "Give the largest tilt that the mount allows, in radians.") };
+    (4 $part:ident) => { part!($part "rounds are asked for and `refine_step` isn't finite or isn't above 0", "Give a step in radians, or ask for 0 rounds.") };
+    (5 $part:ident) => { part!($part "more than 16 tilts in a list, 256 decomposition seeds or 16 rounds; or the seeds aren't in sixes", "Shorten the lists. A seed is fx, fy, cx, cy, tilt x, tilt y.") };
+    (6 $part:ident) => { part!($part "a decomposition seed has a number that isn't finite, a focal length not above 0, or a tilt beyond the bound", "Leave such seeds out before Start, or raise the bound.") };
+    (7 $part:ident) => { part!($part "a tilt of a list isn't finite", "Look for a division by 0 or a missing value where the lists are made.") };
+    (8 $part:ident) => { part!($part "the seed list is too short", "Lend `max(54, 6 × (decomposition seeds + x tilts × y tilts))` numbers.") };
+    (9 $part:ident) => { part!($part "a seed is waiting for its answer", "Answer it first; send Failed if there is no camera.") };
+    (10 $part:ident) => { part!($part "the lent list is shorter than 8 demands", "Lend the list that Start wrote, whole.") };
+    (11 $part:ident) => { part!($part "the run ended and no candidate was scored", "Look at the outcomes' skip reasons. Also: all tilts of the grid lie beyond the bound, and there are no decomposition seeds.") };
+    (12 $part:ident) => { part!($part "no seed is waiting", "Call Next first. Also where the record isn't one that Start or a call returned.") };
+    (13 $part:ident) => { part!($part "more than 1,024 rows, not four numbers for each flag, or a flag above 1", "Send fewer dots; check that rows and flags have the same count.") };
+    (14 $part:ident) => { part!($part "the run isn't over", "Go on with Next and Answer until Next says Over.") };
+    (15 $part:ident) => { part!($part "the tilt's determinant is 0", "The sines and cosines aren't those of a tilt below 90°; compute them from the seed's tilts.") };
+    (16 $part:ident) => { part!($part "no camera has this conic", "The views are too alike: turn the plate further between them.") };
+    (17 $part:ident) => { part!($part "more than 400 points", "Split or thin out longer ones.") };
+    (18 $part:ident) => { part!($part "the destination is too short", "Lend as many numbers as the points have; for rows 18 for each source point.") };
+    (19 $part:ident) => { part!($part "no points, or all in one place (mean distance at most 2^-52)", "Check that the dots were found.") };
+    (20 $part:ident) => { part!($part "a source coordinate isn't finite", "Check the plate's description.") };
+    (21 $part:ident) => { part!($part "a destination coordinate isn't finite", "Drop dots that weren't found.") };
+    (22 $part:ident) => { part!($part "fewer than 4 source points", "Use views with at least 4 dots.") };
+    (23 $part:ident) => { part!($part "not as many destination points as source points", "Pair each dot with its pixel.") };
+    (24 $part:ident) => { part!($part "the source points lie on a line", "Use dots from more than one row of the plate.") };
+    (25 $part:ident) => { part!($part "the destination points lie on a line", "The plate was seen edge on: drop the view.") };
+    (26 $part:ident) => { part!($part "the points can't be normalised", "As 19; not seen in practice.") };
+    (34 $part:ident) => { part!($part "no power of two from 1 to 256 divides all four into whole numbers, 1 to 256 for focal lengths and −256 to 256 for the centre", "Choose such a camera, as 800 808 640 -480: 200, 202, 160 and -120 times 4.") };
+}
+
+/// Either of two texts.
+macro_rules! part {
+    (fault $fault:literal, $remedy:literal) => {
+        $fault
+    };
+    (remedy $fault:literal, $remedy:literal) => {
+        $remedy
+    };
+}
+pub(crate) use part;
+
+/// Declares an enum of numbers, whose texts are those of the macro named before it.
+macro_rules! numbered {
+    ($texts:ident $(#[$doc:meta])* $name:ident { $($variant:ident = $number:tt;)+ }) => {
         $(#[$doc])*
         #[derive(Clone, Copy, Debug, PartialEq, Eq)]
+        #[non_exhaustive]
         pub enum $name {
-            $(#[doc = concat!($number, ": ", $cause, ".")] $variant,)+
+            $(#[doc = concat!($number, ": ", $texts!($number fault), ". ", $texts!($number remedy))] $variant,)+
         }
 
         impl $name {
-            /// The refusal's number.
+            /// All of them, in the order in which they are looked for.
+            pub const ALL: &[Self] = &[$(Self::$variant),+];
+
+            /// Its number.
+            #[must_use]
             pub fn number(self) -> u8 {
                 match self {
                     $(Self::$variant => $number,)+
                 }
             }
 
-            /// The refusal of a number, or nothing for 0.
-            pub(crate) fn check(number: u8) -> Result<(), Self> {
+            /// What is wrong.
+            #[must_use]
+            pub fn fault(self) -> &'static str {
+                match self {
+                    $(Self::$variant => $texts!($number fault),)+
+                }
+            }
+
+            /// What to do.
+            #[must_use]
+            pub fn remedy(self) -> &'static str {
+                match self {
+                    $(Self::$variant => $texts!($number remedy),)+
+                }
+            }
+
+            pub(crate) fn of_number(number: u8) -> Self {
                 match number {
-                    0 => Ok(()),
-                    $($number => Err(Self::$variant),)+
-                    _ => unreachable!("{} has no refusal {number}", stringify!($name)),
+                    $($number => Self::$variant,)+
+                    _ => unreachable!("{} has no number {number}", stringify!($name)),
                 }
             }
         }
 
         impl Display for $name {
             fn fmt(&self, f: &mut Formatter) -> FmtResult {
-                let cause = match self {
-                    $(Self::$variant => $cause,)+
-                };
-                write!(f, "{cause} ({})", self.number())
+                write!(f, "{} ({}). {}", self.fault(), self.number(), self.remedy())
+            }
+        }
+    };
+}
+pub(crate) use numbered;
+
+/// Declares an operation's refusals.
+macro_rules! refusals {
+    ($(#[$doc:meta])* $name:ident { $($body:tt)+ }) => {
+        numbered! { refusal $(#[$doc])* $name { $($body)+ } }
+
+        impl $name {
+            /// The refusal of a number, or nothing for 0.
+            pub(crate) fn check(number: u8) -> Result<(), Self> {
+                if number == 0 { Ok(()) } else { Err(Self::of_number(number)) }
             }
         }
 
@@ -47,102 +120,148 @@ macro_rules! refusals {
 refusals! {
     /// Why a search can't start.
     StartError {
-        TooFewViews = 1, "fewer than 3 views";
-        NoTilts = 2, "an empty list of tilts";
-        BadBound = 3, "the bound on the tilts isn't a number above 0";
-        BadStep = 4, "rounds are asked for and the step isn't a number above 0";
-        TooMany = 5, "more than 16 tilts in a list, 256 decomposition seeds or 16 rounds, or a list not in sixes";
-        BadSeed = 6, "a decomposition seed that isn't finite, has a focal length not above 0, or lies beyond the bound";
-        TiltNotFinite = 7, "a tilt that isn't a finite number";
-        ListTooShort = 8, "the seed list is too short";
+        TooFewViews = 1;
+        NoTilts = 2;
+        BadBound = 3;
+        BadStep = 4;
+        TooMany = 5;
+        BadSeed = 6;
+        TiltNotFinite = 7;
+        ListTooShort = 8;
     }
 }
 
 refusals! {
     /// Why no seed is handed out.
     NextError {
-        SeedWaiting = 9, "a seed is waiting for its answer";
-        ListTooShort = 10, "the seed list is too short";
-        NothingScored = 11, "the run ended and no candidate was scored";
+        SeedWaiting = 9;
+        ListShortened = 10;
+        NothingScored = 11;
     }
 }
 
 refusals! {
     /// Why an answer isn't taken. The seed goes on waiting.
     AnswerError {
-        NoSeedWaiting = 12, "no seed is waiting";
-        ListTooShort = 10, "the seed list is too short";
-        BadRows = 13, "more than 1,024 rows, not four numbers for each flag, or a flag above 1";
-        SingularTilt = 15, "the tilt's determinant is 0";
+        NoSeedWaiting = 12;
+        ListShortened = 10;
+        BadRows = 13;
+        SingularTilt = 15;
     }
 }
 
 refusals! {
     /// Why there is no result.
     ResultError {
-        NotOver = 14, "the run isn't over";
-        NothingScored = 11, "the run ended and no candidate was scored";
+        NotOver = 14;
+        NothingScored = 11;
     }
 }
 
 refusals! {
     /// Why points aren't mapped. The destination is unchanged.
     PointMapError {
-        BadPoints = 17, "an odd number of coordinates, or more than 400 points";
-        TooShort = 18, "the destination is too short";
-        SingularTilt = 15, "the tilt's determinant is 0";
+        BadPoints = 17;
+        DestinationTooShort = 18;
+        SingularTilt = 15;
     }
 }
 
 refusals! {
     /// Why a tilt has no inverse.
     TiltError {
-        SingularTilt = 15, "the tilt's determinant is 0";
+        SingularTilt = 15;
     }
 }
 
 refusals! {
     /// Why six numbers are no camera's conic.
     ConicError {
-        DegenerateViews = 16, "the views determine no camera";
+        DegenerateViews = 16;
     }
 }
 
 refusals! {
-    /// Why a camera has no plate with a known answer. A camera with focal lengths 800 and 808 and centre (640, −480) has one:
-    /// 200, 202, 160 and −120 times 4.
+    /// Why a camera has no plate with a known answer.
     PlateError {
-        NoSharedPower = 34, "no power of two from 1 to 256 divides all four into whole numbers, 1 to 256 for focal lengths and −256 to 256 for the centre";
+        NoSharedPower = 34;
     }
 }
 
 refusals! {
     /// Why points can't be normalised. The destination is unchanged.
     NormalizeError {
-        BadPoints = 17, "an odd number of coordinates, or more than 400 points";
-        TooShort = 18, "the destination is too short";
-        Coincident = 19, "no points, or all of them coincide";
+        BadPoints = 17;
+        DestinationTooShort = 18;
+        Coincident = 19;
     }
 }
 
 refusals! {
     /// Why there are no design rows. The destination is unchanged.
     RowsError {
-        BadPoints = 17, "an odd number of coordinates, or more than 400 points";
-        TooShort = 18, "the destination is too short";
-        SourceNotFinite = 20, "a source coordinate isn't finite";
-        DestinationNotFinite = 21, "a destination coordinate isn't finite";
-        TooFewPoints = 22, "fewer than 4 source points";
-        CountsDiffer = 23, "not as many destination points as source points";
-        SourceCollinear = 24, "the source points lie on a line";
-        DestinationCollinear = 25, "the destination points lie on a line";
-        NormalizingFails = 26, "the points can't be normalised";
+        BadPoints = 17;
+        DestinationTooShort = 18;
+        SourceNotFinite = 20;
+        DestinationNotFinite = 21;
+        TooFewPoints = 22;
+        CountsDiffer = 23;
+        SourceCollinear = 24;
+        DestinationCollinear = 25;
+        NormalizingFails = 26;
     }
 }
 
-refusals! {
-    /// Why a list of points isn't read.
-    PointListError {
-        BadPoints = 17, "an odd number of coordinates";
+/// Why a search that runs by itself has no result: which call was refused, and why.
+#[derive(Clone, Copy, Debug, PartialEq, Eq)]
+#[non_exhaustive]
+pub enum RunError {
+    /// No seed is handed out.
+    Next(NextError),
+    /// The solution isn't taken, and its seed goes on waiting.
+    Answer(AnswerError),
+    /// There is no result.
+    Result(ResultError),
+}
+
+impl RunError {
+    /// The refusal's number.
+    #[must_use]
+    pub fn number(self) -> u8 {
+        match self {
+            Self::Next(error) => error.number(),
+            Self::Answer(error) => error.number(),
+            Self::Result(error) => error.number(),
+        }
+    }
+}
+
+impl Display for RunError {
+    fn fmt(&self, f: &mut Formatter) -> FmtResult {
+        match self {
+            Self::Next(error) => error.fmt(f),
+            Self::Answer(error) => error.fmt(f),
+            Self::Result(error) => error.fmt(f),
+        }
+    }
+}
+
+impl Error for RunError {}
+
+impl From<NextError> for RunError {
+    fn from(error: NextError) -> Self {
+        Self::Next(error)
+    }
+}
+
+impl From<AnswerError> for RunError {
+    fn from(error: AnswerError) -> Self {
+        Self::Answer(error)
+    }
+}
+
+impl From<ResultError> for RunError {
+    fn from(error: ResultError) -> Self {
+        Self::Result(error)
     }
 }

@@ -1,13 +1,12 @@
 //! The operations beside the search: root, camera, tilt, distortion, lists of points, and the parts of a score.
 //!
-//! Points of a list stand x then y in one slice. Where a list is written, it goes to the front of the destination, and the rest of
-//! the destination is unchanged; after a refusal all of it is.
+//! Where a list is written, it goes to the front of the destination, and the rest of the destination is unchanged; after a
+//! refusal all of it is.
 
 pub use crate::known_plate::known_plate;
-use crate::raw;
 use crate::{
-    BrownConrady5, ConicError, FxFyCxCy, NormalizeError, PinholeCamera, PointListError,
-    PointMapError, Pt2, Rows, RowsError, ScheimpflugParams, TiltError, TiltTrig,
+    BrownConrady5, ConicError, FxFyCxCy, NormalizeError, PinholeCamera, PointMapError, Pt2, Rows,
+    RowsError, ScheimpflugParams, TiltError, TiltTrig, raw,
 };
 
 /// Three rows of three numbers.
@@ -73,6 +72,7 @@ pub struct Normalization {
 /// assert!(jinnychair::geometry::sqrt(-1.0).is_nan());
 /// ```
 #[inline]
+#[must_use]
 pub fn sqrt(x: f64) -> f64 {
     raw::jc_sqrt(x)
 }
@@ -80,12 +80,14 @@ pub fn sqrt(x: f64) -> f64 {
 impl FxFyCxCy {
     /// From a pixel to the sensor, in focal lengths.
     #[inline]
+    #[must_use]
     pub fn pixel_to_sensor(self, pixel: Pt2) -> Pt2 {
         raw::jc_pixel_to_sensor(self, pixel)
     }
 
     /// From the sensor, in focal lengths, to a pixel.
     #[inline]
+    #[must_use]
     pub fn sensor_to_pixel(self, sensor: Pt2) -> Pt2 {
         raw::jc_sensor_to_pixel(self, sensor)
     }
@@ -98,11 +100,13 @@ impl FxFyCxCy {
 /// let level = tilt_projection_matrix(ScheimpflugParams::default().into());
 /// assert_eq!(level, [[1.0, 0.0, 0.0], [0.0, 1.0, 0.0], [0.0, 0.0, 1.0]]);
 /// ```
+#[must_use]
 pub fn tilt_projection_matrix(trig: TiltTrig) -> Matrix3 {
     raw::jc_tilt_projection_matrix(trig).into()
 }
 
 /// The determinant, expanded along the first row.
+#[must_use]
 pub fn determinant(m: Matrix3) -> f64 {
     raw::jc_determinant(m.into())
 }
@@ -118,11 +122,13 @@ pub fn inverse(m: Matrix3) -> Result<Matrix3, TiltError> {
 }
 
 /// A point under a homography; a depth that isn't above 1e-12 counts as 1e-12.
+#[must_use]
 pub fn apply_homography(h: Matrix3, p: Pt2) -> Pt2 {
     raw::jc_apply_homography(h.into(), p)
 }
 
 /// A point under the inverse of a homography; a depth whose magnitude isn't above 1e-12 counts as 1e-12.
+#[must_use]
 pub fn apply_homography_inverse(h_inv: Matrix3, p: Pt2) -> Pt2 {
     raw::jc_apply_homography_inverse(h_inv.into(), p)
 }
@@ -130,49 +136,67 @@ pub fn apply_homography_inverse(h_inv: Matrix3, p: Pt2) -> Pt2 {
 impl BrownConrady5 {
     /// The distorted point.
     #[inline]
+    #[must_use]
     pub fn distort(self, p: Pt2) -> Pt2 {
         raw::distort(self, p)
     }
 
     /// The distorted point and its derivatives.
     #[inline]
+    #[must_use]
     pub fn distort_with_jacobian(self, p: Pt2) -> DistortedPoint {
         raw::jc_distort_with_jacobian(self, p)
     }
 
-    /// The point that is distorted to this one, by Newton's method with at most `iters` steps; 0 means 20.
+    /// The point that is distorted to this one, by Newton's method with at most 20 steps.
     #[inline]
+    #[must_use]
+    pub fn undistorted(self, p: Pt2) -> Pt2 {
+        self.undistort(0, p)
+    }
+
+    /// The point that is distorted to this one, by Newton's method with at most `iters` steps; 0 means 20.
+    ///
+    /// A lens that isn't one may need all of them: with `iters` near 2³² a call can take seconds (42 million steps were
+    /// seen). [`BrownConrady5::undistorted`] takes 20 at most.
+    #[inline]
+    #[must_use]
     pub fn undistort(self, iters: u32, p: Pt2) -> Pt2 {
         raw::jc_undistort(self, iters, p)
     }
 
     /// The distortion as it is scored: no radial part, the tangential one within ±0.05.
+    #[must_use]
     pub fn damped(self) -> Self {
         raw::jc_damp_seed_distortion(self)
     }
 
     /// The penalty on distortion.
+    #[must_use]
     pub fn complexity(self) -> f64 {
         raw::jc_distortion_complexity(self)
     }
 }
 
 /// The penalty on tilts.
+#[must_use]
 pub fn tilt_complexity(sensor: ScheimpflugParams) -> f64 {
     raw::jc_tilt_complexity(sensor)
 }
 
 /// The penalty on a centre that isn't the observed one; its weight is 0.
+#[must_use]
 pub fn principal_point_complexity(k: FxFyCxCy, center: Pt2) -> f64 {
     raw::jc_principal_point_complexity(k, center)
 }
 
 /// The mean error of the counted rows, in pixels, with the camera as given; infinity where none is counted.
+#[must_use]
 pub fn mean_reproj_error(camera: PinholeCamera, trig: TiltTrig, rows: Rows) -> f64 {
     raw::mean_reproj_error(camera, trig, rows)
 }
 
-/// The pixels that a sensor without tilt would show.
+/// The pixels that a sensor without tilt would show; at most 400.
 ///
 /// # Errors
 ///
@@ -180,8 +204,8 @@ pub fn mean_reproj_error(camera: PinholeCamera, trig: TiltTrig, rows: Rows) -> f
 pub fn untilt_points(
     k: FxFyCxCy,
     trig: TiltTrig,
-    points: &[f64],
-    to: &mut [f64],
+    points: &[Pt2],
+    to: &mut [Pt2],
 ) -> Result<(), PointMapError> {
     PointMapError::check(raw::untilt_points(k, trig, points, to))
 }
@@ -196,8 +220,8 @@ pub fn ideal_points(
     camera: PinholeCamera,
     iters: u32,
     trig: TiltTrig,
-    points: &[f64],
-    to: &mut [f64],
+    points: &[Pt2],
+    to: &mut [Pt2],
 ) -> Result<(), PointMapError> {
     PointMapError::check(raw::ideal_points(camera, iters, trig, points, to))
 }
@@ -208,28 +232,27 @@ pub fn ideal_points(
 ///
 /// Nothing is written.
 pub fn normalize_points_2d(
-    points: &[f64],
-    to: &mut [f64],
+    points: &[Pt2],
+    to: &mut [Pt2],
 ) -> Result<Normalization, NormalizeError> {
     let reply = raw::normalize_points_2d(points, to);
     NormalizeError::check(reply.number)?;
     Ok(Normalization { scale: reply.t00, offset_x: reply.t02, offset_y: reply.t12 })
 }
 
-/// Whether all points lie on a line, as nearly as the test sees.
-///
-/// # Errors
-///
-/// An odd number of coordinates.
+/// Whether all points lie on a line, as nearly as the test sees. The line goes through the first point and the next one that is
+/// farther than 1e-9 from it; a point is beside it where its cross product with these two is above 1e-6 in size. Points all in one
+/// place lie on a line, fewer than three don't.
 ///
 /// ```
-/// use jinnychair::geometry::points_are_collinear;
-/// assert_eq!(points_are_collinear(&[0.0, 0.0, 1.0, 1.0, 2.0, 2.0]), Ok(true));
-/// assert_eq!(points_are_collinear(&[0.0, 0.0, 1.0, 1.0, 2.0, 3.0]), Ok(false));
+/// use jinnychair::{Pt2, geometry::points_are_collinear};
+/// let points = |last: f64| [Pt2 { x: 0.0, y: 0.0 }, Pt2 { x: 1.0, y: 1.0 }, Pt2 { x: 2.0, y: last }];
+/// assert!(points_are_collinear(&points(2.0)));
+/// assert!(!points_are_collinear(&points(3.0)));
 /// ```
-pub fn points_are_collinear(points: &[f64]) -> Result<bool, PointListError> {
-    let reply = raw::points_are_collinear(points);
-    PointListError::check(reply.number).map(|()| reply.collinear != 0)
+#[must_use]
+pub fn points_are_collinear(points: &[Pt2]) -> bool {
+    raw::points_are_collinear(points).collinear != 0
 }
 
 /// The rows of the homography's design matrix from source to destination points, both normalised: two rows of nine
@@ -238,7 +261,7 @@ pub fn points_are_collinear(points: &[f64]) -> Result<bool, PointListError> {
 /// # Errors
 ///
 /// Nothing is written.
-pub fn design_rows(source: &[f64], destination: &[f64], to: &mut [f64]) -> Result<(), RowsError> {
+pub fn design_rows(source: &[Pt2], destination: &[Pt2], to: &mut [f64]) -> Result<(), RowsError> {
     RowsError::check(raw::design_rows(source, destination, to))
 }
 
@@ -261,11 +284,7 @@ pub fn conic_to_camera(b: Conic) -> Result<FxFyCxCy, ConicError> {
 }
 
 /// The centre of the pixels that are seen: half the greatest coordinates, or, where one is negative, the middle of their range.
-///
-/// # Errors
-///
-/// An odd number of coordinates.
-pub fn observed_pixel_center(pixels: &[f64]) -> Result<Pt2, PointListError> {
-    let reply = raw::observed_pixel_center(pixels);
-    PointListError::check(reply.number).map(|()| reply.center)
+#[must_use]
+pub fn observed_pixel_center(pixels: &[Pt2]) -> Pt2 {
+    raw::observed_pixel_center(pixels).center
 }

@@ -10,32 +10,37 @@
 //! ```
 //! use jinnychair::*;
 //!
-//! let options = Options {
-//!     tilt_x_seeds: vec![-0.02, 0.0, 0.02],
-//!     tilt_y_seeds: vec![0.0],
-//!     refine_rounds: 4,
-//!     refine_step: 0.01,
-//!     max_abs_tilt: 0.3,
-//! };
+//! let mut options = Options::default();
+//! options.tilt_x_seeds = vec![-0.02, 0.0, 0.02];
+//! options.tilt_y_seeds = vec![0.0];
+//! (options.refine_rounds, options.refine_step) = (4, 0.01);
 //! let k = FxFyCxCy { fx: 1000.0, fy: 1000.0, cx: 640.0, cy: 480.0 };
 //! let center = Pt2 { x: 640.0, y: 480.0 };
 //! let mut search = Search::start(&Inputs { views: 3, options: &options, decomposition: &[], base: k, center })?;
 //!
-//! while let Handed::Candidate(_) = search.next()? {
-//!     let seed = search.seed().expect("a seed waits");
+//! let winner = search.run(|seed| {
 //!     // A host solves for a camera here. This one's error grows with the distance from −0.0125.
 //!     let error = 100.0 * (seed.sensor.tilt_x + 0.0125).abs();
-//!     let camera = PinholeCamera { k, dist: BrownConrady5::default() };
-//!     let trig = TiltTrig::from(seed.sensor);
-//!     let rows = Rows { numbers: &[0.0, 0.0, 640.0 + error, 480.0], flags: &[1] };
-//!     search.answer(&Finding::Solved { camera, trig, rows })?;
-//! }
-//! let winner = search.result()?;
+//!     Some(Solution {
+//!         camera: PinholeCamera { k, dist: BrownConrady5::default() },
+//!         trig: TiltTrig::from(seed.sensor),
+//!         rows: vec![0.0, 0.0, 640.0 + error, 480.0],
+//!         flags: vec![1],
+//!     })
+//! })?;
 //! assert_eq!(winner.sensor.tilt_x, -0.0125);
 //! # Ok::<(), Box<dyn std::error::Error>>(())
 //! ```
-
-#![deny(missing_docs)]
+//!
+//! [`Search::run_watched`] also shows each tried seed; [`Search::next`] and [`Search::answer`] are for a host with a loop of
+//! its own. Angles are in radians, pixels and focal lengths in pixels.
+//!
+//! # What is assumed of the machine
+//!
+//! Rounding to nearest, and subnormal numbers kept, as Rust and C start every thread with. Where a program has changed the
+//! processor's rounding mode or asked it to flush subnormals to zero, results have other bits.
+//!
+//! Every call is a function of its arguments alone: threads need no lock, and a [`Search`] may move between them.
 
 #[cfg(not(target_arch = "x86_64"))]
 compile_error!("the static library is for x86-64");
@@ -47,12 +52,16 @@ mod raw;
 pub mod record;
 mod search;
 mod types;
+mod version;
 
 pub use error::{
-    AnswerError, ConicError, NextError, NormalizeError, PlateError, PointListError, PointMapError,
-    ResultError, RowsError, StartError, TiltError,
+    AnswerError, ConicError, NextError, NormalizeError, PlateError, PointMapError, ResultError,
+    RowsError, RunError, StartError, TiltError,
 };
-pub use search::{Finding, Handed, Inputs, Options, Outcome, Rows, Search, SkipReason};
+pub use search::{
+    Finding, Handed, Inputs, Options, Outcome, Rows, Search, SkipReason, Solution, Tried,
+};
 pub use types::{
     BrownConrady5, FxFyCxCy, PinholeCamera, Pt2, ScheimpflugParams, Seed, TiltTrig, Winner,
 };
+pub use version::{VERSION, VersionError, check_version};

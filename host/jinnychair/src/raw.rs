@@ -1,5 +1,5 @@
 //! The static library's functions. This is the only module with unsafe code: the declarations, which nothing compares with the
-//! library but the tests below, and the calls that pass slices.
+//! library but the tests below and `tests/interface.rs`, and the calls that pass slices.
 //!
 //! Every function takes any numbers whatsoever. Those without a pointer are therefore safe to call; those with one get it from a
 //! slice, which is valid for its length, and a `&mut` slice overlaps no other.
@@ -157,6 +157,7 @@ laid_out! {
 }
 
 unsafe extern "C" {
+    pub(crate) safe fn jc_version() -> u32;
     pub(crate) safe fn jc_sqrt(x: f64) -> f64;
     pub(crate) safe fn jc_pixel_to_sensor(k: FxFyCxCy, pixel: Pt2) -> Pt2;
     pub(crate) safe fn jc_sensor_to_pixel(k: FxFyCxCy, sensor: Pt2) -> Pt2;
@@ -267,50 +268,56 @@ pub(crate) fn mean_reproj_error(camera: PinholeCamera, trig: TiltTrig, rows: Row
     }
 }
 
-pub(crate) fn untilt_points(k: FxFyCxCy, trig: TiltTrig, points: &[f64], to: &mut [f64]) -> u8 {
+/// Points as the numbers that they are, x then y: `Pt2` is two numbers and nothing else.
+fn coordinates(points: &[Pt2]) -> (*const f64, usize) {
+    (points.as_ptr().cast(), 2 * points.len())
+}
+
+fn coordinates_mut(points: &mut [Pt2]) -> (*mut f64, usize) {
+    (points.as_mut_ptr().cast(), 2 * points.len())
+}
+
+pub(crate) fn untilt_points(k: FxFyCxCy, trig: TiltTrig, points: &[Pt2], to: &mut [Pt2]) -> u8 {
+    let ((from, from_len), (to, to_len)) = (coordinates(points), coordinates_mut(to));
     // SAFETY: both slices are valid for their lengths, and `to` overlaps nothing.
-    unsafe { jc_untilt_points(k, trig, points.as_ptr(), points.len(), to.as_mut_ptr(), to.len()) }
+    unsafe { jc_untilt_points(k, trig, from, from_len, to, to_len) }
 }
 
 pub(crate) fn ideal_points(
     camera: PinholeCamera,
     iters: u32,
     trig: TiltTrig,
-    points: &[f64],
-    to: &mut [f64],
+    points: &[Pt2],
+    to: &mut [Pt2],
 ) -> u8 {
-    let (from, from_len) = (points.as_ptr(), points.len());
+    let ((from, from_len), (to, to_len)) = (coordinates(points), coordinates_mut(to));
     // SAFETY: both slices are valid for their lengths, and `to` overlaps nothing.
-    unsafe { jc_ideal_points(camera, iters, trig, from, from_len, to.as_mut_ptr(), to.len()) }
+    unsafe { jc_ideal_points(camera, iters, trig, from, from_len, to, to_len) }
 }
 
-pub(crate) fn normalize_points_2d(points: &[f64], to: &mut [f64]) -> NormalizeReply {
+pub(crate) fn normalize_points_2d(points: &[Pt2], to: &mut [Pt2]) -> NormalizeReply {
+    let ((from, from_len), (to, to_len)) = (coordinates(points), coordinates_mut(to));
     // SAFETY: both slices are valid for their lengths, and `to` overlaps nothing.
-    unsafe { jc_normalize_points_2d(points.as_ptr(), points.len(), to.as_mut_ptr(), to.len()) }
+    unsafe { jc_normalize_points_2d(from, from_len, to, to_len) }
 }
 
-pub(crate) fn points_are_collinear(points: &[f64]) -> LineReply {
+pub(crate) fn points_are_collinear(points: &[Pt2]) -> LineReply {
+    let (from, from_len) = coordinates(points);
     // SAFETY: the slice is valid for its length.
-    unsafe { jc_points_are_collinear(points.as_ptr(), points.len()) }
+    unsafe { jc_points_are_collinear(from, from_len) }
 }
 
-pub(crate) fn design_rows(source: &[f64], destination: &[f64], to: &mut [f64]) -> u8 {
+pub(crate) fn design_rows(source: &[Pt2], destination: &[Pt2], to: &mut [f64]) -> u8 {
+    let (source, source_len) = coordinates(source);
+    let (seen, seen_len) = coordinates(destination);
     // SAFETY: all three slices are valid for their lengths, and `to` overlaps nothing.
-    unsafe {
-        jc_design_rows(
-            source.as_ptr(),
-            source.len(),
-            destination.as_ptr(),
-            destination.len(),
-            to.as_mut_ptr(),
-            to.len(),
-        )
-    }
+    unsafe { jc_design_rows(source, source_len, seen, seen_len, to.as_mut_ptr(), to.len()) }
 }
 
-pub(crate) fn observed_pixel_center(pixels: &[f64]) -> CenterReply {
+pub(crate) fn observed_pixel_center(pixels: &[Pt2]) -> CenterReply {
+    let (from, from_len) = coordinates(pixels);
     // SAFETY: the slice is valid for its length.
-    unsafe { jc_observed_pixel_center(pixels.as_ptr(), pixels.len()) }
+    unsafe { jc_observed_pixel_center(from, from_len) }
 }
 
 pub(crate) fn start(inputs: &Inputs, list: &mut [f64]) -> StartReply {

@@ -4,10 +4,9 @@
 //! scored. But the theorem about whole runs speaks of a record and a list that are handed on as the calls before left them.
 //! [`crate::Search`] keeps both where nothing else reaches them.
 
-use crate::raw;
 use crate::{
     AnswerError, Finding, FxFyCxCy, Handed, NextError, Outcome, Pt2, ResultError, Seed, SkipReason,
-    StartError, Winner,
+    StartError, Winner, check_version, raw,
 };
 
 /// The numbers of a search's options; the tilts of its grid stand beside them.
@@ -104,7 +103,14 @@ pub struct Inputs<'a> {
 /// # Errors
 ///
 /// The inputs are refused, and the list is as it was.
+///
+/// # Panics
+///
+/// The linked library isn't of this crate's version.
 pub fn start(inputs: &Inputs, list: &mut [f64]) -> Result<Run, StartError> {
+    if let Err(error) = check_version() {
+        panic!("{error}");
+    }
     let reply = raw::start(inputs, list);
     StartError::check(reply.number).map(|()| reply.run)
 }
@@ -118,10 +124,15 @@ pub fn next(run: &mut Run, list: &[f64]) -> Result<Handed, NextError> {
     let reply = raw::next(*run, list);
     *run = reply.run;
     NextError::check(reply.number)?;
-    Ok(if reply.over == 0 { Handed::Candidate(reply.candidate) } else { Handed::Over })
+    Ok(if reply.over == 0 {
+        Handed::Candidate { number: reply.candidate, seed: run.waiting.seed }
+    } else {
+        Handed::Over
+    })
 }
 
 /// The waiting seed's six numbers as they stand in the list; nothing where no seed waits or the list is too short.
+#[must_use]
 pub fn seed(run: &Run, list: &[f64]) -> Option<[f64; 6]> {
     let mut numbers = [0.0; 6];
     (raw::seed(*run, list, &mut numbers) == 6).then_some(numbers)
@@ -138,7 +149,7 @@ pub fn answer(run: &mut Run, finding: &Finding, list: &mut [f64]) -> Result<Outc
     AnswerError::check(reply.number)?;
     Ok(match reply.skipped {
         0 => Outcome::Scored(reply.score),
-        reason => Outcome::Skipped(SkipReason::from_number(reason)),
+        reason => Outcome::Skipped(SkipReason::of_number(reason)),
     })
 }
 

@@ -1,13 +1,22 @@
 //! A search that keeps its record and its list to itself.
 
+use crate::error::{numbered, part};
 use crate::record::{self, Run};
 use crate::{
-    AnswerError, FxFyCxCy, NextError, PinholeCamera, Pt2, ResultError, Seed, StartError, TiltTrig,
-    Winner,
+    AnswerError, FxFyCxCy, NextError, PinholeCamera, Pt2, ResultError, RunError, Seed, StartError,
+    TiltTrig, Winner,
 };
+use std::fmt::{Display, Formatter, Result as FmtResult};
 
-/// Which tilts are tried.
+/// Which tilts are tried. Later versions have more options, each with a default: start from [`Options::default`], and
+/// change what should differ.
+///
+/// ```
+/// let mut options = jinnychair::Options::default();
+/// options.refine_rounds = 6;
+/// ```
 #[derive(Clone, Debug, PartialEq)]
+#[non_exhaustive]
 pub struct Options {
     /// The tilts about x of round 0's grid, in radians; 1 to 16 of them.
     pub tilt_x_seeds: Vec<f64>,
@@ -19,6 +28,19 @@ pub struct Options {
     pub refine_step: f64,
     /// The bound on either tilt, in radians.
     pub max_abs_tilt: f64,
+}
+
+impl Default for Options {
+    /// Those of calibration-rs: a grid of about ±9° by ±2°, then two rounds from 0.02 radians on, within 0.3 radians.
+    fn default() -> Self {
+        Self {
+            tilt_x_seeds: vec![-0.16, -0.12, -0.08, -0.04, 0.0, 0.04, 0.08, 0.12, 0.16],
+            tilt_y_seeds: vec![-0.04, -0.02, 0.0, 0.02, 0.04],
+            refine_rounds: 2,
+            refine_step: 0.02,
+            max_abs_tilt: 0.3,
+        }
+    }
 }
 
 /// What a search starts from.
@@ -41,7 +63,7 @@ pub struct Inputs<'a> {
 pub struct Rows<'a> {
     /// Four numbers a row: the ideal point x, y, then the seen pixel u, v.
     pub numbers: &'a [f64],
-    /// A flag a row: 1 where the point is in front of the camera, 0 where it isn't.
+    /// A flag a row: 1 where the point is in front of the camera, 0 where it isn't. No other value is taken.
     pub flags: &'a [u8],
 }
 
@@ -61,34 +83,46 @@ pub enum Finding<'a> {
     },
 }
 
-/// Why a candidate isn't scored.
-#[derive(Clone, Copy, Debug, PartialEq, Eq)]
-pub enum SkipReason {
-    /// 1: the host failed.
-    HostFailed,
-    /// 2: the camera isn't finite, or a focal length isn't above 0.
-    BadCamera,
-    /// 3: the mean error isn't finite.
-    NoMean,
+/// A host's solution for a seed, with rows of its own.
+#[derive(Clone, Debug, PartialEq)]
+pub struct Solution {
+    /// The solved camera.
+    pub camera: PinholeCamera,
+    /// Sine and cosine of each of the seed's tilts.
+    pub trig: TiltTrig,
+    /// Four numbers a row: the ideal point x, y, then the seen pixel u, v.
+    pub rows: Vec<f64>,
+    /// A flag a row: 1 where the point is in front of the camera, 0 where it isn't.
+    pub flags: Vec<u8>,
 }
 
-impl SkipReason {
-    /// The reason's number.
-    pub fn number(self) -> u8 {
-        match self {
-            Self::HostFailed => 1,
-            Self::BadCamera => 2,
-            Self::NoMean => 3,
-        }
+impl Solution {
+    /// The rows, lent.
+    #[must_use]
+    pub fn rows(&self) -> Rows<'_> {
+        Rows { numbers: &self.rows, flags: &self.flags }
     }
 
-    pub(crate) fn from_number(number: u8) -> Self {
-        match number {
-            1 => Self::HostFailed,
-            2 => Self::BadCamera,
-            3 => Self::NoMean,
-            _ => unreachable!("there is no skip reason {number}"),
-        }
+    /// The solution as it is sent.
+    #[must_use]
+    pub fn finding(&self) -> Finding<'_> {
+        Finding::Solved { camera: self.camera, trig: self.trig, rows: self.rows() }
+    }
+}
+
+/// Why a candidate isn't scored and what to do, reason by reason, as docs/NUMBERS.md has it.
+macro_rules! skip {
+    (1 $part:ident) => { part!($part "the host sent Failed", "Look into the host's solution at that tilt. If all are skipped, it is the views.") };
+    (2 $part:ident) => { part!($part "a number of the camera isn't finite, or a focal length isn't above 0", "As 1. Radial distortion is set to 0 before the check, so it can't be the cause.") };
+    (3 $part:ident) => { part!($part "the mean error isn't finite: no row in front of the camera, or none with a finite error", "Check the poses' signs and the flags.") };
+}
+
+numbered! { skip
+    /// Why a candidate isn't scored.
+    SkipReason {
+        HostFailed = 1;
+        BadCamera = 2;
+        NoMean = 3;
     }
 }
 
@@ -101,13 +135,55 @@ pub enum Outcome {
     Skipped(SkipReason),
 }
 
+impl Outcome {
+    /// The score, if it has one.
+    #[must_use]
+    pub fn score(self) -> Option<f64> {
+        match self {
+            Self::Scored(score) => Some(score),
+            Self::Skipped(_) => None,
+        }
+    }
+}
+
+impl Display for Outcome {
+    fn fmt(&self, f: &mut Formatter) -> FmtResult {
+        match self {
+            Self::Scored(score) => write!(f, "scored {score}"),
+            Self::Skipped(reason) => write!(f, "skipped: {reason}"),
+        }
+    }
+}
+
 /// What a call for the next seed gives.
-#[derive(Clone, Copy, Debug, PartialEq, Eq)]
+#[derive(Clone, Copy, Debug, PartialEq)]
+#[must_use]
 pub enum Handed {
-    /// A candidate's number, counted from 0 over the run.
-    Candidate(usize),
+    /// A candidate.
+    Candidate {
+        /// Its number, counted from 0 over the run.
+        number: usize,
+        /// The seed to solve for.
+        seed: Seed,
+    },
     /// The run is over and has a result.
     Over,
+}
+
+/// A tried seed, as it is shown to who watches a search.
+#[derive(Clone, Copy, Debug, PartialEq)]
+#[non_exhaustive]
+pub struct Tried<'a> {
+    /// The candidate's number.
+    pub number: usize,
+    /// The round that it was handed out in.
+    pub round: usize,
+    /// The seed.
+    pub seed: Seed,
+    /// What the host found, if it did.
+    pub solution: Option<&'a Solution>,
+    /// What became of it.
+    pub outcome: Outcome,
 }
 
 /// A search that is under way.
@@ -116,17 +192,22 @@ pub enum Handed {
 /// left them, which is the condition of the theorem about whole runs: where no score is NaN, the replies are those of the plain
 /// book of 01, every seed that the rules name was handed out, and the winner has the lowest score, the earliest of equal ones.
 #[derive(Clone, Debug)]
+#[must_use = "a search tries nothing before it is run"]
 pub struct Search {
     run: Run,
     list: Vec<f64>,
 }
 
 impl Search {
-    /// Starts a search. The first seed is then handed out by [`Search::next`].
+    /// Starts a search. [`Search::run`] then runs it, or [`Search::next`] hands out its first seed.
     ///
     /// # Errors
     ///
     /// The inputs are refused.
+    ///
+    /// # Panics
+    ///
+    /// The linked library isn't of this crate's version ([`crate::check_version`]).
     pub fn start(inputs: &Inputs) -> Result<Self, StartError> {
         let options = inputs.options;
         let decomposition: Vec<f64> =
@@ -154,6 +235,44 @@ impl Search {
         Ok(Self { run, list })
     }
 
+    /// Runs the search to its end: `solve` is asked for a solution at each seed, or for nothing where it finds none.
+    ///
+    /// # Errors
+    ///
+    /// Nothing was scored, or a solution isn't taken. Its seed then goes on waiting, and another `run` begins with it.
+    pub fn run(
+        &mut self,
+        solve: impl FnMut(&Seed) -> Option<Solution>,
+    ) -> Result<Winner, RunError> {
+        self.run_watched(solve, |_| ())
+    }
+
+    /// As [`Search::run`]; `watch` is shown each tried seed.
+    ///
+    /// # Errors
+    ///
+    /// As [`Search::run`].
+    pub fn run_watched(
+        &mut self,
+        mut solve: impl FnMut(&Seed) -> Option<Solution>,
+        mut watch: impl FnMut(&Tried),
+    ) -> Result<Winner, RunError> {
+        loop {
+            let (number, seed) = match self.waiting() {
+                Some(seed) => (self.answered(), seed),
+                None => match self.next()? {
+                    Handed::Candidate { number, seed } => (number, seed),
+                    Handed::Over => return Ok(self.result()?),
+                },
+            };
+            let round = self.round();
+            let solution = solve(&seed);
+            let outcome =
+                self.answer(&solution.as_ref().map_or(Finding::Failed, Solution::finding))?;
+            watch(&Tried { number, round, seed, solution: solution.as_ref(), outcome });
+        }
+    }
+
     /// Hands out the next seed, or says that the run is over.
     ///
     /// # Errors
@@ -165,7 +284,8 @@ impl Search {
     }
 
     /// The seed that waits for its answer.
-    pub fn seed(&self) -> Option<Seed> {
+    #[must_use]
+    pub fn waiting(&self) -> Option<Seed> {
         record::seed(&self.run, &self.list).map(Seed::from_numbers)
     }
 
@@ -188,16 +308,19 @@ impl Search {
     }
 
     /// The current round; the one after the last seed's once the round has ended.
+    #[must_use]
     pub fn round(&self) -> usize {
         self.run.place.round
     }
 
     /// How many seeds the current round has.
+    #[must_use]
     pub fn round_len(&self) -> usize {
         self.run.place.len
     }
 
     /// How many candidates are answered.
+    #[must_use]
     pub fn answered(&self) -> usize {
         self.run.place.number
     }

@@ -1,7 +1,7 @@
 //! The values that the search and its geometry take and give. Their names are those of calibration-rs.
 
 /// A point: pixels, or coordinates on the sensor in focal lengths.
-#[derive(Clone, Copy, Debug, PartialEq)]
+#[derive(Clone, Copy, Debug, Default, PartialEq)]
 #[repr(C)]
 pub struct Pt2 {
     /// To the right.
@@ -95,12 +95,14 @@ pub struct Seed {
 
 impl Seed {
     /// The six numbers in the order of a seed list: fx, fy, cx, cy, tilt x, tilt y.
+    #[must_use]
     pub fn numbers(self) -> [f64; 6] {
         let (k, sensor) = (self.reference_k, self.sensor);
         [k.fx, k.fy, k.cx, k.cy, sensor.tilt_x, sensor.tilt_y]
     }
 
     /// The seed of six numbers in that order.
+    #[must_use]
     pub fn from_numbers([fx, fy, cx, cy, tilt_x, tilt_y]: [f64; 6]) -> Self {
         Self {
             reference_k: FxFyCxCy { fx, fy, cx, cy },

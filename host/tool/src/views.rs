@@ -7,21 +7,22 @@
 //! 0.00 0.00 412.3 305.8  a dot: place on the plate, then the pixel where it is seen
 //! ```
 
+use jinnychair::Pt2;
 use std::fmt::{Display, Formatter};
 
 /// The dots that one view shows.
 #[derive(Clone, Debug, Default, PartialEq)]
 pub struct View {
-    /// Places on the plate, x then y; any unit of length.
-    pub board: Vec<f64>,
-    /// Seen pixels, u then v.
-    pub pixels: Vec<f64>,
+    /// Places on the plate; any unit of length.
+    pub board: Vec<Pt2>,
+    /// Seen pixels, one for each place.
+    pub pixels: Vec<Pt2>,
 }
 
 impl View {
     /// How many dots the view shows.
     pub fn dots(&self) -> usize {
-        self.board.len() / 2
+        self.board.len()
     }
 }
 
@@ -87,8 +88,8 @@ impl Plate {
             dot => {
                 let [x, y, u, v] = numbers(dot)?;
                 let view = self.views.last_mut().ok_or("a dot before the first `view`")?;
-                view.board.extend([x, y]);
-                view.pixels.extend([u, v]);
+                view.board.push(Pt2 { x, y });
+                view.pixels.push(Pt2 { x: u, y: v });
             }
         }
         Ok(())
@@ -118,7 +119,7 @@ impl Plate {
     }
 
     /// All seen pixels.
-    pub fn pixels(&self) -> Vec<f64> {
+    pub fn pixels(&self) -> Vec<Pt2> {
         self.views.iter().flat_map(|view| &view.pixels).copied().collect()
     }
 
@@ -130,8 +131,8 @@ impl Plate {
         }
         for view in &self.views {
             text += "view\n";
-            for (place, pixel) in view.board.chunks_exact(2).zip(view.pixels.chunks_exact(2)) {
-                text += &format!("{} {} {} {}\n", place[0], place[1], pixel[0], pixel[1]);
+            for (place, pixel) in view.board.iter().zip(&view.pixels) {
+                text += &format!("{} {} {} {}\n", place.x, place.y, pixel.x, pixel.y);
             }
         }
         text
@@ -175,8 +176,8 @@ mod tests {
 
     #[test]
     fn text_is_read_back() {
-        let view =
-            View { board: vec![0.0, 0.5, 1.0, 0.0, 1.0, 1.0, 0.0, 1.0], pixels: vec![0.1; 8] };
+        let board = [[0.0, 0.5], [1.0, 0.0], [1.0, 1.0], [0.0, 1.0]].map(|[x, y]| Pt2 { x, y });
+        let view = View { board: board.to_vec(), pixels: vec![Pt2 { x: 0.1, y: 0.2 }; 4] };
         let plate = Plate { centre: Some([640.5, 480.0]), views: vec![view; 3] };
         assert_eq!(Plate::parse(&plate.text()), Ok(plate));
     }

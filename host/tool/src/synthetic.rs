@@ -2,7 +2,7 @@
 
 use crate::linear::{Matrix3, add_scaled, column, product};
 use crate::views::{Plate, View};
-use jinnychair::{FxFyCxCy, ScheimpflugParams, TiltTrig, geometry};
+use jinnychair::{FxFyCxCy, Pt2, ScheimpflugParams, TiltTrig, geometry};
 
 /// A camera to make views with.
 #[derive(Clone, Copy, Debug, PartialEq)]
@@ -64,11 +64,11 @@ impl Truth {
             let seen = add_scaled(&seen, place[0] - middle[0], &column(&turn, 0));
             let seen = add_scaled(&seen, place[1] - middle[1], &column(&turn, 1));
             let [u, v, w] = tilt.map(|row| row[0] * seen[0] + row[1] * seen[1] + row[2] * seen[2]);
-            view.board.extend(place);
-            view.pixels.extend([
-                self.k.fx * (u / w) + self.k.cx + self.noise * noise.normal(),
-                self.k.fy * (v / w) + self.k.cy + self.noise * noise.normal(),
-            ]);
+            view.board.push(Pt2 { x: place[0], y: place[1] });
+            view.pixels.push(Pt2 {
+                x: self.k.fx * (u / w) + self.k.cx + self.noise * noise.normal(),
+                y: self.k.fy * (v / w) + self.k.cy + self.noise * noise.normal(),
+            });
         }
         view
     }

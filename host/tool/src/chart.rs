@@ -1,8 +1,8 @@
 //! A chart of every tried tilt, as SVG: the whole search, and two enlarged parts around the winner.
 
-use crate::drive::{Finished, Tried};
-use crate::table::letter;
-use jinnychair::{Options, ScheimpflugParams};
+use crate::drive::{Tried, best};
+use crate::table::{SKIPS, letter};
+use jinnychair::ScheimpflugParams;
 use std::fmt::Write;
 
 /// The drawing's size, and that of each part.
@@ -74,7 +74,9 @@ struct Scale {
 
 impl Scale {
     fn new(tried: &[Tried]) -> Self {
-        let scores = || tried.iter().filter_map(Tried::score).filter(|s| s.is_finite() && *s > 0.0);
+        let scores = || {
+            tried.iter().filter_map(|one| one.outcome.score()).filter(|s| s.is_finite() && *s > 0.0)
+        };
         let high = scores().fold(f64::MIN_POSITIVE, f64::max);
         let low = scores().fold(high, f64::min);
         // A single score still needs a scale of some length.
@@ -115,46 +117,62 @@ fn degrees(sensor: ScheimpflugParams) -> [f64; 2] {
     [sensor.tilt_x.to_degrees(), sensor.tilt_y.to_degrees()]
 }
 
-/// The chart's text.
-pub fn chart(finished: &Finished, options: &Options) -> String {
+/// The chart's text. The bound on either tilt, in radians, is drawn where it is known.
+#[must_use]
+pub fn chart(tried: &[Tried], bound: Option<f64>) -> String {
     let mut svg = Drawing::default();
-    let scale = Scale::new(&finished.tried);
-    let winner = degrees(finished.winner.sensor);
-    let bound = options.max_abs_tilt.to_degrees();
-    let parts = parts(winner, options);
+    let scale = Scale::new(tried);
+    let winner = best(tried);
+    let bound = bound.map(f64::to_degrees);
+    let parts = parts(tried, winner, bound);
 
-    svg.heading(finished, options);
+    svg.heading(tried, winner);
     for (i, part) in parts.iter().enumerate() {
         svg.frame(part);
-        svg.bound(part, bound);
-        svg.marks(part, &finished.tried, &scale);
-        svg.ring([part.x(winner[0]), part.y(winner[1])]);
+        if let Some(bound) = bound {
+            svg.bound(part, bound);
+        }
+        svg.marks(part, tried, &scale);
+        if let Some(winner) = winner {
+            svg.ring(part.place(winner));
+        }
         if let Some(enlarged) = parts.get(i + 1) {
             svg.outline(part, enlarged);
         }
         svg.close_frame(part);
     }
-    svg.legend(&finished.tried, &scale, bound);
+    svg.legend(tried, &scale, bound);
     svg.finish()
 }
 
-/// The whole search, then the part that the rounds after the first reach, then the last three
-/// rounds' part.
-fn parts(winner: [f64; 2], options: &Options) -> Vec<Part> {
-    let whole = 1.08 * options.max_abs_tilt.to_degrees();
+/// The whole search; then, around the winner, what the rounds after the first reach; then what the last three rounds do.
+fn parts(tried: &[Tried], winner: Option<&Tried>, bound: Option<f64>) -> Vec<Part> {
+    let reach = |from: usize, centre: [f64; 2]| {
+        let rounds = tried.iter().filter(|one| one.round >= from);
+        let tilts = rounds
+            .map(|one| degrees(one.seed.sensor))
+            .filter(|t| t[0].is_finite() && t[1].is_finite());
+        tilts.flat_map(|t| [t[0] - centre[0], t[1] - centre[1]]).map(f64::abs).fold(0.0, f64::max)
+    };
+    let whole = 1.08 * bound.unwrap_or_else(|| reach(0, [0.0, 0.0])).max(0.001);
     let mut parts =
         vec![Part { name: "The whole search", left: 70.0, centre: [0.0, 0.0], half: whole }];
-    let step = options.refine_step.to_degrees();
-    let rounds = i32::try_from(options.refine_rounds).unwrap_or(i32::MAX);
-    if rounds > 0 {
-        let half = (2.4 * step).min(whole);
-        parts.push(Part { name: "Part A", left: 455.0, centre: winner, half });
-    }
-    if rounds > 3 {
-        let half = 5.0 * step * 0.5f64.powi(rounds - 1);
-        parts.push(Part { name: "Part B", left: 840.0, centre: winner, half });
+    let last = last_round(tried);
+    let Some(winner) = winner else { return parts };
+    let centre = degrees(winner.seed.sensor);
+    for (name, left, from, is_shown) in
+        [("Part A", 455.0, 1, last > 0), ("Part B", 840.0, last.saturating_sub(2), last > 3)]
+    {
+        let half = (1.2 * reach(from, centre)).min(whole);
+        if is_shown && half > 0.0 {
+            parts.push(Part { name, left, centre, half });
+        }
     }
     parts
+}
+
+fn last_round(tried: &[Tried]) -> usize {
+    tried.iter().map(|one| one.round).max().unwrap_or(0)
 }
 
 #[derive(Default)]
@@ -185,19 +203,24 @@ impl Drawing {
         ));
     }
 
-    fn heading(&mut self, finished: &Finished, options: &Options) {
-        let skipped = finished.tried.iter().filter(|one| one.score().is_none()).count();
-        let winner = &finished.winner;
-        let [x, y] = degrees(winner.sensor);
+    fn heading(&mut self, tried: &[Tried], winner: Option<&Tried>) {
+        let skipped = tried.iter().filter(|one| one.outcome.score().is_none()).count();
         self.text([70.0, 34.0], "start", 20.0, "Every tried tilt");
+        let won = winner.map_or("No winner.".into(), |winner| {
+            let [x, y] = degrees(winner.seed.sensor);
+            let mean =
+                winner.scored.map_or(String::new(), |s| format!(", mean error {:.3} px", s.mean));
+            format!(
+                "Winner: no. {}, tilt x {}°, tilt y {}°{mean}.",
+                winner.number,
+                signed(x, 3),
+                signed(y, 3)
+            )
+        });
         let summary = format!(
-            "{} tilts tried, {skipped} skipped; {} rounds after the first. Winner: no. {}, tilt x {}°, tilt y {}°, mean error {:.3} px.",
-            finished.tried.len(),
-            options.refine_rounds,
-            winner.number,
-            signed(x, 3),
-            signed(y, 3),
-            winner.mean_reproj_error,
+            "{} tilts tried, {skipped} skipped; {} rounds after the first. {won}",
+            tried.len(),
+            last_round(tried),
         );
         self.text([70.0, 58.0], "start", 13.0, &summary);
     }
@@ -266,7 +289,7 @@ impl Drawing {
         let largest = part.largest_mark(tried);
         for one in tried.iter().filter(|one| part.holds(degrees(one.seed.sensor))) {
             let place = part.place(one);
-            match one.score() {
+            match one.outcome.score() {
                 Some(score) => self.mark(place, one.round, largest, &scale.colour(score)),
                 None => self.skipped(place, letter(&one.outcome)),
             }
@@ -317,30 +340,31 @@ impl Drawing {
         }
     }
 
-    fn legend(&mut self, tried: &[Tried], scale: &Scale, bound: f64) {
+    fn legend(&mut self, tried: &[Tried], scale: &Scale, bound: Option<f64>) {
         self.colour_bar(scale);
         self.rounds(tried, 455.0);
         let y = LEGEND_TOP + 94.0;
         self.ring([90.0, y]);
         self.text([120.0, y + 4.0], "start", 12.0, "the winner");
-        let style = format!(r#"fill="none" stroke="{INK}" stroke-dasharray="7 4""#);
-        self.rectangle([212.0, y - 10.0], [28.0, 20.0], &style);
-        let text = format!("the bound, ±{}°", trimmed(bound));
-        self.text([248.0, y + 4.0], "start", 12.0, &text);
+        if let Some(bound) = bound {
+            let style = format!(r#"fill="none" stroke="{INK}" stroke-dasharray="7 4""#);
+            self.rectangle([212.0, y - 10.0], [28.0, 20.0], &style);
+            let text = format!("the bound, ±{}°", trimmed(bound));
+            self.text([248.0, y + 4.0], "start", 12.0, &text);
+        }
         self.reasons(tried, 840.0);
     }
 
     fn rounds(&mut self, tried: &[Tried], left: f64) {
         self.text([left, LEGEND_TOP], "start", 12.0, "Round");
-        let last = tried.iter().map(|one| one.round).max().unwrap_or(0);
-        for round in 0..=last {
+        for round in 0..=last_round(tried) {
             let x = left + 8.0 + 36.0 * (round % SHAPES) as f64;
             let y = LEGEND_TOP + 22.0 + 26.0 * (round / SHAPES) as f64;
             self.mark([x, y], round, LARGEST_MARK, FAINT);
             self.text([x + 11.0, y + 4.0], "start", 12.0, &round.to_string());
         }
         let without_number =
-            tried.iter().filter(|one| one.score().is_some_and(f64::is_nan)).count();
+            tried.iter().filter(|one| one.outcome.score().is_some_and(f64::is_nan)).count();
         if without_number > 0 {
             let text = format!("white: the score is not a number ({without_number})");
             self.text([left, LEGEND_TOP + 80.0], "start", 12.0, &text);
@@ -349,12 +373,7 @@ impl Drawing {
 
     fn reasons(&mut self, tried: &[Tried], left: f64) {
         self.text([left, LEGEND_TOP], "start", 12.0, "Skipped");
-        let reasons = [
-            ('H', "the host found no camera"),
-            ('C', "not a camera"),
-            ('E', "no finite mean error"),
-        ];
-        for (i, (reason, words)) in reasons.into_iter().enumerate() {
+        for (i, &(_, reason, words)) in SKIPS.iter().enumerate() {
             let count = tried.iter().filter(|one| letter(&one.outcome) == reason).count();
             let y = LEGEND_TOP + 22.0 + 24.0 * i as f64;
             self.skipped([left + 8.0, y], reason);

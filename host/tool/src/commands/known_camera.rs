@@ -1,42 +1,38 @@
 //! `known-camera FX FY CX CY`: the camera formula checked against a camera that service chooses.
 
+use super::{Command, End, Fault, Words};
+use jinnychair::FxFyCxCy;
 use jinnychair::geometry::{Conic, conic_to_camera, known_plate};
-use jinnychair::{FxFyCxCy, PlateError};
 
-/// The words and what they do.
-pub const USAGE: &str = "\
-plate known-camera FX FY CX CY
+pub(super) const COMMAND: Command = Command {
+    name: "known-camera",
+    does: "checks the camera formula against a camera that you choose",
+    help: "\
+jinnychair known-camera FX FY CX CY
 
 Makes the six numbers of a plate seen by this camera, hands them to the camera formula and shows what
 comes back, which is the same camera. The four are whole numbers times one power of two (1, 2, 4 .. 256):
 1 to 256 for the focal lengths FX and FY, -256 to 256 for the centre CX and CY. For example
-800 808 640 -480, which are 200, 202, 160 and -120 times 4.";
+800 808 640 -480, which are 200, 202, 160 and -120 times 4.",
+    run,
+};
 
-/// Checks the formula against the camera of four words, and prints the six numbers and the camera that comes back.
-///
-/// # Errors
-///
-/// The words aren't four numbers, the camera has no such plate, or another camera comes back.
-pub fn run(words: &[String]) -> Result<(), String> {
-    let chosen =
-        camera(words).ok_or_else(|| format!("known-camera takes four numbers\n\n{USAGE}"))?;
-    let conic = known_plate(chosen).map_err(|refusal| explained(&refusal))?;
+fn run(words: Words) -> Result<End, Fault> {
+    let chosen = camera(words)?;
+    let conic = known_plate(chosen).map_err(|refusal| refusal.to_string())?;
     let back = conic_to_camera(conic).map_err(|refusal| different(&refusal.to_string()))?;
     println!("{}", report(chosen, conic, back));
     verdict(chosen, back)?;
     println!("the same camera");
-    Ok(())
+    Ok(End::Good)
 }
 
-fn camera(words: &[String]) -> Option<FxFyCxCy> {
-    let [fx, fy, cx, cy]: [f64; 4] =
-        words.iter().map(|word| word.parse().ok()).collect::<Option<Vec<_>>>()?.try_into().ok()?;
-    Some(FxFyCxCy { fx, fy, cx, cy })
-}
-
-/// The refusal, and what to do.
-fn explained(refusal: &PlateError) -> String {
-    format!("{refusal}\n\n{USAGE}")
+fn camera(mut words: Words) -> Result<FxFyCxCy, Fault> {
+    let four: Option<Vec<f64>> = std::iter::from_fn(|| words.next()).map(|word| word.parse().ok()).collect();
+    match four.as_deref() {
+        Some(&[fx, fy, cx, cy]) => Ok(FxFyCxCy { fx, fy, cx, cy }),
+        _ => Err(Fault::Usage("known-camera takes four numbers".into())),
+    }
 }
 
 fn report(chosen: FxFyCxCy, conic: Conic, back: FxFyCxCy) -> String {

@@ -1,30 +1,42 @@
 //! Whole lists of calls, in right and wrong orders, on the library and on the plain book.
 
 use crate::findings::Sent;
-use crate::library::library_inputs;
+use crate::inputs::for_library;
 use crate::record_words::{of_book, of_run};
-use book::Book;
+use book::{Book, Inputs};
 use jinnychair::record::{Run, answer, next, result, seed, start};
-use jinnychair::{Finding, Handed, Outcome};
-use oracle::operations::search::Inputs;
+use jinnychair::{Finding, Handed, Outcome, SkipReason};
 use random::Random;
 use words::{float_words, word};
 
 /// What was compared.
-#[derive(Clone, Copy, Debug, Default)]
+#[derive(Clone, Copy, Debug)]
 pub struct Tally {
     /// Runs that Start accepted.
     pub runs: usize,
     /// Calls on sound records, Start included.
     pub calls: usize,
     /// Of these, the refused ones by their number.
-    pub refused: [usize; 27],
+    pub refused: [usize; 64],
     /// Answers that were entered: scored ones, then the skipped ones by their reason.
-    pub entered: [usize; 4],
+    pub entered: [usize; 1 + SkipReason::ALL.len()],
     /// Calls on records that no search can have made.
     pub unsound: usize,
     /// Runs that came to a result, and that ended with nothing scored.
     pub results: [usize; 2],
+}
+
+impl Default for Tally {
+    fn default() -> Self {
+        Self {
+            runs: 0,
+            calls: 0,
+            refused: [0; 64],
+            entered: [0; 1 + SkipReason::ALL.len()],
+            unsound: 0,
+            results: [0; 2],
+        }
+    }
 }
 
 /// Both sides of one run.
@@ -87,20 +99,6 @@ fn spoil(inputs: &mut Inputs, random: &mut Random) {
     }
 }
 
-fn book_inputs(inputs: &Inputs) -> book::Inputs {
-    book::Inputs {
-        views: inputs.views,
-        tilt_x_seeds: inputs.tilt_x_seeds.clone(),
-        tilt_y_seeds: inputs.tilt_y_seeds.clone(),
-        rounds: inputs.rounds,
-        refine_step: inputs.refine_step,
-        max_abs_tilt: inputs.max_abs_tilt,
-        decomposition: inputs.decomposition.clone(),
-        base: inputs.base,
-        centre: inputs.center,
-    }
-}
-
 fn differ<T: PartialEq + std::fmt::Debug>(what: &str, library: T, book: T) -> Result<(), String> {
     if library == book {
         return Ok(());
@@ -113,7 +111,9 @@ type Reply = Vec<u64>;
 
 fn handed_words(handed: Result<Handed, u8>) -> Reply {
     match handed {
-        Ok(Handed::Candidate(number)) => vec![0, number as u64],
+        Ok(Handed::Candidate { number, seed }) => {
+            [vec![0, number as u64], float_words(&seed.numbers())].concat()
+        }
         Ok(Handed::Over) => vec![1],
         Err(number) => vec![2, number.into()],
     }
@@ -125,8 +125,7 @@ impl Pair {
         random: &mut Random,
         tally: &mut Tally,
     ) -> Result<Option<Self>, String> {
-        let for_book = book_inputs(inputs);
-        let demand = for_book.demand().min(100_000);
+        let demand = inputs.demand().min(100_000);
         let room = match random.below(20) {
             0 => demand - 1,
             1 => random.pick(&[53, 0]),
@@ -135,8 +134,8 @@ impl Pair {
         };
         let mut list: Vec<f64> = (0..room).map(|_| f64::from_bits(random.bits())).collect();
         let mut book_list = list.clone();
-        let started = start(&library_inputs(inputs), &mut list).map_err(|e| e.number());
-        let opened = Book::start(for_book, &mut book_list);
+        let started = start(&for_library(inputs), &mut list).map_err(|e| e.number());
+        let opened = Book::start(inputs.clone(), &mut book_list);
         differ("Start's number", started.as_ref().err(), opened.as_ref().err())?;
         differ("the list after Start", float_words(&list), float_words(&book_list))?;
         tally.calls += 1;
@@ -170,7 +169,10 @@ impl Pair {
             0 => (
                 handed_words(next(&mut self.run, &self.list[..lent]).map_err(|e| e.number())),
                 match self.book.next(&self.book_list[..lent]) {
-                    book::Handed::Candidate(number) => vec![0, number as u64],
+                    book::Handed::Candidate(number) => {
+                        let seed = self.book.waiting().expect("the candidate waits").numbers();
+                        [vec![0, number as u64], float_words(&seed)].concat()
+                    }
                     book::Handed::Over => vec![1],
                     book::Handed::Refused(number) => vec![2, number.into()],
                 },

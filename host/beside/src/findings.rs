@@ -10,8 +10,17 @@ use random::Random;
 pub enum Sent {
     /// No camera.
     Failed,
-    /// A camera, the sines and cosines, and rows with their flags, which may have any shape.
-    Solved { camera: [f64; 9], trig: [f64; 4], rows: Vec<f64>, flags: Vec<u8> },
+    /// A camera and its rows, which may have any shape.
+    Solved {
+        /// fx, fy, cx, cy, k1, k2, k3, p1, p2.
+        camera: [f64; 9],
+        /// Sine and cosine of the tilt about x, then about y.
+        trig: [f64; 4],
+        /// Four numbers a row, or not.
+        rows: Vec<f64>,
+        /// One a row, or not.
+        flags: Vec<u8>,
+    },
 }
 
 impl Sent {

@@ -18,7 +18,8 @@ use crate::pose::Pose;
 use crate::views::{Plate, View};
 use crate::zhang::{Frame, camera, camera_with_held_centre};
 use jinnychair::{
-    BrownConrady5, FxFyCxCy, PinholeCamera, Pt2, ScheimpflugParams, Seed, TiltTrig, geometry,
+    BrownConrady5, FxFyCxCy, PinholeCamera, Pt2, ScheimpflugParams, Seed, Solution, TiltTrig,
+    geometry,
 };
 
 /// How often the focal lengths are solved again with the tilt taken off by the last ones.
@@ -33,17 +34,6 @@ pub struct Host {
     homographies: Vec<Matrix3>,
 }
 
-/// A camera that the host solved for, and the rows that it is scored by.
-#[derive(Clone, Debug)]
-pub struct Solved {
-    /// The camera.
-    pub camera: PinholeCamera,
-    /// x, y, u, v of each dot.
-    pub rows: Vec<f64>,
-    /// 1 for each dot in front of the camera, 0 for the others.
-    pub flags: Vec<u8>,
-}
-
 impl Host {
     /// Prepares the views. The plate's centre is held where it states one, else the observed one.
     ///
@@ -51,8 +41,7 @@ impl Host {
     ///
     /// Names the view whose dots determine no homography.
     pub fn new(plate: Plate) -> Result<Self, String> {
-        let observed =
-            geometry::observed_pixel_center(&plate.pixels()).map_err(|e| e.to_string())?;
+        let observed = geometry::observed_pixel_center(&plate.pixels());
         let held = plate.centre.unwrap_or([observed.x, observed.y]);
         let homographies = plate.views.iter().enumerate().map(|(i, view)| {
             homography(&view.board, &view.pixels)
@@ -102,7 +91,7 @@ impl Host {
     }
 
     /// The best camera with a seed's tilts, or nothing where the equations have no camera.
-    pub fn solve(&self, seed: &Seed) -> Option<Solved> {
+    pub fn solve(&self, seed: &Seed) -> Option<Solution> {
         let trig = TiltTrig::from(seed.sensor);
         let [cx, cy] = self.held;
         let mut k = FxFyCxCy { cx, cy, ..seed.reference_k };
@@ -120,13 +109,13 @@ impl Host {
         for (view, h) in self.plate.views.iter().zip(&ideal) {
             push_rows(view, &Pose::from_homography(&k, h)?, &mut rows, &mut flags);
         }
-        Some(Solved { camera, rows, flags })
+        Some(Solution { camera, trig, rows, flags })
     }
 
     /// Each view's homography to its pixels as `map` changes them.
-    fn homographies_of(&self, map: impl Fn(&[f64], &mut [f64]) -> bool) -> Option<Vec<Matrix3>> {
+    fn homographies_of(&self, map: impl Fn(&[Pt2], &mut [Pt2]) -> bool) -> Option<Vec<Matrix3>> {
         let views = self.plate.views.iter().map(|view| {
-            let mut mapped = vec![0.0; view.pixels.len()];
+            let mut mapped = vec![Pt2::default(); view.pixels.len()];
             if !map(&view.pixels, &mut mapped) {
                 return None;
             }
@@ -137,9 +126,9 @@ impl Host {
 }
 
 fn push_rows(view: &View, pose: &Pose, rows: &mut Vec<f64>, flags: &mut Vec<u8>) {
-    for (place, pixel) in view.board.chunks_exact(2).zip(view.pixels.chunks_exact(2)) {
-        let [x, y, z] = pose.place(place[0], place[1]);
-        rows.extend([x / z, y / z, pixel[0], pixel[1]]);
+    for (place, pixel) in view.board.iter().zip(&view.pixels) {
+        let [x, y, z] = pose.place(place.x, place.y);
+        rows.extend([x / z, y / z, pixel.x, pixel.y]);
         flags.push(u8::from(z > 0.0));
     }
 }

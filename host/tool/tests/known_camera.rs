@@ -4,7 +4,7 @@
 use std::process::{Command, Output};
 
 fn known_camera(words: &[&str]) -> Output {
-    let program = env!("CARGO_BIN_EXE_plate");
+    let program = env!("CARGO_BIN_EXE_jinnychair");
     Command::new(program).arg("known-camera").args(words).output().unwrap()
 }
 
@@ -25,7 +25,7 @@ the same camera
 fn refuses_with_cause_and_remedy() {
     for words in [["512", "1", "0", "0"], ["800.5", "808", "0", "0"], ["NaN", "8", "0", "inf"]] {
         let output = known_camera(&words);
-        assert!(!output.status.success() && output.stdout.is_empty());
+        assert!(output.status.code() == Some(1) && output.stdout.is_empty());
         let message = String::from_utf8(output.stderr).unwrap();
         assert!(message.contains("(34)") && message.contains("800 808 640 -480"), "{message}");
     }
@@ -35,7 +35,7 @@ fn refuses_with_cause_and_remedy() {
 fn takes_four_numbers() {
     for words in [&["800", "808", "0"][..], &["800", "808", "0", "x"], &["1", "1", "0", "0", "0"]] {
         let output = known_camera(words);
-        assert!(!output.status.success());
+        assert_eq!(output.status.code(), Some(2));
         assert!(String::from_utf8(output.stderr).unwrap().contains("takes four numbers"));
     }
 }

@@ -1,0 +1,62 @@
+//! What Start is given, drawn, and as either side takes it.
+
+use book::Inputs;
+use jinnychair::record;
+use jinnychair::{FxFyCxCy, Pt2};
+use random::Random;
+
+/// Inputs that Start mostly takes: few tilts, some of them alike or beyond the bound, and few rounds.
+#[must_use]
+pub fn draw(random: &mut Random) -> Inputs {
+    let max_abs_tilt = random.pick(&[0.05, 0.2, 0.25, 0.5]);
+    let tilts = |random: &mut Random| -> Vec<f64> {
+        (0..1 + random.below(5)).map(|_| tilt(max_abs_tilt, random)).collect()
+    };
+    let (tilt_x_seeds, tilt_y_seeds) = (tilts(random), tilts(random));
+    let base = [800.0, 790.0, 320.5, 239.25].map(|number| number + random.within(5.0));
+    let mut decomposition = vec![];
+    for _ in 0..random.pick(&[0, 0, 0, 1, 2, 4]) {
+        let apart = random.pick(&[0.0, 1e-10, 1e-8, 3.0]);
+        decomposition.extend(base.map(|number| number + apart));
+        decomposition.extend([0, 1].map(|_| random.within(max_abs_tilt)));
+    }
+    Inputs {
+        views: 3 + random.below(4),
+        tilt_x_seeds,
+        tilt_y_seeds,
+        rounds: random.below(4),
+        refine_step: random.pick(&[0.1, 0.03, 0.01, 1e-11, 1e-12, 1e-13]),
+        max_abs_tilt,
+        decomposition,
+        base,
+        centre: [
+            320.0 + random.within(9.0),
+            random.pick(&[240.0, 240.0, 240.0, f64::INFINITY, 1e200]),
+        ],
+    }
+}
+
+/// On a coarse grid, so that some are alike; some nearly alike, and some beyond the bound.
+fn tilt(max_abs_tilt: f64, random: &mut Random) -> f64 {
+    let steps = random.below(11) as f64 - 5.0;
+    0.25 * max_abs_tilt * steps + random.pick(&[0.0, 0.0, 0.0, 5e-13, -0.0])
+}
+
+/// As the library takes them.
+#[must_use]
+pub fn for_library(inputs: &Inputs) -> record::Inputs<'_> {
+    let [fx, fy, cx, cy] = inputs.base;
+    record::Inputs {
+        views: inputs.views,
+        options: record::Options {
+            refine_rounds: inputs.rounds,
+            refine_step: inputs.refine_step,
+            max_abs_tilt: inputs.max_abs_tilt,
+        },
+        tilt_x_seeds: &inputs.tilt_x_seeds,
+        tilt_y_seeds: &inputs.tilt_y_seeds,
+        decomposition: &inputs.decomposition,
+        base: FxFyCxCy { fx, fy, cx, cy },
+        center: Pt2 { x: inputs.centre[0], y: inputs.centre[1] },
+    }
+}

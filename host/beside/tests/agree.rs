@@ -1,0 +1,22 @@
+//! Two thousand lists of calls; `host/compare` has a program for as many as wanted.
+#![allow(missing_docs)]
+
+use beside::calls::{Tally, play};
+use beside::inputs::draw;
+use random::Random;
+
+#[test]
+fn every_reply_every_list_and_every_record_are_the_books() {
+    let mut random = Random::named("the gate");
+    let mut tally = Tally::default();
+    for i in 0..2000 {
+        let inputs = draw(&mut random);
+        play(inputs.clone(), &mut random.fork(), &mut tally)
+            .unwrap_or_else(|fault| panic!("list of calls {i}, {inputs:?}: {fault}"));
+    }
+    // What was compared: runs to their end, each outcome, and each refusal of a search.
+    assert!(tally.runs > 1500 && tally.calls > 50_000 && tally.unsound > 2000, "{tally:?}");
+    assert!(tally.results.iter().all(|&times| times > 0), "{tally:?}");
+    assert!(tally.entered.iter().all(|&times| times > 100), "{tally:?}");
+    assert!((1..16).all(|number| tally.refused[number] > 0), "{tally:?}");
+}

@@ -1,0 +1,115 @@
+//! The search as a host meets it: its loop, its watcher, its refusals.
+#![allow(missing_docs)]
+
+use jinnychair::*;
+
+const K: FxFyCxCy = FxFyCxCy { fx: 1000.0, fy: 1000.0, cx: 640.0, cy: 480.0 };
+
+fn search(options: &Options) -> Search {
+    let center = Pt2 { x: K.cx, y: K.cy };
+    Search::start(&Inputs { views: 3, options, decomposition: &[], base: K, center }).unwrap()
+}
+
+/// One row, which is off by 1000 pixels a radian from −0.05, 0.01.
+fn solution(seed: &Seed) -> Solution {
+    let ScheimpflugParams { tilt_x, tilt_y } = seed.sensor;
+    let error = 1000.0 * (tilt_x + 0.05).hypot(tilt_y - 0.01);
+    Solution {
+        camera: PinholeCamera { k: K, dist: BrownConrady5::default() },
+        trig: seed.sensor.into(),
+        rows: vec![0.0, 0.0, K.cx + error, K.cy],
+        flags: vec![1],
+    }
+}
+
+#[test]
+fn run_and_a_loop_by_hand_end_alike() {
+    let options = Options::default();
+    let mut numbers = vec![];
+    let mut by_itself = search(&options);
+    let winner = by_itself
+        .run_watched(
+            |seed| (seed.sensor.tilt_x < 0.1).then(|| solution(seed)),
+            |tried| {
+                assert_eq!(tried.solution.is_none(), tried.seed.sensor.tilt_x >= 0.1);
+                assert_eq!(tried.solution.is_none(), tried.outcome.score().is_none());
+                numbers.push((tried.number, tried.round));
+            },
+        )
+        .unwrap();
+    assert_eq!(numbers.len(), by_itself.answered());
+    assert!(numbers.iter().enumerate().all(|(i, (number, _))| i == *number));
+    assert_eq!(numbers.last().unwrap().1, options.refine_rounds);
+
+    let mut by_hand = search(&options);
+    while let Handed::Candidate { number, seed } = by_hand.next().unwrap() {
+        assert_eq!((by_hand.answered(), by_hand.waiting()), (number, Some(seed)));
+        let found = (seed.sensor.tilt_x < 0.1).then(|| solution(&seed));
+        let finding = found.as_ref().map_or(Finding::Failed, Solution::finding);
+        let _ = by_hand.answer(&finding).unwrap();
+    }
+    assert_eq!(by_hand.result(), Ok(winner));
+    assert!((winner.sensor.tilt_x + 0.05).abs() <= 0.01);
+}
+
+#[test]
+fn a_refused_solution_waits_for_another() {
+    let mut search = search(&Options::default());
+    let mut asked = 0;
+    let refused = search.run(|seed| {
+        asked += 1;
+        let mut solution = solution(seed);
+        // Two is no flag.
+        solution.flags[0] += u8::from(asked == 4);
+        Some(solution)
+    });
+    assert_eq!(refused, Err(RunError::Answer(AnswerError::BadRows)));
+    assert_eq!((refused.unwrap_err().number(), search.answered()), (13, 3));
+    let waiting = search.waiting();
+    let mut first = None;
+    search
+        .run(|seed| {
+            first = first.or(Some(*seed));
+            Some(solution(seed))
+        })
+        .unwrap();
+    assert_eq!(first, waiting);
+}
+
+#[test]
+fn a_run_with_nothing_scored_says_so() {
+    let mut search = search(&Options::default());
+    assert_eq!(search.run(|_| None), Err(RunError::Next(NextError::NothingScored)));
+    assert_eq!(search.answered(), 45);
+}
+
+#[test]
+fn points_are_mapped_in_place_of_their_numbers() {
+    let trig = TiltTrig::from(ScheimpflugParams { tilt_x: 0.02, tilt_y: -0.01 });
+    let pixels: Vec<Pt2> = (0..5).map(|i| Pt2 { x: 100.0 * f64::from(i), y: 77.0 }).collect();
+    let mut mapped = [Pt2::default(); 7];
+    geometry::untilt_points(K, trig, &pixels, &mut mapped).unwrap();
+    let inverse = geometry::inverse(geometry::tilt_projection_matrix(trig)).unwrap();
+    for (pixel, mapped) in pixels.iter().zip(mapped) {
+        let ideal = geometry::apply_homography_inverse(inverse, K.pixel_to_sensor(*pixel));
+        assert_eq!(K.sensor_to_pixel(ideal), mapped);
+    }
+    assert_eq!(mapped[5..], [Pt2::default(); 2]);
+    let short = geometry::untilt_points(K, trig, &pixels, &mut mapped[..4]);
+    assert_eq!(short, Err(PointMapError::DestinationTooShort));
+    let many = vec![Pt2::default(); 401];
+    assert_eq!(
+        geometry::untilt_points(K, trig, &many, &mut many.clone()),
+        Err(PointMapError::BadPoints)
+    );
+    assert_eq!(geometry::observed_pixel_center(&pixels), Pt2 { x: 200.0, y: 38.5 });
+}
+
+#[test]
+fn undistorted_takes_twenty_steps() {
+    let lens = BrownConrady5 { k1: -0.2, k2: 0.04, k3: 0.0, p1: 0.001, p2: -0.001 };
+    let p = Pt2 { x: 0.3, y: -0.2 };
+    assert_eq!(lens.undistorted(p), lens.undistort(20, p));
+    let back = lens.distort(lens.undistorted(p));
+    assert!((back.x - p.x).hypot(back.y - p.y) < 1e-15);
+}
