@@ -1,0 +1,110 @@
+/* What the header says in words, tried: compiled as C11 and as C++17, and run. */
+#include "jinnychair.h"
+#include <math.h>
+#include <stdio.h>
+#include <string.h>
+
+static int failed = 0;
+
+static void claim(int holds, const char *words) {
+    if (!holds) {
+        printf("not so: %s\n", words);
+        failed = 1;
+    }
+}
+
+static int same(double a, double b) { return memcmp(&a, &b, sizeof a) == 0; }
+
+static const jc_intrinsics K = {1000.0, 900.0, 640.0, 480.0};
+static const jc_trig LEVEL = {0.0, 1.0, 0.0, 1.0};
+static const double TILTS[] = {-0.01, 0.01};
+
+static void geometry(void) {
+    jc_distortion b = {-0.2, 0.04, 0.01, 0.001, -0.002};
+    jc_pt2 p = {0.3, -0.2};
+    jc_pt2 inlined = jc_distort(b, p), called = jc_distort_numbers(b.k1, b.k2, b.k3, b.p1, b.p2, p.x, p.y);
+    claim(same(inlined.x, called.x) && same(inlined.y, called.y), "jc_distort is jc_distort_numbers");
+    jc_pt2 of_none = jc_undistort(b, 0, p), of_twenty = jc_undistort(b, 20, p);
+    claim(same(of_none.x, of_twenty.x) && same(of_none.y, of_twenty.y), "0 steps mean 20");
+
+    jc_matrix h = {1, 0, 0, 0, 1, 0, 0, 0, -2};
+    claim(jc_apply_homography(h, p).x == 0.3 / 1e-12, "forward a third number below 0 counts as 1e-12");
+    claim(jc_apply_homography_inverse(h, p).x == 0.3 / -2, "backward it is divided by");
+    jc_matrix none = {0, 0, 0, 0, 0, 0, 0, 0, 0};
+    jc_inverse_reply refused = jc_inverse(none);
+    claim(refused.number == JC_SINGULAR_TILT && refused.inverse.m00 == 0, "a refusal's other fields are 0");
+
+    const double line[] = {0, 0, 1, 1, 2, 2, 3, 3}, square[] = {0, 0, 1, 0, 1, 1, 0, 1};
+    claim(jc_points_are_collinear(line, 8).collinear == 1, "a line is one");
+    claim(jc_points_are_collinear(line, 4).collinear == 0, "two points aren't a line");
+    claim(jc_points_are_collinear(line, 7).number == JC_BAD_POINTS, "an odd length is 17");
+    double rows[4 * JC_DESIGN_NUMBERS + 1];
+    rows[4 * JC_DESIGN_NUMBERS] = 7.0;
+    claim(jc_design_rows(square, 8, square, 8, rows, 4 * JC_DESIGN_NUMBERS + 1) == 0, "a square has design rows");
+    claim(rows[2] == -1 && rows[3] == 0 && rows[9] == 0 && rows[14] == -1, "-x, -y, -1, 0, 0, 0, ... and 0, 0, 0, -x, -y, -1, ...");
+    claim(rows[4 * JC_DESIGN_NUMBERS] == 7.0, "the rest of a destination stays");
+    claim(jc_design_rows(line, 8, square, 8, rows, sizeof rows / 8) == JC_SOURCE_COLLINEAR, "a line has none");
+    claim(rows[2] == -1, "a refusal writes nothing");
+    const double pixels[] = {2, 4, 10, 6}, signed_pixels[] = {-2, 4, 10, 6};
+    claim(jc_observed_pixel_center(pixels, 4).center.x == 5, "half the greatest coordinate");
+    claim(jc_observed_pixel_center(signed_pixels, 4).center.x == 4, "the middle of the range where one is negative");
+    jc_conic conic = {1, 0, 1, -3, -1, 14};
+    claim(jc_conic_to_camera(conic).camera.cx == 3, "a conic's camera");
+}
+
+static void scores(void) {
+    jc_distortion d = {1, 2, 3, 0.3, -0.3};
+    jc_distortion damped = jc_damp_seed_distortion(d);
+    claim(damped.k1 == 0 && damped.p1 == 0.05 && damped.p2 == -0.05, "damping");
+    jc_scheimpflug_params tilts = {0.5, 0};
+    claim(jc_tilt_complexity(tilts) == 0.0625, "0.25 (tilt_x^2 + tilt_y^2)");
+    jc_pt2 nowhere = {INFINITY, 0};
+    claim(isnan(jc_principal_point_complexity(K, nowhere)), "a centre that isn't finite is NaN");
+    jc_pinhole_camera camera = {K, {0, 0, 0, 0, 0}};
+    const double row[] = {0, 0, 643, 484};
+    const uint8_t on[] = {1, 1}, off[] = {0};
+    claim(jc_mean_reproj_error(camera, LEVEL, row, 4, on, 2) == 5, "the mean ends at the shorter list");
+    claim(jc_mean_reproj_error(camera, LEVEL, row, 4, off, 1) == INFINITY, "none counted is infinity");
+    jc_trig singular = {1, 0, 0, 1};
+    claim(!isnan(jc_mean_reproj_error(camera, singular, row, 4, on, 1)), "the mean refuses no tilt");
+}
+
+static void search(void) {
+    jc_options options = {1, 0.005, 0.02};
+    jc_pt2 center = {640, 480};
+    double list[JC_MOST_LIST], seed[JC_SEED_NUMBERS];
+    size_t len = JC_LIST_LEN(0, 2, 2);
+    claim(len == 54, "nine seeds at least");
+    jc_start_flat s = jc_start(3, options, TILTS, 2, TILTS, 2, TILTS, 0, K, center, list, len);
+    claim(s.number == 0 && s.run.place.len == 4, "an empty decomposition is any array with the length 0");
+    claim(jc_start(3, options, TILTS, 2, TILTS, 2, TILTS, 0, K, center, list, len - 1).number == JC_LIST_TOO_SHORT, "8");
+    claim(jc_next(s.run, list, len - 1).number == JC_LIST_SHORTENED, "10");
+    claim(jc_result(s.run).number == JC_NOT_OVER, "14");
+
+    jc_next_flat n = jc_next(s.run, list, len);
+    claim(n.number == 0 && n.over == 0 && n.candidate == 0, "candidate 0");
+    claim(jc_seed(n.run, list, len, seed, 5) == 0 && jc_seed(n.run, list, len, seed, 6) == 6, "a seed needs room for six");
+    claim(seed[0] == K.fx && seed[4] == -0.01, "fx, fy, cx, cy, tilt x, tilt y");
+    jc_run_record odd = n.run;
+    odd.waiting.is_waiting = 7;
+    claim(jc_next(odd, list, len).number == JC_SEED_WAITING, "a record's flag is read as 0 or not 0");
+    claim(jc_next(odd, list, len).run.waiting.is_waiting == 1, "and written as 0 or 1");
+
+    jc_solved_camera solved = {{K, {0, 0, 0, 0, 0}}, LEVEL};
+    const double row[] = {0, 0, 643, 484};
+    const uint8_t one[] = {1}, two[] = {2};
+    claim(jc_answer(n.run, 1, solved, row, 4, two, 1, list, len).number == JC_BAD_ROWS, "a row's flag of 2 is 13");
+    claim(jc_answer(n.run, 0, solved, row, 3, two, 1, list, len).skipped == JC_SKIP_HOST_FAILED, "after a failure no row is read");
+    jc_answer_flat a = jc_answer(n.run, 9, solved, row, 4, one, 1, list, len);
+    claim(a.number == 0 && a.skipped == 0 && a.score > 5, "any is_solved but 0 is solved");
+    claim(jc_answer(a.run, 1, solved, row, 4, one, 1, list, len).number == JC_NO_SEED_WAITING, "12");
+}
+
+int main(void) {
+    claim(jc_is_compatible() && jc_version() == JC_VERSION, "the archive is the header's");
+    geometry();
+    scores();
+    search();
+    if (!failed) printf("the header's words hold\n");
+    return failed;
+}
