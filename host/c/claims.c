@@ -100,11 +100,47 @@ static void search(void) {
     claim(jc_answer(a.run, 1, solved, row, 4, one, 1, list, len).number == JC_NO_SEED_WAITING, "12");
 }
 
+/* Each limit is taken, and one more is refused. */
+static void limits(void) {
+    static double list[JC_MOST_LIST], numbers[JC_ROW_NUMBERS * (JC_MOST_ROWS + 1)];
+    static uint8_t flags[JC_MOST_ROWS + 1];
+    claim(jc_untilt_points(K, LEVEL, numbers, 2 * JC_MOST_POINTS, list, JC_MOST_LIST) == 0, "JC_MOST_POINTS");
+    claim(jc_untilt_points(K, LEVEL, numbers, 2 * JC_MOST_POINTS + 2, list, JC_MOST_LIST) == JC_BAD_POINTS, "JC_MOST_POINTS + 1");
+
+    double tilts[JC_MOST_TILTS + 1], seeds[JC_SEED_NUMBERS * (JC_MOST_SEEDS + 1)];
+    for (int i = 0; i <= JC_MOST_TILTS; i++) tilts[i] = 0.01 * i;
+    for (int i = 0; i <= JC_MOST_SEEDS; i++) {
+        double seed[JC_SEED_NUMBERS] = {1000.0 + i, 900, 640, 480, 0, 0};
+        memcpy(seeds + JC_SEED_NUMBERS * i, seed, sizeof seed);
+    }
+    jc_options most = {JC_MOST_ROUNDS, 0.01, 0.3}, more = {JC_MOST_ROUNDS + 1, 0.01, 0.3};
+    jc_pt2 center = {640, 480};
+    const size_t of_seeds = JC_SEED_NUMBERS * JC_MOST_SEEDS;
+    claim(JC_LIST_LEN(JC_MOST_SEEDS, JC_MOST_TILTS, JC_MOST_TILTS) == JC_MOST_LIST, "JC_MOST_LIST");
+    jc_start_flat s = jc_start(3, most, tilts, JC_MOST_TILTS, tilts, JC_MOST_TILTS, seeds, of_seeds, K, center, list, JC_MOST_LIST);
+    claim(s.number == 0 && s.run.place.len == JC_MOST_LIST / JC_SEED_NUMBERS - 1, "all limits at once; a seed is the grid's too");
+    claim(jc_start(3, more, tilts, 1, tilts, 1, seeds, 0, K, center, list, JC_MOST_LIST).number == JC_TOO_MANY, "JC_MOST_ROUNDS + 1");
+    claim(jc_start(3, most, tilts, JC_MOST_TILTS + 1, tilts, 1, seeds, 0, K, center, list, JC_MOST_LIST).number == JC_TOO_MANY,
+          "JC_MOST_TILTS + 1");
+    claim(jc_start(3, most, tilts, 1, tilts, 1, seeds, of_seeds + 6, K, center, list, JC_MOST_LIST).number == JC_TOO_MANY,
+          "JC_MOST_SEEDS + 1");
+
+    jc_run_record run = jc_next(s.run, list, JC_MOST_LIST).run;
+    jc_solved_camera solved = {{K, {0, 0, 0, 0, 0}}, LEVEL};
+    claim(jc_answer(run, 1, solved, numbers, JC_ROW_NUMBERS * JC_MOST_ROWS, flags, JC_MOST_ROWS, list, JC_MOST_LIST).number == 0,
+          "JC_MOST_ROWS");
+    claim(jc_answer(run, 1, solved, numbers, JC_ROW_NUMBERS * (JC_MOST_ROWS + 1), flags, JC_MOST_ROWS + 1, list, JC_MOST_LIST).number ==
+              JC_BAD_ROWS,
+          "JC_MOST_ROWS + 1");
+    claim(JC_MOST_ANSWERS == JC_MOST_LIST / JC_SEED_NUMBERS + 9 * JC_MOST_ROUNDS, "JC_MOST_ANSWERS");
+}
+
 int main(void) {
     claim(jc_is_compatible() && jc_version() == JC_VERSION, "the archive is the header's");
     geometry();
     scores();
     search();
+    limits();
     if (!failed) printf("the header's words hold\n");
     return failed;
 }

@@ -3,8 +3,9 @@
 
 use jinnychair::{
     BrownConrady5, FxFyCxCy, Inputs, Options, Outcome, PinholeCamera, Pt2, RunError,
-    ScheimpflugParams, Seed, Solution,
+    ScheimpflugParams, Seed, SkipReason, Solution,
 };
+use std::collections::BTreeSet;
 use std::path::{Path, PathBuf};
 use std::process::{Command, Output};
 use tool::doubts::doubts;
@@ -77,6 +78,14 @@ fn chart_shows_every_tilt_and_counts_the_skipped() {
         assert_eq!(svg.matches("<svg").count(), svg.matches("</svg>").count());
         assert_eq!(best(&finished.tried).unwrap().number, finished.winner.unwrap().number);
     }
+}
+
+#[test]
+fn every_skip_reason_has_a_letter_of_its_own() {
+    let of_reason = |reason: &SkipReason| table::letter(&Outcome::Skipped(*reason));
+    let letters: BTreeSet<char> = SkipReason::ALL.iter().map(of_reason).collect();
+    assert_eq!(letters.len(), SkipReason::ALL.len());
+    assert!(!letters.contains(&'?') && !letters.contains(&'S'));
 }
 
 #[test]
