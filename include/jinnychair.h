@@ -9,7 +9,7 @@
  * for its type and valid for the length, for reading, and where it is not const also for writing. What a call may write to overlaps nothing
  * else that it is given. Nothing else is asked of a caller: every number is taken, and every function returns.
  *
- * Replies. A number of 0 means that nothing is refused; the others are JC_TOO_FEW_VIEWS and so on below, and docs/NUMBERS.md says what to do.
+ * Replies. A number of 0 means that nothing is refused; the others are JC_TOO_FEW_VIEWS and so on below, and NUMBERS.md says what to do.
  * After a refusal nothing that was lent is changed, and fields of a reply that have no value are 0. Where several refusals apply, the first
  * of those that the function's comment names is given.
  *
