@@ -81,7 +81,8 @@ enum {
     JC_COUNTS_DIFFER = 23,         /* not as many destination points as source points */
     JC_SOURCE_COLLINEAR = 24,      /* the source points lie on a line */
     JC_DESTINATION_COLLINEAR = 25, /* the destination points lie on a line */
-    JC_NORMALIZING_FAILS = 26      /* the points can't be normalised */
+    JC_NORMALIZING_FAILS = 26,     /* the points can't be normalised */
+    JC_NO_SHARED_POWER = 34        /* no power of two makes whole numbers in their ranges of a camera's four */
 };
 
 /* Why a candidate isn't scored. */

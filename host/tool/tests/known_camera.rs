@@ -27,7 +27,7 @@ fn refuses_with_cause_and_remedy() {
         let output = known_camera(&words);
         assert!(output.status.code() == Some(1) && output.stdout.is_empty());
         let message = String::from_utf8(output.stderr).unwrap();
-        assert!(message.contains("(34)") && message.contains("800 808 640 -480"), "{message}");
+        assert!(message.contains("(34)") && message.contains("800, 808, 640, −480"), "{message}");
     }
 }
 
