@@ -81,7 +81,6 @@ enum {
     JC_COUNTS_DIFFER = 23,         /* not as many destination points as source points */
     JC_SOURCE_COLLINEAR = 24,      /* the source points lie on a line */
     JC_DESTINATION_COLLINEAR = 25, /* the destination points lie on a line */
-    JC_NORMALIZING_FAILS = 26,     /* the points can't be normalised */
     JC_NO_SHARED_POWER = 34        /* no power of two makes whole numbers in their ranges of a camera's four */
 };
 
@@ -325,7 +324,7 @@ jc_normalize_reply jc_normalize_points_2d(const double *points, size_t points_le
 jc_line_reply jc_points_are_collinear(const double *points, size_t points_len);
 /* The design matrix of the homography h from source to destination, both normalised: for each pair of points (x, y) and (u, v) two rows of
  * nine numbers, -x, -y, -1, 0, 0, 0, u x, u y, u and 0, 0, 0, -x, -y, -1, v x, v y, v, whose products with h, row by row, should be 0.
- * 0, or 17, 18, 20 to 26. */
+ * 0, or 17, 18, 20 to 25. */
 uint8_t jc_design_rows(const double *source, size_t source_len, const double *destination, size_t destination_len,
                        double *to, size_t to_len);
 /* The centre of the finite pixels: half the greatest coordinates, or, where one is negative, the middle of their range; 0, 0 where there are

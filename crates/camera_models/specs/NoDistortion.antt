@@ -1,17 +1,18 @@
 -- What the distortion does where all five coefficients are 0, each +0 or −0: `withoutDistortion`. Assumes nothing.
 use mathlib.Core.Path.{_≡_, refl, sym, ap, _∙_}
-use mathlib.Core.Bool.{Bool, true, false, not, cond, _&&_, Bool·beq, Bool·not-not, and-comm, true≢false}
-use Prim.Native.Nat.{zero, suc}
+use mathlib.Core.Bool.{Bool, true, false, not, cond, _&&_, Bool·beq, Bool·not-not, and-comm}
+use Prim.Native.Nat.{zero, suc, _*_}
 use native.Mathlib.Omega.{arith}
 use lib.Dec.{T, eqb·suc-zero}
 use lib.IntN.{pos}
-use lib.Ieee.{Float, nan, inf, fin, binary64, ofBits, fits, unlike, add, mul, eq}
+use lib.Ieee.{Float, nan, inf, fin, binary64, ofBits, fits, unlike, up, down, add, mul, eq}
 use Rattle.float.specs.Float.{isFinite, signBit}
-use Rattle.float.specs.Sign.{eq-zero, fits-zero}
+use Rattle.float.specs.Sign.{eq-zero, fits-zero, sign-round, sign-add, sign-mul, sign-square}
 use Rattle.float.specs.Literals.{plusZero, one₆₄, two₆₄, zeroOf}
 use Rattle.float.specs.Binary64.{_+₆₄_, _*₆₄_}
-use Rattle.float.specs.Zero.{mul-nan, add-nan, finite-factors, finite-terms, zero-times, times-zero, zero-times-other, zeros-add, plusZeroUnless, add-zero, mul-one₆₄, Signed, mul-signed, add-signed}
-use Rattle.float.specs.Bound.{AtMost, AtLeast, at-most-unless, at-most-finite, mul-at-most, square-at-least, square-overflows, add-at-least, add-at-least′, add-at-most}
+use Rattle.float.specs.Zero.{mul-nan, add-nan, finite-factors, zero-times, times-zero, zero-times-other, zeros-add, plusZeroUnless, add-zero, mul-one₆₄}
+use Rattle.float_laws.specs.Reaches.{Reaches, zero-reached, below-back, finite-below, mul-reaches, squares-reach}
+use Rattle.float_laws.specs.Limited.{Limited, below-limited, mul-limited, add-limited}
 use Rattle.camera_models.specs.Distortion.{squaredNorm, radialFactor, tangentialX, tangentialY, distorted}
 use Rattle.camera_models.specs.declared.math.Pt2.{Pt2}
 use Rattle.camera_models.specs.declared.distortion.BrownConrady5.{BrownConrady5}
@@ -59,79 +60,62 @@ unfolding radialFactor
 radial-nan b p z f = rw (zero-times-other (b .k3) (sixthPower p) (z .1 .1 .0) f) (add-nan binary64 _)
 
 -- ---- what the tangential parts multiply by 0 is a number that is not negative
-square-signed : (x : Float) → Signed false (x *₆₄ x)
-square-signed nan = unfold mul in tt
-square-signed (inf true) = mul-signed binary64 true true (inf true) (inf true) refl refl
-square-signed (inf false) = mul-signed binary64 false false (inf false) (inf false) refl refl
-square-signed (fin true m e) = mul-signed binary64 true true (fin true m e) (fin true m e) refl refl
-square-signed (fin false m e) = mul-signed binary64 false false (fin false m e) (fin false m e) refl refl
+norm-signed : (p : Pt2) → signBit (squaredNorm p) ≡ false
+norm-signed p = sign-add binary64 (p .x *₆₄ p .x) (p .y *₆₄ p .y) (sign-square binary64 (p .x)) (sign-square binary64 (p .y))
 
-signed-two : Signed false two₆₄
-unfolding ofBits
-signed-two = refl
+sign-twice : (x : Float) → signBit (two₆₄ *₆₄ x) ≡ signBit x
+unfolding signBit mul ofBits
+sign-twice nan = refl
+sign-twice (inf true) = refl
+sign-twice (inf false) = refl
+sign-twice (fin true m e) = sign-round binary64 true (2 * (m * up e)) (1 * down e)
+sign-twice (fin false m e) = sign-round binary64 false (2 * (m * up e)) (1 * down e)
 
-twice-square-signed : (x : Float) → Signed false (two₆₄ *₆₄ x *₆₄ x)
-twice-square-signed nan = rw (mul-nan binary64 (two₆₄ *₆₄ nan)) tt
-twice-square-signed (inf true) = mul-signed binary64 true true (two₆₄ *₆₄ inf true) (inf true) (mul-signed binary64 false true two₆₄ (inf true) signed-two refl) refl
-twice-square-signed (inf false) = mul-signed binary64 false false (two₆₄ *₆₄ inf false) (inf false) (mul-signed binary64 false false two₆₄ (inf false) signed-two refl) refl
-twice-square-signed (fin true m e) = mul-signed binary64 true true (two₆₄ *₆₄ fin true m e) (fin true m e) (mul-signed binary64 false true two₆₄ (fin true m e) signed-two refl) refl
-twice-square-signed (fin false m e) = mul-signed binary64 false false (two₆₄ *₆₄ fin false m e) (fin false m e) (mul-signed binary64 false false two₆₄ (fin false m e) signed-two refl) refl
+bracket-signed : (p : Pt2) (x : Float) → signBit (squaredNorm p +₆₄ two₆₄ *₆₄ x *₆₄ x) ≡ false
+bracket-signed p x = sign-add binary64 (squaredNorm p) (two₆₄ *₆₄ x *₆₄ x) (norm-signed p) (sign-mul binary64 (two₆₄ *₆₄ x) x (sign-twice x))
 
-norm-signed : (p : Pt2) → Signed false (squaredNorm p)
-norm-signed p = add-signed binary64 (p .x *₆₄ p .x) (p .y *₆₄ p .y) (square-signed (p .x)) (square-signed (p .y))
+-- 2 ^ 256: a coordinate of that size makes r4 overflow
+abbrev large : Float
+large = ofBits binary64 0x4ff0_0000_0000_0000
 
-bracket-signed : (p : Pt2) (x : Float) → Signed false (squaredNorm p +₆₄ two₆₄ *₆₄ x *₆₄ x)
-bracket-signed p x = add-signed binary64 (squaredNorm p) (two₆₄ *₆₄ x *₆₄ x) (norm-signed p) (twice-square-signed x)
+overflow : (let n = large *₆₄ large +₆₄ plusZero *₆₄ plusZero in n *₆₄ n ≡ inf false) × (let n = plusZero *₆₄ plusZero +₆₄ large *₆₄ large in n *₆₄ n ≡ inf false)
+unfolding ofBits mul add
+overflow = (refl, refl)
 
-two-small : AtMost 1 two₆₄
-unfolding ofBits
-two-small = omega arith
+r4-reaches : (p : Pt2) (a b : Float) → Reaches (p .x) a → Reaches (p .y) b → let n = a *₆₄ a +₆₄ b *₆₄ b in Reaches (squaredNorm p *₆₄ squaredNorm p) (n *₆₄ n)
+r4-reaches p a b h k = let r = squares-reach binary64 (p .x) (p .y) a b h k in mul-reaches binary64 (squaredNorm p) (squaredNorm p) _ _ r r
 
--- a coordinate of 2 ^ 256 or more makes r4 overflow
+-- and of smaller ones what the tangential parts have doesn't overflow
+no-overflow :
+    let n = large *₆₄ large +₆₄ large *₆₄ large in
+    (isFinite (large *₆₄ large) ≡ true) × ((isFinite n ≡ true) × ((isFinite (two₆₄ *₆₄ large) ≡ true) × ((isFinite (two₆₄ *₆₄ large *₆₄ large) ≡ true) × (isFinite (n +₆₄ two₆₄ *₆₄ large *₆₄ large) ≡ true))))
+unfolding ofBits mul add isFinite
+no-overflow = (refl, (refl, (refl, (refl, refl))))
+
+two-limited : Limited two₆₄ two₆₄
+unfolding ofBits isFinite
+two-limited = record { finite = refl; reached = omega arith }
+
 module _ (p : Pt2) (f : isFinite (squaredNorm p *₆₄ squaredNorm p) ≡ true) where
-  norm-finite : isFinite (squaredNorm p) ≡ true
-  norm-finite = finite-factors binary64 (squaredNorm p) (squaredNorm p) f .0
+  small-x : Limited large (p .x)
+  small-x = below-limited (p .x) large (below-back (p .x) large (squaredNorm p *₆₄ squaredNorm p) (inf false) (λ r. rw (overflow .0) at (r4-reaches p large plusZero r (zero-reached (p .y)))) (finite-below _ f))
 
-  squares-finite : (isFinite (p .x *₆₄ p .x) ≡ true) × (isFinite (p .y *₆₄ p .y) ≡ true)
-  squares-finite = finite-terms binary64 (p .x *₆₄ p .x) (p .y *₆₄ p .y) norm-finite
+  small-y : Limited large (p .y)
+  small-y = below-limited (p .y) large (below-back (p .y) large (squaredNorm p *₆₄ squaredNorm p) (inf false) (λ r. rw (overflow .1) at (r4-reaches p plusZero large (zero-reached (p .x)) r)) (finite-below _ f))
 
-  no-overflow : AtLeast 512 (squaredNorm p) → ⊥
-  no-overflow h = true≢false (sym f ∙ square-overflows (squaredNorm p) h)
-
-  small-x : AtMost 256 (p .x)
-  small-x =
-      at-most-unless 256 (p .x) (finite-factors binary64 (p .x) (p .x) (squares-finite .0) .0)
-      (λ h. no-overflow (add-at-least 512 (p .x *₆₄ p .x) (p .y *₆₄ p .y) (square-signed (p .x)) (square-signed (p .y)) (squares-finite .1) (square-at-least 256 (p .x) h (omega arith)) (omega arith)))
-
-  small-y : AtMost 256 (p .y)
-  small-y =
-      at-most-unless 256 (p .y) (finite-factors binary64 (p .y) (p .y) (squares-finite .1) .0)
-      (λ h. no-overflow (add-at-least′ 512 (p .x *₆₄ p .x) (p .y *₆₄ p .y) (square-signed (p .x)) (square-signed (p .y)) (squares-finite .0) (square-at-least 256 (p .y) h (omega arith)) (omega arith)))
-
-  small-norm : AtMost 513 (squaredNorm p)
-  small-norm =
-      add-at-most 512 (p .x *₆₄ p .x) (p .y *₆₄ p .y) (square-signed (p .x)) (square-signed (p .y))
-      (mul-at-most 256 256 (p .x) (p .x) small-x small-x (omega arith)) (mul-at-most 256 256 (p .y) (p .y) small-y small-y (omega arith)) (omega arith)
-
-  bracket-finite : (x : Float) → AtMost 256 x → isFinite (squaredNorm p +₆₄ two₆₄ *₆₄ x *₆₄ x) ≡ true
+  bracket-finite : (x : Float) → Limited large x → isFinite (squaredNorm p +₆₄ two₆₄ *₆₄ x *₆₄ x) ≡ true
   bracket-finite x h =
-      at-most-finite 514 (squaredNorm p +₆₄ two₆₄ *₆₄ x *₆₄ x)
-      (add-at-most 513 (squaredNorm p) (two₆₄ *₆₄ x *₆₄ x) (norm-signed p) (twice-square-signed x) small-norm
-      (mul-at-most 257 256 (two₆₄ *₆₄ x) x (mul-at-most 1 256 two₆₄ x two-small h (omega arith)) h (omega arith)) (omega arith))
+      let norm = add-limited (sign-square binary64 large) (sign-square binary64 large) (mul-limited small-x small-x (no-overflow .0)) (mul-limited small-y small-y (no-overflow .0)) (no-overflow .1 .0) in
+      let twice = mul-limited (mul-limited two-limited h (no-overflow .1 .1 .0)) h (no-overflow .1 .1 .1 .0) in
+      add-limited (norm-signed (record { x = large; y = large })) (sign-mul binary64 (two₆₄ *₆₄ large) large (sign-twice large)) norm twice (no-overflow .1 .1 .1 .1) .finite
 
 -- ---- both tangential parts are zeros
-unsigned : (x : Float) → Signed false x → signBit x ≡ false
-unfolding signBit
-unsigned nan h = refl
-unsigned (inf s) h = h
-unsigned (fin s m e) h = h
-
 unlike-false : (s : Bool) → unlike s false ≡ s
 unlike-false true = refl
 unlike-false false = refl
 
-zero-by-positive : (k x : Float) → eq k plusZero ≡ true → isFinite x ≡ true → Signed false x → k *₆₄ x ≡ zeroOf (signBit k)
-zero-by-positive k x z f h = rw (zero-times k x z f, unsigned x h, unlike-false (signBit k))
+zero-by-positive : (k x : Float) → eq k plusZero ≡ true → isFinite x ≡ true → signBit x ≡ false → k *₆₄ x ≡ zeroOf (signBit k)
+zero-by-positive k x z f h = rw (zero-times k x z f, h, unlike-false (signBit k))
 
 twice-zero : (k : Float) → eq k plusZero ≡ true → two₆₄ *₆₄ k ≡ zeroOf (signBit k)
 unfolding ofBits isFinite signBit
@@ -148,8 +132,8 @@ productSign k p = unlike (unlike (signBit k) (signBit (p .x))) (signBit (p .y))
 module _ (b : BrownConrady5) (p : Pt2) (z : AllZero b) (f : isFinite (squaredNorm p *₆₄ squaredNorm p) ≡ true) where
   zero-product : (k : Float) → eq k plusZero ≡ true → two₆₄ *₆₄ k *₆₄ p .x *₆₄ p .y ≡ zeroOf (productSign k p)
   zero-product k h =
-      rw (twice-zero k h, zero-by (signBit k) (p .x) (at-most-finite 256 (p .x) (small-x p f)))
-      (zero-by (unlike (signBit k) (signBit (p .x))) (p .y) (at-most-finite 256 (p .y) (small-y p f)))
+      rw (twice-zero k h, zero-by (signBit k) (p .x) (small-x p f .finite))
+      (zero-by (unlike (signBit k) (signBit (p .x))) (p .y) (small-y p f .finite))
 
   tangential-x : tangentialX b p ≡ zeroOf (productSign (b .p1) p && signBit (b .p2))
   unfolding tangentialX

@@ -88,7 +88,7 @@ pub extern "C" fn jc_points_are_collinear(points: &[f64]) -> LineReply
     line_reply(point_homography::points_are_collinear(points))
 }
 
-// The design rows at the front of `to`, 18 numbers a point; 0, or 17, 18 or 20 to 26.
+// The design rows at the front of `to`, 18 numbers a point; 0, or 17, 18 or 20 to 25.
 #[no_mangle]
 pub extern "C" fn jc_design_rows(source: &[f64], destination: &[f64], to: &mut [f64]) -> u8
     ensures number { λ r. ⌜ r ≡ rowsNumber (rowsReply (now (source .entry)) (now (destination .entry)) (length (now (to .entry)))) ⌝ }

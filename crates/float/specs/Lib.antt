@@ -1,7 +1,6 @@
 pub mod Literals
 pub mod Float
 pub mod Zero
-pub mod Bound
 pub mod Order
 pub mod Nan
 pub mod Sign

@@ -1,14 +1,14 @@
 -- Laws of signs, zeros and magnitudes. Assumes nothing.
 use mathlib.Core.Path.{_≡_, refl, sym, ap, _∙_}
-use mathlib.Core.Bool.{Bool, true, false, not, cond, _&&_, true≢false}
-use Prim.Native.Nat.{ℕ, zero, suc, _+_, _-_, _*_, _/_, _%_, _^_, _<_, compare}
+use mathlib.Core.Bool.{Bool, true, false, not, cond, _&&_, Bool·beq, true≢false}
+use Prim.Native.Nat.{ℕ, zero, suc, _+_, _-_, _*_, _^_, _<_}
 use native.Mathlib.Omega.{arith}
 use native.Mathlib.Nat.{mul-pos, mul-one}
 use borrow.Author.Tests.{lt-ltb, le-ltb, eq-eqb, ne-eqb}
 use lib.Dec.{T, ltb, eqb, eqb·suc-zero, eqb→eq}
 use lib.Pow.{pow-lt}
 use lib.IntN.{ℤ, pos, negsuc}
-use lib.Ieee.{Float, nan, inf, fin, Format, binary64, prec, emax, low, ofBits, lt, le, eq, neg, isNan, add, sub, sum, mul, div, ofInt, round, units, odd, nearest, size, up, down, fits}
+use lib.Ieee.{Float, nan, inf, fin, Format, binary64, prec, emax, low, ofBits, lt, le, eq, neg, isNan, add, sub, sum, mul, div, ofInt, round, units, odd, unlike, up, down, fits}
 use lib.Ieee.Fits.{up-pos, down-pos}
 use lib.Ieee.Scale.{round-same}
 use Rattle.float.specs.Literals.{plusZero}
@@ -73,57 +73,65 @@ abs-neg nan = refl
 abs-neg (inf s) = refl
 abs-neg (fin s m e) = refl
 
-abs-odd : (d : ℕ) (s t : Bool) (q k l : ℕ) → absOf (odd d s q k l) ≡ absOf (odd d t q k l)
+abs-odd : (d : ℕ) (s : Bool) (q k l : ℕ) → absOf (odd d s q k l) ≡ odd d false q k l
 unfolding absOf odd
-abs-odd d s t zero k l = refl
-abs-odd d s t (suc q) k l = refl
+abs-odd d s zero k l = refl
+abs-odd d s (suc q) k l = refl
 
--- two choices by one test, alike in each case
-abs-cond : (c : Bool) (x y z w : Float) → absOf x ≡ absOf y → absOf z ≡ absOf w → absOf (cond c x z) ≡ absOf (cond c y w)
-abs-cond true x y z w h k = h
-abs-cond false x y z w h k = k
+abs-cond : (c : Bool) (x y : Float) → absOf (cond c x y) ≡ cond c (absOf x) (absOf y)
+abs-cond true x y = refl
+abs-cond false x y = refl
 
-abs-inf : (s t : Bool) → absOf (inf s) ≡ absOf (inf t)
+abs-inf : (s : Bool) → absOf (inf s) ≡ inf false
 unfolding absOf
-abs-inf s t = refl
+abs-inf s = refl
 
-abs-round : (f : Format) (s t : Bool) (a c : ℕ) → absOf (round f s a c) ≡ absOf (round f t a c)
-unfolding round units
-abs-round f s t a c =
-    let k = size (a * 2 ^ low f / c) - prec f in
-    let u = c * 2 ^ k in
-    let q = nearest (a * 2 ^ low f / u) (compare (a * 2 ^ low f % u * 2) u) in
-    abs-cond (ltb (q * 2 ^ k) (2 ^ (low f + suc (emax f)))) (odd (suc (prec f)) s q k (low f)) (odd (suc (prec f)) t q k (low f)) (inf s) (inf t)
-    (abs-odd (suc (prec f)) s t q k (low f)) (abs-inf s t)
+abs-units : (f : Format) (s : Bool) (q k : ℕ) → absOf (units f s q k) ≡ units f false q k
+unfolding units
+abs-units f s q k =
+    let c = ltb (q * 2 ^ k) (2 ^ (low f + suc (emax f))) in
+    abs-cond c (odd (suc (prec f)) s q k (low f)) (inf s) ∙ (λ i. cond c (abs-odd (suc (prec f)) s q k (low f) i) (abs-inf s i))
 
-abs-sum : (f : Format) (s : Bool) (a : ℕ) (t : Bool) (b c : ℕ) → absOf (sum f (not s) a (not t) b c) ≡ absOf (sum f s a t b c)
+pub abs-round : (f : Format) (s : Bool) (a c : ℕ) → absOf (round f s a c) ≡ round f false a c
+unfolding round
+abs-round f s a c = abs-units f s _ _
+
+abs-sum : (f : Format) (s : Bool) (a : ℕ) (t : Bool) (b c : ℕ) → absOf (sum f s a t b c) ≡ cond (Bool·beq s t) (round f false (a + b) c) (cond (ltb a b) (round f false (b - a) c) (round f false (a - b) c))
 unfolding sum
-abs-sum f true a true b c = abs-round f false true (a + b) c
-abs-sum f false a false b c = abs-round f true false (a + b) c
-abs-sum f true a false b c =
-    abs-cond (ltb a b) (round f true (b - a) c) (round f false (b - a) c) (round f false (a - b) c) (round f (ltb b a) (a - b) c)
-    (abs-round f true false (b - a) c) (abs-round f false (ltb b a) (a - b) c)
-abs-sum f false a true b c =
-    abs-cond (ltb a b) (round f false (b - a) c) (round f true (b - a) c) (round f (ltb b a) (a - b) c) (round f false (a - b) c)
-    (abs-round f false true (b - a) c) (abs-round f (ltb b a) false (a - b) c)
+abs-sum f true a true b c = abs-round f true (a + b) c
+abs-sum f false a false b c = abs-round f false (a + b) c
+abs-sum f true a false b c = abs-cond (ltb a b) (round f false (b - a) c) (round f (ltb b a) (a - b) c) ∙ (λ i. cond (ltb a b) (abs-round f false (b - a) c i) (abs-round f (ltb b a) (a - b) c i))
+abs-sum f false a true b c = abs-cond (ltb a b) (round f true (b - a) c) (round f false (a - b) c) ∙ (λ i. cond (ltb a b) (abs-round f true (b - a) c i) (abs-round f false (a - b) c i))
+
+beq-not : (s t : Bool) → Bool·beq (not s) (not t) ≡ Bool·beq s t
+beq-not true true = refl
+beq-not true false = refl
+beq-not false true = refl
+beq-not false false = refl
 
 pub abs-sub-neg : (f : Format) (x y : Float) → absOf (sub f (neg x) (neg y)) ≡ absOf (sub f x y)
 unfolding sub add neg
 abs-sub-neg f nan y = refl
 abs-sub-neg f (inf s) nan = refl
 abs-sub-neg f (inf true) (inf true) = refl
-abs-sub-neg f (inf true) (inf false) = abs-inf false true
-abs-sub-neg f (inf false) (inf true) = abs-inf true false
+abs-sub-neg f (inf true) (inf false) = abs-inf false ∙ sym (abs-inf true)
+abs-sub-neg f (inf false) (inf true) = abs-inf true ∙ sym (abs-inf false)
 abs-sub-neg f (inf false) (inf false) = refl
-abs-sub-neg f (inf s) (fin t n d) = abs-inf (not s) s
+abs-sub-neg f (inf s) (fin t n d) = abs-inf (not s) ∙ sym (abs-inf s)
 abs-sub-neg f (fin s m e) nan = refl
-abs-sub-neg f (fin s m e) (inf t) = abs-inf (not (not t)) (not t)
-abs-sub-neg f (fin s m e) (fin t n d) = abs-sum f s (m * up e * down d) (not t) (n * up d * down e) (down e * down d)
+abs-sub-neg f (fin s m e) (inf t) = abs-inf (not (not t)) ∙ sym (abs-inf (not t))
+abs-sub-neg f (fin s m e) (fin t n d) =
+    let a = m * up e * down d in
+    let b = n * up d * down e in
+    let c = down e * down d in
+    abs-sum f (not s) a (not (not t)) b c
+    ∙ ap (λ (like : Bool). cond like (round f false (a + b) c) (cond (ltb a b) (round f false (b - a) c) (round f false (a - b) c))) (beq-not s (not t))
+    ∙ sym (abs-sum f s a (not t) b c)
 
 -- ---- a number less itself is 0, and a value plus 0 keeps its magnitude
 round-zero : (s : Bool) (c : ℕ) → 0 < c → absOf (round binary64 s 0 c) ≡ plusZero
 unfolding round ofBits absOf
-round-zero s c h = abs-round binary64 s false 0 c ∙ ap absOf (round-same binary64 false 0 c 0 1 h (omega arith) (omega arith))
+round-zero s c h = abs-round binary64 s 0 c ∙ round-same binary64 false 0 c 0 1 h (omega arith) (omega arith)
 
 pub abs-sub-self : (x : Float) → isFinite x ≡ true → absOf (sub binary64 x x) ≡ plusZero
 unfolding sub isFinite
@@ -188,7 +196,7 @@ pub sign-round : (f : Format) (s : Bool) (a b : ℕ) → signBit (round f s a b)
 unfolding round
 sign-round f s a b = sign-units f s _ _
 
--- ---- no minus among the operands, none in the result; and none in a square
+-- ---- no minus among the operands, none in the result; and none in a product of like signs
 pub sign-add : (f : Format) (x y : Float) → signBit x ≡ false → signBit y ≡ false → signBit (add f x y) ≡ false
 unfolding signBit add sum
 sign-add f nan y h k = refl
@@ -203,13 +211,26 @@ sign-add f (fin true m e) (fin t n d) h k = absurd (true≢false h)
 sign-add f (fin false m e) (fin true n d) h k = absurd (true≢false k)
 sign-add f (fin false m e) (fin false n d) h k = sign-round f false (m * up e * down d + n * up d * down e) (down e * down d)
 
-pub sign-square : (f : Format) (x : Float) → signBit (mul f x x) ≡ false
+unlike-same : {s t : Bool} → s ≡ t → unlike s t ≡ false
+unlike-same {s} {t} h = rw h (go t)
+  where
+    go : (t : Bool) → unlike t t ≡ false
+    go true = refl
+    go false = refl
+
+-- of like signs
+pub sign-mul : (f : Format) (x y : Float) → signBit x ≡ signBit y → signBit (mul f x y) ≡ false
 unfolding signBit mul
-sign-square f nan = refl
-sign-square f (inf true) = refl
-sign-square f (inf false) = refl
-sign-square f (fin true m e) = sign-round f false (m * up e * (m * up e)) (down e * down e)
-sign-square f (fin false m e) = sign-round f false (m * up e * (m * up e)) (down e * down e)
+sign-mul f nan y h = refl
+sign-mul f (inf s) nan h = refl
+sign-mul f (inf s) (inf t) h = unlike-same h
+sign-mul f (inf s) (fin t n d) h = sign-cond (eqb n 0) nan (inf (unlike s t)) false refl (unlike-same h)
+sign-mul f (fin s m e) nan h = refl
+sign-mul f (fin s m e) (inf t) h = sign-cond (eqb m 0) nan (inf (unlike s t)) false refl (unlike-same h)
+sign-mul f (fin s m e) (fin t n d) h = sign-round f (unlike s t) (m * up e * (n * up d)) (down e * down d) ∙ unlike-same h
+
+pub sign-square : (f : Format) (x : Float) → signBit (mul f x x) ≡ false
+sign-square f x = sign-mul f x x refl
 
 pub sign-div : (f : Format) (x y : Float) → signBit x ≡ false → signBit y ≡ false → signBit (div f x y) ≡ false
 unfolding signBit div
@@ -236,7 +257,7 @@ unfolding ofInt
 sign-count f n = sign-round f false n 1
 
 -- ---- a number that clamping to ±b gives has a magnitude of at most b
-abs-unsigned : (x : Float) → signBit x ≡ false → absOf x ≡ x
+pub abs-unsigned : (x : Float) → signBit x ≡ false → absOf x ≡ x
 unfolding absOf signBit
 abs-unsigned nan h = refl
 abs-unsigned (inf s) h = ap inf (sym h)

@@ -1,13 +1,13 @@
--- What NaN, a zero and 1 do in sums and products, and signs of sums and products. Assumes nothing.
-use mathlib.Core.Path.{_≡_, refl, sym, _∙_, subst}
+-- What NaN, a zero and 1 do in sums and products. Assumes nothing.
+use mathlib.Core.Path.{_≡_, refl, sym, _∙_}
 use mathlib.Core.Bool.{Bool, true, false, not, _&&_, Bool·beq, cond, true≢false}
-use Prim.Native.Nat.{ℕ, zero, suc, _+_, _-_, _*_, _/_, _%_, _^_, _<_, compare}
+use Prim.Native.Nat.{ℕ, zero, suc, _-_, _*_, _<_}
 use native.Mathlib.Nat.{mul-one, zero-mul, mul-zero, mul-pos, zero-lt-suc, add-zero as nat-add-zero}
 use native.Mathlib.Omega.{arith}
 use borrow.Author.Tests.{lt-ltb, le-ltb}
-use lib.Dec.{T, ltb, eqb, eqb·suc-zero}
+use lib.Dec.{T, eqb, eqb·suc-zero}
 use lib.IntN.{ℤ, pos}
-use lib.Ieee.{Float, nan, inf, fin, Format, binary64, ofBits, up, down, unlike, fits, low, prec, emax, size, nearest, odd, units, round, sum, add, mul, eq}
+use lib.Ieee.{Float, nan, inf, fin, Format, binary64, ofBits, up, down, unlike, fits, round, sum, add, mul, eq}
 use lib.Ieee.Fits.{up-pos, down-pos}
 use lib.Ieee.Scale.{round-same}
 use Rattle.float.specs.Float.{isFinite, signBit}
@@ -150,57 +150,3 @@ mul-one₆₄ (inf false) h = refl
 mul-one₆₄ (fin s zero e) h = zero-by-one s e (fits-zero s e h)
 mul-one₆₄ (fin true (suc m) e) h = simp (mul-one (suc m * up e), mul-one (down e)) (round-own binary64 true m e h)
 mul-one₆₄ (fin false (suc m) e) h = simp (mul-one (suc m * up e), mul-one (down e)) (round-own binary64 false m e h)
-
--- ---- signs: what is 0 or more, or NaN
-abbrev pub Signed : Bool → Float → Type 0
-Signed s nan = Unit {0}
-Signed s (inf t) = t ≡ s
-Signed s (fin t m e) = t ≡ s
-
-odd-signed : (d : ℕ) (s : Bool) (q k l : ℕ) → Signed s (odd d s q k l)
-unfolding odd
-odd-signed d s zero k l = refl
-odd-signed d s (suc q) k l = refl
-
-cond-signed : (s c : Bool) (x y : Float) → Signed s x → Signed s y → Signed s (cond c x y)
-cond-signed s true x y h k = h
-cond-signed s false x y h k = k
-
-pub round-signed : (f : Format) (s : Bool) (a c : ℕ) → Signed s (round f s a c)
-unfolding round units
-round-signed f s a c =
-    let k = size (a * 2 ^ low f / c) - prec f in
-    let u = c * 2 ^ k in
-    let q = nearest (a * 2 ^ low f / u) (compare (a * 2 ^ low f % u * 2) u) in
-    cond-signed s (ltb (q * 2 ^ k) (2 ^ (low f + suc (emax f)))) (odd (suc (prec f)) s q k (low f)) (inf s) (odd-signed (suc (prec f)) s q k (low f)) refl
-
-same-sign : (s t : Bool) (x : Float) → s ≡ t → Signed s x → Signed t x
-same-sign s t x h k = subst (λ (u : Bool). Signed u x) h k
-
-sum-signed : (f : Format) (a b c : ℕ) → Signed false (sum f false a false b c)
-unfolding sum
-sum-signed f a b c = round-signed f false (a + b) c
-
-pub mul-signed : (f : Format) (s t : Bool) (x y : Float) → Signed s x → Signed t y → Signed (unlike s t) (mul f x y)
-unfolding mul
-mul-signed f s t nan y h k = tt
-mul-signed f s t (inf u) nan h k = tt
-mul-signed f s t (inf u) (inf v) h k = λ i. unlike (h i) (k i)
-mul-signed f s t (inf u) (fin v n d) h k = cond-signed (unlike s t) (eqb n 0) nan (inf (unlike u v)) tt (λ i. unlike (h i) (k i))
-mul-signed f s t (fin u m e) nan h k = tt
-mul-signed f s t (fin u m e) (inf v) h k = cond-signed (unlike s t) (eqb m 0) nan (inf (unlike u v)) tt (λ i. unlike (h i) (k i))
-mul-signed f s t (fin u m e) (fin v n d) h k = same-sign (unlike u v) (unlike s t) (round f (unlike u v) (m * up e * (n * up d)) (down e * down d)) (λ i. unlike (h i) (k i)) (round-signed f (unlike u v) (m * up e * (n * up d)) (down e * down d))
-
-pub add-signed : (f : Format) (x y : Float) → Signed false x → Signed false y → Signed false (add f x y)
-unfolding add
-add-signed f nan y h k = tt
-add-signed f (inf s) nan h k = tt
-add-signed f (inf true) (inf t) h k = absurd (true≢false h)
-add-signed f (inf false) (inf true) h k = absurd (true≢false k)
-add-signed f (inf false) (inf false) h k = refl
-add-signed f (inf s) (fin t n d) h k = h
-add-signed f (fin s m e) nan h k = tt
-add-signed f (fin s m e) (inf t) h k = k
-add-signed f (fin true m e) (fin t n d) h k = absurd (true≢false h)
-add-signed f (fin false m e) (fin true n d) h k = absurd (true≢false k)
-add-signed f (fin false m e) (fin false n d) h k = sum-signed f (m * up e * down d) (n * up d * down e) (down e * down d)

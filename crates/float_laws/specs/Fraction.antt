@@ -23,6 +23,9 @@ x ⊕ y = record { plus = x .plus * y .den + y .plus * x .den; minus = x .minus 
 abbrev pub _⊗_ : Fraction → Fraction → Fraction
 x ⊗ y = record { plus = x .plus * y .plus + x .minus * y .minus; minus = x .plus * y .minus + x .minus * y .plus; den = x .den * y .den }
 
+abbrev pub opposite : Fraction → Fraction
+opposite x = record { plus = x .minus; minus = x .plus; den = x .den }
+
 -- x is at most y + k / t
 abbrev pub Over : ℕ → ℕ → Fraction → Fraction → Type 0
 Over t k x y = t * (x .plus * y .den + y .minus * x .den) ≤ t * (y .plus * x .den + x .minus * y .den) + k * (x .den * y .den)
@@ -108,6 +111,9 @@ near-scale {t} {k} {l} {x} {X} y g s = record {
   high = over-scale t k l (x .plus) (x .minus) (x .den) (X .plus) (X .minus) (X .den) (y .plus) (y .minus) (y .den) (g .high) (g .low) s;
   low = over-scale t k l (X .plus) (X .minus) (X .den) (x .plus) (x .minus) (x .den) (y .plus) (y .minus) (y .den) (g .low) (g .high) s;
 }
+
+pub near-opposite : {t k : ℕ} {x y : Fraction} → Near t k x y → Near t k (opposite x) (opposite y)
+near-opposite {t} {k} {x} {y} h = record { high = simp ring (omega (arith, simp ring at (h .low))); low = simp ring (omega (arith, simp ring at (h .high))) }
 
 pub near-weaken : {t k l : ℕ} {x y : Fraction} → k ≤ l → Near t k x y → Near t l x y
 near-weaken {t} {k} {l} {x} {y} m h = record {

@@ -9,7 +9,7 @@ use native.Mathlib.Omega.{arith}
 use lib.Dec.{T, leb, leb→le}
 use lib.Ieee.{Float, binary64, add, sub, mul, neg}
 use lib.Ieee.Fits.{and-l, and-r}
-use Rattle.float_laws.specs.Fraction.{Fraction, signed, _⊕_, _⊗_, size, Near, near-same, plus-comm, plus-zero, size-times, size-plus, ring}
+use Rattle.float_laws.specs.Fraction.{Fraction, signed, opposite, near-opposite, _⊕_, _⊗_, size, Near, near-same, plus-comm, plus-zero, size-times, size-plus, ring}
 use Rattle.float_laws.specs.Rounded.{Within, within}
 use Rattle.float_laws.specs.Within.{Small, within-trans, within-weaken, add-within, mul-within}
 
@@ -77,12 +77,6 @@ add-known {k} {l} {n} {m} {x} {y} {X} {Y} g h t =
     record { near = add-within (g .near) (h .near) (small-of (n + m) (X ⊕ Y) (f .0) q b) (f .1 .0); some = q; small = b }
 
 -- ---- the opposite
-abbrev pub opposite : Fraction → Fraction
-opposite x = record { plus = x .minus; minus = x .plus; den = x .den }
-
-near-opposite : {t k : ℕ} {x y : Fraction} → Near t k x y → Near t k (opposite x) (opposite y)
-near-opposite {t} {k} {x} {y} h = record { high = simp ring (omega (arith, simp ring at (h .low))); low = simp ring (omega (arith, simp ring at (h .high))) }
-
 within-opposite : {t k : ℕ} {x : Float} {X : Fraction} → Within t k x X → Within t k (neg x) (opposite X)
 unfolding neg
 within-opposite (within {s = true} h) = within (near-opposite h)

@@ -1,7 +1,7 @@
 -- The values of floats as fractions, and how far a rounded value lies from the fraction that was rounded. Assumes nothing.
 -- `Within t k x y` says that the float x is a number that lies within k / t of the fraction y.
 use mathlib.Core.Path.{_≡_, refl, sym, ap, subst}
-use mathlib.Core.Bool.{Bool, true, false, not, cond}
+use mathlib.Core.Bool.{Bool, true, false, not, cond, true≢false}
 use Prim.Native.Nat.{ℕ, suc, _+_, _-_, _*_, _/_, _%_, _^_, _≤_, _<_, compare, Ordering, Ordering·lt, Ordering·eq, Ordering·gt}
 use native.Mathlib.Nat.{add-mul, mul-assoc, mul-comm, mul-left-comm, mul-le-mul-right, mul-le-mul-left, mul-lt-mul-of-pos-right, mul-pos, zero-mul, mul-zero, le-of-mul-le-mul-right, lt-of-mul-lt-mul-right, lt-of-le-of-lt, div-add-mod', mod-lt, div-lt-iff-lt-mul}
 use native.Mathlib.Omega.{arith}
@@ -9,16 +9,17 @@ use lib.Dec.{T, ltb, lit≤, isLe, isEq, leb→le, nleb→lt, eqb→eq}
 use lib.Pow.{pow-pos, pow-mono}
 use lib.IntN.{ℤ}
 use lib.Ieee
-use lib.Ieee.{Float, nan, inf, fin, binary64, up, down, nearest, round, unlike, sum, add, mul}
+use lib.Ieee.{Float, nan, inf, fin, binary64, up, down, nearest, round, unlike, sum, neg, add, sub, mul}
 use lib.Ieee.Fits.{down-pos}
 use Rattle.common.specs.Tests.{case}
+use Rattle.float.specs.Float.{isFinite}
 use borrow.Author.Tests.{ltb-true, ltb-false}
 use lib.Ieee.Digits.{size-le}
 use lib.Ieee.Fits.{round-is}
 use lib.Ieee.Exact.{HasValue, units-val}
 use lib.Ieee.Nearest.{closest}
 use lib.Ieee.Scale.{grid, overflow}
-use Rattle.float_laws.specs.Fraction.{Fraction, signed, _⊕_, _⊗_, size, Near, ring, near-refl}
+use Rattle.float_laws.specs.Fraction.{Fraction, signed, opposite, _⊕_, _⊗_, size, Near, ring, near-refl}
 
 -- ---- a / b to the nearest whole number is no more than a half away
 abbrev Compared : Ordering → ℕ → ℕ → Type 0
@@ -73,6 +74,15 @@ grid-near a c p h =
 -- ---- the value of a float
 abbrev pub value : Bool → ℕ → ℤ → Fraction
 value s m e = signed s (m * up e) (down e)
+
+pub data Number : Float → Type 0 where
+  number : {s : Bool} {m : ℕ} {e : ℤ} → Number (fin s m e)
+
+pub number-of : (x : Float) → isFinite x ≡ true → Number x
+unfolding isFinite
+number-of nan h = absurd (true≢false (sym h))
+number-of (inf s) h = absurd (true≢false (sym h))
+number-of (fin s m e) h = number
 
 -- the number that a float is, where it is one
 abbrev pub valueOf : Float → Fraction
@@ -178,3 +188,8 @@ add-rounds s t m n e d =
     sum-rounds s t (m * up e * down d) (n * up d * down e) (down e * down d) ((value s m e ⊕ value t n d) .plus) ((value s m e ⊕ value t n d) .minus)
     (rw (times-plus s (m * up e) (down d), times-plus t (n * up d) (down e)))
     (rw (times-minus s (m * up e) (down d), times-minus t (n * up d) (down e)))
+
+pub sub-rounds : (s t : Bool) (m n : ℕ) (e d : ℤ) → Rounds (sub binary64 (fin s m e) (fin t n d)) (value s m e ⊕ opposite (value t n d))
+unfolding sub neg
+sub-rounds s true m n e d = add-rounds s false m n e d
+sub-rounds s false m n e d = add-rounds s true m n e d

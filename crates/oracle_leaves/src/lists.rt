@@ -74,7 +74,7 @@ fn normalize(x: &[f64], list: &mut [f64]) -> u8 {
     }
 }
 
-// source points, destination points = 18 numbers a point; or 17, 20 to 26
+// source points, destination points = 18 numbers a point; or 17, 20 to 25
 fn rows(x: &[f64], list: &mut [f64]) -> u8 {
     match point_homography::design_rows(list_at(x, 0), list_at(x, list_end(x, 0)), list) {
         Rows::Written => 0,

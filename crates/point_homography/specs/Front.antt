@@ -2,7 +2,7 @@
 use mathlib.Core.Path.{_≡_, refl, sym, _∙_}
 use mathlib.Core.Bool.{Bool, true, false, not, _||_, true≢false}
 use mathlib.Core.List.{List, [], _∷_, _++_}
-use Prim.Native.Nat.{ℕ, zero, suc, _*_, _/_, _%_}
+use Prim.Native.Nat.{ℕ, _*_, _/_, _%_}
 use native.Mathlib.Omega.{arith}
 use borrow.Author.Tests.{ne-eqb, eqb-true}
 use lib.Dec.{eqb, ltb}
@@ -13,7 +13,7 @@ use Rattle.common.specs.Refusal.{_when_, firstRefusal}
 use Rattle.common.specs.RefusalLaws.{refuses-none}
 use Rattle.point_normalise.specs.Points.{badLength}
 use Rattle.point_normalise.specs.Linalg.{degenerate, similarityOf, moveXY, movePoints, normalizeRefusal, normalizeInto}
-use Rattle.point_homography.specs.Rows.{pointsRefusal, orElse, designRows, rowsRefusal, rowsInto}
+use Rattle.point_homography.specs.Rows.{rowsRefusal, designRows, rowsInto}
 use Rattle.point_normalise.specs.Walk.{each-length}
 use Rattle.point_homography.specs.RowsLaws.{fine, rows-length}
 
@@ -45,16 +45,12 @@ unfolding normalizeInto
 normalize-refused s dst h = rw (ne-eqb (normalizeRefusal s (length dst)) 0 h)
 
 -- ---- Rows
-or-none : (m n : ℕ) → orElse m n ≡ 0 → m ≡ 0
-or-none zero n h = refl
-or-none (suc m) n h = h
-
 pub rows-front : (src dst a : List Float) → rowsRefusal src dst (length a) ≡ 0
     → Front (9 * length src) (designRows (similarityOf src) (similarityOf dst) src dst) a (rowsInto src dst a)
-unfolding rowsRefusal rowsInto
+unfolding rowsInto
 rows-front src dst a h =
     let room = length a in
-    let f = fine src dst room (or-none (pointsRefusal src dst room) (firstRefusal ((26 when degenerate src) ∷ (26 when degenerate dst) ∷ [])) h) in
+    let f = fine src dst room h in
     let e = even-length (length src) (f .even) in
     let n = rows-length (similarityOf src) (similarityOf dst) src dst (f .count) in
     rw h (front (9 * length src) (designRows (similarityOf src) (similarityOf dst) src dst) a (omega arith))

@@ -1,5 +1,5 @@
 -- The rows of the homography's design matrix, for points normalised as in Hartley's method. Definitions only.
-use Prim.Native.Nat.{ℕ, zero, suc, _*_}
+use Prim.Native.Nat.{ℕ, _*_}
 use mathlib.Core.Bool.{Bool, not, cond}
 use mathlib.Core.List.{List, [], _∷_, _++_}
 use lib.Dec.{eqb, ltb}
@@ -15,7 +15,7 @@ use Rattle.point_normalise.specs.declared.linalg.Similarity.{Similarity}
 use Rattle.point_homography.specs.declared.Rows.{Rows}
 use Rattle.point_homography.specs.declared.Rows.the-variants.{Written, Refused}
 use Rattle.point_normalise.specs.Points.{eachPair, badLength}
-use Rattle.point_normalise.specs.Linalg.{moveBy, degenerate, similarityOf}
+use Rattle.point_normalise.specs.Linalg.{moveBy, similarityOf}
 use Rattle.point_homography.specs.Line.{collinearOf}
 
 abbrev pub allFinite : List Float → Bool
@@ -63,7 +63,7 @@ abbrev pub designRows : Similarity → Similarity → List Float → List Float 
 designRows ts td src dst = eachPair (movedRows ts td) src dst
 
 -- ---- the refusals: 17 for either list; 18 for less room than 18 numbers a source point; 20, 21 a number that isn't finite;
--- 22 fewer than 4 source points; 23 counts that differ; 24, 25 collinear points; and last 26, where no similarity is found
+-- 22 fewer than 4 source points; 23 counts that differ; 24, 25 collinear points
 abbrev pub placeConditions : List Float → List Float → List Check
 placeConditions src dst =
     (22 when ltb (length src) 8)
@@ -81,23 +81,15 @@ designConditions src dst room =
     ∷ (21 when not (allFinite dst))
     ∷ placeConditions src dst
 
-abbrev pub pointsRefusal : List Float → List Float → ℕ → ℕ
-pointsRefusal src dst room = firstRefusal (designConditions src dst room)
-
-abbrev pub orElse : ℕ → ℕ → ℕ
-orElse zero n = n
-orElse (suc m) n = suc m
-
-unfoldable pub rowsRefusal : List Float → List Float → ℕ → ℕ
-unfolding degenerate
-rowsRefusal src dst room = orElse (pointsRefusal src dst room) (firstRefusal ((26 when degenerate src) ∷ (26 when degenerate dst) ∷ []))
+abbrev pub rowsRefusal : List Float → List Float → ℕ → ℕ
+rowsRefusal src dst room = firstRefusal (designConditions src dst room)
 
 unfoldable pub rowsReply : List Float → List Float → ℕ → Rows
-unfolding rowsRefusal
+unfolding collinearOf
 rowsReply src dst room = let n = rowsRefusal src dst room in cond (eqb n 0) Written (Refused n)
 
 -- the rows at the front, and the rest as it was; nothing is written on a refusal
 unfoldable pub rowsInto : List Float → List Float → List Float → List Float
-unfolding rowsRefusal similarityOf
+unfolding collinearOf similarityOf
 rowsInto src dst a =
     let w = designRows (similarityOf src) (similarityOf dst) src dst in cond (eqb (rowsRefusal src dst (length a)) 0) (w ++ drop (length w) a) a

@@ -1,8 +1,8 @@
 -- What Rows refuses, and how its rows are written, pair by pair. Assumes nothing.
 use mathlib.Core.Path.{_≡_, refl, sym, ap, _∙_}
-use mathlib.Core.Bool.{true, false, not}
+use mathlib.Core.Bool.{false, not}
 use mathlib.Core.List.{List, _++_}
-use Prim.Native.Nat.{ℕ, zero, suc, _+_, _*_, _/_, _≤_, _<_}
+use Prim.Native.Nat.{ℕ, _+_, _*_, _/_, _≤_, _<_}
 use native.Mathlib.Omega.{arith}
 use borrow.Author.Tests.{ltb-false, eqb-true, ne-eqb, not-false}
 use lib.Dec.{eqb, ltb}
@@ -15,9 +15,10 @@ use Rattle.camera_models.specs.declared.math.Pt2.{Pt2}
 use Rattle.point_normalise.specs.declared.linalg.Similarity.{Similarity}
 use Rattle.point_homography.specs.declared.Rows.the-variants.{Written, Refused}
 use Rattle.point_normalise.specs.Points.{pointAt, badLength}
-use Rattle.point_normalise.specs.Linalg.{moveBy, degenerate, similarityOf}
+use Rattle.point_normalise.specs.Linalg.{moveBy, similarityOf}
 use Rattle.point_normalise.specs.Hartley.{good-length}
-use Rattle.point_homography.specs.Rows.{allFinite, pairRows, movedRows, designRows, designConditions, pointsRefusal, rowsRefusal, rowsReply, rowsInto}
+use Rattle.point_homography.specs.Line.{collinearOf}
+use Rattle.point_homography.specs.Rows.{allFinite, pairRows, movedRows, designRows, designConditions, rowsRefusal, rowsReply, rowsInto}
 use Rattle.point_normalise.specs.Walk.{pair-next, pair-length, sets-append}
 
 eighteen : (p q : Pt2) → length (pairRows p q) ≡ 18
@@ -42,10 +43,13 @@ module _ (ts td : Similarity) (src dst : List Float) where
 pub record Fine (src dst : List Float) (room : ℕ) : Type 0 where
   pub even : badLength (length src) ≡ false
   pub source : length src ≤ 800
+  pub least : 8 ≤ length src
   pub count : length dst ≡ length src
   pub space : 9 * length src ≤ room
+  pub source-off : collinearOf src ≡ false
+  pub target-off : collinearOf dst ≡ false
 
-pub fine : (src dst : List Float) (room : ℕ) → pointsRefusal src dst room ≡ 0 → Fine src dst room
+pub fine : (src dst : List Float) (room : ℕ) → rowsRefusal src dst room ≡ 0 → Fine src dst room
 fine src dst room h0 =
     let h1 = refuses-none (badLength (length src)) 17 (from 1) (omega arith) h0 in
     let h2 = refuses-none (badLength (length dst)) 17 (from 2) (omega arith) (h1 .1) in
@@ -54,35 +58,20 @@ fine src dst room h0 =
     let h5 = refuses-none (not (allFinite dst)) 21 (from 5) (omega arith) (h4 .1) in
     let h6 = refuses-none (ltb (length src) 8) 22 (from 6) (omega arith) (h5 .1) in
     let h7 = refuses-none (not (eqb (length dst) (length src))) 23 (from 7) (omega arith) (h6 .1) in
+    let h8 = refuses-none (collinearOf src) 24 (from 8) (omega arith) (h7 .1) in
+    let h9 = refuses-none (collinearOf dst) 25 (from 9) (omega arith) (h8 .1) in
     record {
       even = h1 .0;
       source = good-length (length src) (h1 .0);
+      least = ltb-false (length src) 8 (h6 .0);
       count = eqb-true (length dst) (length src) (not-false (eqb (length dst) (length src)) (h7 .0));
       space = ltb-false room (9 * length src) (h3 .0);
+      source-off = h8 .0;
+      target-off = h9 .0;
     }
   where
     from : ℕ → ℕ
     from k = firstRefusal (drop k (designConditions src dst room))
-
--- ---- which refusal it is
-module _ (src dst : List Float) (room : ℕ) where
-  pub by-points : (n : ℕ) → n ≡ pointsRefusal src dst room → (n ≡ 0 → ⊥) → rowsRefusal src dst room ≡ n
-  unfolding rowsRefusal
-  by-points zero e h = absurd (h refl)
-  by-points (suc n) e h = rw (sym e)
-
-  module _ (e : pointsRefusal src dst room ≡ 0) where
-    pub by-source : degenerate src ≡ true → rowsRefusal src dst room ≡ 26
-    unfolding rowsRefusal
-    by-source h = rw (e, h)
-
-    pub by-destination : degenerate src ≡ false → degenerate dst ≡ true → rowsRefusal src dst room ≡ 26
-    unfolding rowsRefusal
-    by-destination g h = rw (e, g, h)
-
-    pub by-none : degenerate src ≡ false → degenerate dst ≡ false → rowsRefusal src dst room ≡ 0
-    unfolding rowsRefusal
-    by-none g h = rw (e, g, h)
 
 -- ---- the reply, and what is written
 module _ (src dst a : List Float) where

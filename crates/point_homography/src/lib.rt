@@ -6,10 +6,9 @@ ghost use lib.ListN.{length};
 ghost use lib.Seq.{sets};
 ghost use Rattle.common.specs.Refusal.{firstRefusal};
 ghost use Rattle.point_homography.specs.Line.{crossOf, offLine, firstDistinct, anyOff, collinearOf, lineReply};
-ghost use Rattle.point_homography.specs.Rows.{allFinite, placeConditions, pairRows, designRows, pointsRefusal, rowsReply, rowsInto};
+ghost use Rattle.point_homography.specs.Rows.{allFinite, placeConditions, pairRows, designRows, rowsRefusal, rowsReply, rowsInto};
 use camera_models::math::Pt2;
 use point_normalise::linalg;
-use point_normalise::linalg::Normalizer;
 use point_normalise::linalg::Similarity;
 
 pub enum Distinct {
@@ -25,7 +24,7 @@ pub enum LineTest {
 
 pub enum Rows {
     Written,
-    // 17, 18 or 20 to 26
+    // 17, 18 or 20 to 25
     Refused(u8),
 }
 
@@ -168,9 +167,9 @@ fn place_refusal(src: &[f64], dst: &[f64]) -> u8
     0
 }
 
-// The number of the first refusal but 26, and 0 where there is none.
-fn points_refusal(src: &[f64], dst: &[f64], room: usize) -> u8
-    ensures { λ r. ⌜ r ≡ pointsRefusal (now (src .entry)) (now (dst .entry)) room ⌝ }
+// The number of the first refusal, and 0 where there is none.
+fn rows_refusal(src: &[f64], dst: &[f64], room: usize) -> u8
+    ensures { λ r. ⌜ r ≡ rowsRefusal (now (src .entry)) (now (dst .entry)) room ⌝ }
 {
     if linalg::bad_length(src.len()) {
         return 17;
@@ -195,16 +194,12 @@ pub fn design_rows(src: &[f64], dst: &[f64], a: &mut [f64]) -> Rows
     ensures reply { λ r. ⌜ r ≡ rowsReply (now (src .entry)) (now (dst .entry)) (length (now (a .entry))) ⌝ }
     ensures written { λ _. ⌜ now (a .exit) ≡ rowsInto (now (src .entry)) (now (dst .entry)) (now (a .entry)) ⌝ }
 {
-    let refusal = points_refusal(src, dst, a.len());
+    let refusal = rows_refusal(src, dst, a.len());
     if refusal != 0 {
         return Rows::Refused(refusal);
     }
-    let Normalizer::Found(ts) = linalg::hartley(src) else {
-        return Rows::Refused(26);
-    };
-    let Normalizer::Found(td) = linalg::hartley(dst) else {
-        return Rows::Refused(26);
-    };
+    let ts = linalg::normalizing(src);
+    let td = linalg::normalizing(dst);
     put_rows(a, src, dst, ts, td);
     Rows::Written
 }

@@ -3,3 +3,4 @@ pub mod Walk
 pub mod Linalg
 pub mod Hartley
 pub mod MeanDistance
+pub mod AllPoints

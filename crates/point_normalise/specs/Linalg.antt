@@ -18,7 +18,7 @@ use Rattle.point_normalise.specs.declared.linalg.Normalized.the-variants
 use Rattle.point_normalise.specs.Points.{foldPoints, eachPoint, countOf, badLength, distanceOf}
 
 -- 2^-52
-abbrev epsilon : Float
+abbrev pub epsilon : Float
 epsilon = ofBits binary64 0x3cb0_0000_0000_0000
 
 -- ---- the centroid, and the mean distance from a point: sums from 0, from the first point on, divided by how many there are
@@ -42,9 +42,12 @@ unfoldable pub degenerate : List Float → Bool
 unfolding meanDistance centroidOf
 degenerate s = eqb (length s) 0 || le (meanDistance (centroidOf s) s) epsilon
 
+abbrev pub scaledTo : Pt2 → Float → Similarity
+scaledTo c d = record { scale = root binary64 two₆₄ /₆₄ d; cx = c .x; cy = c .y }
+
 unfoldable pub similarityOf : List Float → Similarity
 unfolding meanDistance centroidOf
-similarityOf s = let c = centroidOf s in record { scale = root binary64 two₆₄ /₆₄ meanDistance c s; cx = c .x; cy = c .y }
+similarityOf s = let c = centroidOf s in scaledTo c (meanDistance c s)
 
 unfoldable pub hartleyOf : List Float → Normalizer
 unfolding degenerate similarityOf

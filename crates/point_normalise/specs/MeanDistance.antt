@@ -14,10 +14,10 @@ use Rattle.point_normalise.specs.Points.{foldPoints, countOf, distanceOf
 use Rattle.point_normalise.specs.Linalg.{addDistance, meanDistance}
 
 -- ---- no minus: neither a distance, nor a sum of distances, nor their mean
-sign-distance : (p q : Pt2) → signBit (distanceOf p q) ≡ false
+pub sign-distance : (p q : Pt2) → signBit (distanceOf p q) ≡ false
 sign-distance p q = sign-root binary64 _ (sign-add binary64 _ _ (sign-square binary64 _) (sign-square binary64 _))
 
-sign-total : (c : Pt2) (d : Float) (s : List Float) → signBit d ≡ false → signBit (foldPoints (addDistance c) d s) ≡ false
+pub sign-total : (c : Pt2) (d : Float) (s : List Float) → signBit d ≡ false → signBit (foldPoints (addDistance c) d s) ≡ false
 unfolding foldPoints
 sign-total c d [] h = h
 sign-total c d (x ∷ []) h = h
@@ -25,8 +25,9 @@ sign-total c d (x ∷ y ∷ s) h =
     let p : Pt2 = record { x = x; y = y } in
     sign-total c (addDistance c d p) s (sign-add binary64 d (distanceOf p c) h (sign-distance p c))
 
-pub mean-not-below : (c : Pt2) (s : List Float) → lt (meanDistance c s) plusZero ≡ false
+pub sign-mean : (c : Pt2) (s : List Float) → signBit (meanDistance c s) ≡ false
 unfolding meanDistance signBit ofBits
-mean-not-below c s =
-    let t = foldPoints (addDistance c) plusZero s in
-    unsigned-not-below (meanDistance c s) (sign-div binary64 t (countOf s) (sign-total c plusZero s refl) (sign-count binary64 (length s / 2)))
+sign-mean c s = sign-div binary64 (foldPoints (addDistance c) plusZero s) (countOf s) (sign-total c plusZero s refl) (sign-count binary64 (length s / 2))
+
+pub mean-not-below : (c : Pt2) (s : List Float) → lt (meanDistance c s) plusZero ≡ false
+mean-not-below c s = unsigned-not-below (meanDistance c s) (sign-mean c s)

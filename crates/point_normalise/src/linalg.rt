@@ -5,7 +5,7 @@ ghost use mathlib.Core.List.{_++_};
 ghost use Prim.Native.Nat.{_+_, _<_, _≤_};
 ghost use lib.ListN.{length, drop};
 ghost use Rattle.point_normalise.specs.Points.{badLength, pointAt, distanceOf};
-ghost use Rattle.point_normalise.specs.Linalg.{centroidOf, meanDistance, hartleyOf, moveBy, movePoints, transformOf, normalizeReply, normalizeInto};
+ghost use Rattle.point_normalise.specs.Linalg.{centroidOf, meanDistance, scaledTo, similarityOf, hartleyOf, moveBy, movePoints, transformOf, normalizeReply, normalizeInto};
 use camera_models::math::Pt2;
 
 // The map of a point p to (p - c) * scale, c being (cx, cy).
@@ -88,8 +88,29 @@ fn mean_distance(points: &[f64], c: Pt2) -> f64
     mean_dist / n
 }
 
-// The similarity that brings the centroid to the origin and the mean distance from it to √2.
-pub fn hartley(points: &[f64]) -> Normalizer
+// The similarity that brings c to the origin and a distance of mean from it to √2.
+fn scaled_to(c: Pt2, mean: f64) -> Similarity
+    ensures { λ r. ⌜ r ≡ scaledTo c mean ⌝ }
+{
+    Similarity {
+        scale: root_code::sqrt(2.0) / mean,
+        cx: c.x,
+        cy: c.y,
+    }
+}
+
+// The similarity that brings the centroid to the origin and the mean distance from it to √2. Of points that aren't collinear that
+// distance is never too small (homography/specs/Spread.antt), so Rows asks nothing more.
+pub fn normalizing(points: &[f64]) -> Similarity
+    requires { ⌜ length (now points) ≤ 800 ⌝ }
+    ensures { λ r. ⌜ r ≡ similarityOf (now (points .entry)) ⌝ }
+{
+    let c = centroid(points);
+    scaled_to(c, mean_distance(points, c))
+}
+
+// The same, unless the points are all in one place.
+fn hartley(points: &[f64]) -> Normalizer
     requires { ⌜ length (now points) ≤ 800 ⌝ }
     ensures { λ r. ⌜ r ≡ hartleyOf (now (points .entry)) ⌝ }
 {
@@ -102,11 +123,7 @@ pub fn hartley(points: &[f64]) -> Normalizer
     if mean_dist <= 2.220446049250313e-16 {
         return Normalizer::Degenerate;
     }
-    Normalizer::Found(Similarity {
-        scale: root_code::sqrt(2.0) / mean_dist,
-        cx: c.x,
-        cy: c.y,
-    })
+    Normalizer::Found(scaled_to(c, mean_dist))
 }
 
 pub fn moved(t: Similarity, p: Pt2) -> Pt2

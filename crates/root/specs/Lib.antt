@@ -8,3 +8,4 @@ pub mod Nearer
 pub mod Nearest
 pub mod Laws
 pub mod Summary
+pub mod RootReaches

@@ -31,7 +31,6 @@ macro_rules! refusal {
     (23 $part:ident) => { part!($part "not as many destination points as source points", "Pair each dot with its pixel.") };
     (24 $part:ident) => { part!($part "the source points lie on a line", "Use dots from more than one row of the plate.") };
     (25 $part:ident) => { part!($part "the destination points lie on a line", "The plate was seen edge on: drop the view.") };
-    (26 $part:ident) => { part!($part "the points can't be normalised", "As 19; not seen in practice.") };
     (34 $part:ident) => { part!($part "no power of two from 1 to 256 makes whole numbers in their ranges of all four", "Choose fx, fy, cx, cy as whole numbers times 1, 2, 4 .. or 256: 1 to 256 of them for fx and fy, −256 to 256 for cx and cy. For example 800, 808, 640, −480.") };
 }
 
@@ -208,7 +207,6 @@ refusals! {
         CountsDiffer = 23;
         SourceCollinear = 24;
         DestinationCollinear = 25;
-        NormalizingFails = 26;
     }
 }
 

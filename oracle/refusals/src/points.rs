@@ -145,8 +145,7 @@ fn row_refusals() -> Vec<(Vec<f64>, Vec<f64>, usize, u64)> {
     ]
 }
 
-/// The same where two hold at once: the one that 01 names first wins. 26 is none of them: points
-/// that pass 24 and 25 are too far apart for it.
+/// The same where two hold at once: the one that 01 names first wins.
 fn row_pairs() -> Vec<(Vec<f64>, Vec<f64>, usize, u64)> {
     let good = SQUARE.to_vec();
     let line = LINE.to_vec();

@@ -62,7 +62,8 @@ pub struct Endless {
     pub cases: Box<dyn Iterator<Item = Case>>,
 }
 
-/// Every operation's cases, drawn from sources that `seed` names.
+/// Every operation's cases, drawn from sources that `seed` names; of the design rows a second time,
+/// at the least spread of their points.
 pub fn endless(seed: &str) -> Vec<Endless> {
     let endless = |family: Family| {
         let operation = family.operation;
@@ -70,7 +71,7 @@ pub fn endless(seed: &str) -> Vec<Endless> {
         let patterns = Random::named(&format!("{operation}, {seed}, patterns of NaN"));
         Endless { operation, cases: Box::new(drawn(&family, random, patterns)) }
     };
-    families().into_iter().map(endless).collect()
+    families().into_iter().chain([points::at_the_spread()]).map(endless).collect()
 }
 
 /// Drawn cases without end. A draw that the oracle can't answer is drawn again.

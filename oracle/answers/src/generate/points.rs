@@ -17,6 +17,12 @@ pub fn families() -> Vec<Family> {
     ]
 }
 
+/// Cases of the design rows whose points are hardly spread, far away or overflow; for the
+/// differential runs alone.
+pub fn at_the_spread() -> Family {
+    Family { operation: "design_rows", fixed: Vec::new, random: 0, draw: rows_at_the_spread }
+}
+
 const CAMERA: [f64; 4] = [800.0, 790.0, 320.5, 239.25];
 const DISTORTION: [f64; 5] = [-0.21, 0.043, -0.002, 0.001, -0.0007];
 const TILT: [f64; 4] = [0.28, 0.96, -0.6, 0.8];
@@ -237,6 +243,35 @@ fn design_rows(random: &mut Random) -> Vec<u64> {
         _ => {}
     }
     two_lists(&source, &destination)
+}
+
+/// Four points or a few more, seldom up to 400, each list of a kind of its own.
+fn rows_at_the_spread(random: &mut Random) -> Vec<u64> {
+    let count = if random.once_in(200) { 390 + random.below(11) } else { 4 + random.below(4) };
+    let source = hardly_spread(random, count);
+    two_lists(&source, &hardly_spread(random, count))
+}
+
+/// Points of which two span a cross product around 1e-6 with the first, the others at the first
+/// one: near the origin, at an offset that rounds their differences, or scaled until sums overflow.
+fn hardly_spread(random: &mut Random, count: usize) -> Vec<f64> {
+    let length = random.pick(&[1e-3, 1.1e-3, 1e-6, 1.0, 1e3, 1.1e-9, 1e6]) * (1.0 + random.unit());
+    let cross = 1e-6 * random.pick(&[1.0, 1.0 + f64::EPSILON, 1.0 + 1e-9, 1.001, 2.0, 0.999]);
+    let width = cross / length;
+    let free = random.within(3.0);
+    let (sin, cos) = f64::sin_cos(random.pick(&[0.0, 0.0, 0.5, 1.0, free]));
+    let offset = random.pick(&[0.0, 0.0, 1.0, 1e3, 1e9, 1e15, 1e160, 1e300]);
+    let scale = random.pick(&[1.0, 1.0, 1.0, 1e3, 1e150, 1e155, 1e290, 1e305, 1e308]);
+    let (x, y) = (offset * random.within(1.0), offset * random.within(1.0));
+    let (second, third) = (random.below(count - 1) + 1, random.below(count - 1) + 1);
+    let point = |i: usize| {
+        let along = if i == second { length } else { 0.0 };
+        let across = if i == third { width } else { 0.0 };
+        let (dx, dy) = (cos * along - sin * across, sin * along + cos * across);
+        [dx, dy].map(|d| if scale == 1.0 { d } else { d / length.max(width) * scale })
+    };
+    let points = (0..count).map(point);
+    points.flat_map(|[dx, dy]| [x + dx, y + dy].map(|v| v.clamp(f64::MIN, f64::MAX))).collect()
 }
 
 /// 01's values, no finite point, and zeros of two signs in both orders.

@@ -24,6 +24,8 @@ const TOO_FEW: u64 = 22;
 const COUNTS_DIFFER: u64 = 23;
 const SOURCE_COLLINEAR: u64 = 24;
 const DESTINATION_COLLINEAR: u64 = 25;
+/// 01's number for two checks of the published function that can't fail after its line tests. 02 took
+/// it out of Rows: a case that brought it would be a difference.
 const NOT_NORMALIZED: u64 = 26;
 
 fn is_bad_length(list: &[f64]) -> bool {

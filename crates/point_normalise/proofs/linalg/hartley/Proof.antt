@@ -23,8 +23,8 @@ returns-2 c =
     let b = m .before .before in
     simp (ne-eqb (length (b .before .before .args .points .now)) 0 (b .if1 .left), rw (m .mean-distance .ensures, m .before .centroid .ensures) at (c .if2 .taken))
 
-sqrt-requires : tie.Need-sqrt-requires
-sqrt-requires c κs = search needs
+scaled-to-requires : tie.Need-scaled-to-requires
+scaled-to-requires c κs = search needs
 
 returns-3 : tie.Need-returns-3
 unfolding degenerate similarityOf hartleyOf
@@ -32,7 +32,7 @@ returns-3 c =
     let m = c .before .before in
     let b = m .before .before in
     simp (
-      c .sqrt .ensures,
+      c .scaled-to .ensures,
       m .mean-distance .ensures,
       m .before .centroid .ensures,
       ne-eqb (length (b .before .before .args .points .now)) 0 (b .if1 .left),
@@ -42,4 +42,4 @@ returns-3 c =
 pub hartley-spec : {M : Type 1} → statement M
 hartley-spec =
     tie.close
-    (tie.spec returns centroid-requires mean-distance-requires returns-2 sqrt-requires returns-3)
+    (tie.spec returns centroid-requires mean-distance-requires returns-2 scaled-to-requires returns-3)

@@ -1,4 +1,4 @@
--- `point_homography::points_refusal` meets its contract: `pastK` says that with its first K designConditions passed the answer is that of the rest. Assumes nothing.
+-- `point_homography::rows_refusal` meets its contract: `pastK` says that with its first K designConditions passed the answer is that of the rest. Assumes nothing.
 use borrow.Author.Needs.{needs}
 use borrow.Author.Tests.{lt-ltb, le-ltb}
 use mathlib.Core.Bool.{not}
@@ -8,8 +8,8 @@ use lib.ListN.{length, drop}
 use Rattle.point_homography.specs.Rows.{designConditions}
 use Rattle.common.specs.Refusal.{firstRefusal}
 use Rattle.common.specs.RefusalLaws.{refuses, passes}
-use Rattle.point_homography.proofs.points_refusal.Statement.{statement}
-use Rattle.point_homography.proofs.points_refusal.Tie as tie
+use Rattle.point_homography.proofs.rows_refusal.Statement.{statement}
+use Rattle.point_homography.proofs.rows_refusal.Tie as tie
 
 -- the answer of the designConditions from the k-th on
 abbrev from : ℕ → tie.Start → ℕ
@@ -81,8 +81,8 @@ place-refusal-requires c κs = search needs
 returns-6 : tie.Need-returns-6
 returns-6 c = c .place-refusal .ensures ∙ sym (past5 (c .before))
 
-pub points-refusal-spec : {M : Type 1} → statement M
-points-refusal-spec =
+pub rows-refusal-spec : {M : Type 1} → statement M
+rows-refusal-spec =
     tie.close
     (tie.spec
     bad-length-requires
