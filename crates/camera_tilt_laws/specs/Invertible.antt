@@ -14,9 +14,9 @@ use Rattle.float.specs.Literals.{plusZero, half₆₄}
 use Rattle.camera_tilt.specs.Matrix.{determinantOf}
 use Rattle.camera_tilt.specs.Sensor.{tiltProjectionMatrix, tiltVerdict}
 use Rattle.camera_tilt.specs.declared.sensor.Tilt.the-variants.{Invertible}
-use Rattle.float_laws.specs.Fraction.{Fraction, signed, _⊕_, _⊗_, Near, size-signed, ring}
+use Rattle.float_laws.specs.Fraction.{Fraction, signed, opposite, _⊕_, _⊗_, Near, size-signed, ring}
 use Rattle.float_laws.specs.Rounded.{value, Within, within, exact}
-use Rattle.float_laws.specs.Known.{Known, opposite}
+use Rattle.float_laws.specs.Known.{Known}
 use Rattle.float_series.specs.Series.{sines, cosines, seriesOf}
 use Rattle.float_series.specs.Answer.{beyondHalf}
 use Rattle.float_series.specs.Ranges.{Turned, Turn, turn}

@@ -11,9 +11,9 @@ use lib.Ieee.{Float, binary64, ofBits, mul, sub}
 use Rattle.float.specs.Literals.{plusZero, one₆₄}
 use Rattle.camera_tilt.specs.Matrix.{Matrix, at, productOf, determinantOf, minorOf, firstOther, secondOther}
 use Rattle.camera_tilt.specs.Sensor.{rotX, rotY, projZ}
-use Rattle.float_laws.specs.Fraction.{Fraction, signed, _⊕_, _⊗_, Near, near-same, near-refl, times-comm, times-assoc, times-one}
+use Rattle.float_laws.specs.Fraction.{Fraction, signed, opposite, _⊕_, _⊗_, Near, near-same, near-refl, times-comm, times-assoc, times-one}
 use Rattle.float_laws.specs.Rounded.{within}
-use Rattle.float_laws.specs.Known.{Known, tested, product, _under_, mul-known, add-known, neg-known, sub-known, nothing, opposite, known-nothing, known-weaken, zero-mul-known, mul-zero-known, add-zero-known, zero-add-known}
+use Rattle.float_laws.specs.Known.{Known, tested, product, _under_, mul-known, add-known, neg-known, sub-known, nothing, known-nothing, known-weaken, zero-mul-known, mul-zero-known, add-zero-known, zero-add-known}
 
 one-known : Known 0 1024 one₆₄ (signed false 1 1)
 unfolding ofBits

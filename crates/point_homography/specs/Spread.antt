@@ -25,7 +25,7 @@ use Rattle.point_normalise.specs.MeanDistance.{sign-distance, sign-mean}
 use Rattle.point_normalise.specs.Linalg.{epsilon, addDistance, meanDistance, centroidOf, degenerate}
 use Rattle.point_homography.specs.declared.Distinct.{Distinct}
 use Rattle.point_homography.specs.declared.Distinct.the-variants.{Point, Nothing}
-use Rattle.point_homography.specs.Line.{leastDistance, leastCross, farFrom, crossOf, offLine, yes, along, collinearOf}
+use Rattle.point_homography.specs.Line.{leastDistance, leastCross, farFrom, crossOf, offLine, along, collinearOf}
 use Rattle.float_laws.specs.Reaches.{Reaches, not-below, Below, below-back, below-of-le, zero-reached, round-reaches, mul-reaches, div-reaches, add-reaches, sub-reaches, squares-reach}
 use Rattle.root.specs.RootReaches.{root-reaches}
 use Rattle.float_laws.specs.Apart.{apart}
@@ -146,7 +146,7 @@ close-collinear c (x ∷ y ∷ s) n h =
     let p0 : Pt2 = record { x = x; y = y } in
     rw (le-ltb (length l) 6 n)
     (find-holds (Close c) (farFrom p0) Point Nothing (λ (d : Distinct). along p0 d l ≡ true) refl
-    (λ p1 h1 t1. ap not (find-holds (Close c) (offLine p0 p1) yes false (λ (b : Bool). b ≡ false) refl (λ p2 h2 t2. absurd (not-off c p0 p1 p2 (h .0) h1 h2 t2)) l h))
+    (λ p1 h1 t1. ap not (find-holds (Close c) (offLine p0 p1) (λ p. true) false (λ (b : Bool). b ≡ false) refl (λ p2 h2 t2. absurd (not-off c p0 p1 p2 (h .0) h1 h2 t2)) l h))
     s (h .1))
 
 -- ---- so the mean distance of 3 to 400 points that aren't collinear, from any point, is not at most 2^-52
