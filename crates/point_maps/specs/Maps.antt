@@ -1,6 +1,6 @@
 -- The point maps: what becomes of one pixel, of a list of them, and of the destination, and when a map refuses. Definitions only.
-use Prim.Native.Nat.{ℕ, _%_}
-use mathlib.Core.Bool.{_||_, cond}
+use Prim.Native.Nat.{ℕ}
+use mathlib.Core.Bool.{cond}
 use mathlib.Core.List.{List, [], _∷_, _++_}
 use lib.Dec.{eqb, ltb}
 use lib.ListN.{length, drop}
@@ -11,6 +11,7 @@ use Rattle.camera_models.specs.declared.intrinsics.FxFyCxCy.{FxFyCxCy}
 use Rattle.camera_models.specs.Intrinsics.{pixelToSensor, sensorToPixel}
 use Rattle.camera_tilt.specs.Matrix.{Matrix, inverseOf}
 use Rattle.camera_tilt.specs.Sensor.{isSingular, applyHomographyInverse}
+use Rattle.point_normalise.specs.Points.{badLength}
 use Rattle.camera_undistort.specs.Undistortion.{undistorted}
 use Rattle.point_maps.specs.declared.maps.Lens.{Lens}
 use Rattle.point_maps.specs.declared.maps.Lens.the-variants.{Kept, Removed}
@@ -40,7 +41,7 @@ written f points to = mapPoints f points ++ drop (length points) to
 unfoldable pub refusalOf : Matrix → ℕ → ℕ → ℕ
 refusalOf h numbers room =
     firstRefusal
-    ((17 when (eqb (numbers % 2) 1 || ltb 800 numbers))
+    ((17 when badLength numbers)
     ∷ (18 when ltb room numbers)
     ∷ (15 when isSingular h)
     ∷ [])

@@ -2,9 +2,7 @@
 // Points are read from a lent slice, x then y, and written to the front of a lent destination. A refusal writes nothing.
 
 ghost use mathlib.Core.Path.{_≡_};
-ghost use mathlib.Core.Bool.{_||_};
 ghost use Prim.Native.Nat.{_%_, _≤_};
-ghost use lib.Dec.{eqb, ltb};
 ghost use lib.ListN.{length};
 ghost use Rattle.point_maps.specs.Maps.{withoutLens, mappedPoint, written, refusalOf, mapReply, mapDestination};
 ghost use Rattle.camera_tilt.specs.Sensor.{tiltProjectionMatrix};
@@ -13,6 +11,7 @@ use camera_models::intrinsics::FxFyCxCy;
 use camera_models::math::Pt2;
 use camera_tilt::matrix;
 use camera_tilt::sensor;
+use point_normalise::linalg;
 
 // What becomes of the lens's distortion.
 pub enum Lens {
@@ -64,18 +63,11 @@ fn map_points(k: FxFyCxCy, lens: Lens, h_inv: [[f64; 3]; 3], points: &[f64], to:
     }
 }
 
-// Whether so many numbers are no list of points, or one of more than 400.
-fn bad_length(numbers: usize) -> bool
-    ensures { λ r. ⌜ r ≡ (eqb (numbers % 2) 1 || ltb 800 numbers) ⌝ }
-{
-    numbers % 2 == 1 || numbers > 800
-}
-
 // The number of the first reason to refuse, 0 where there is none.
 fn refusal(h: [[f64; 3]; 3], numbers: usize, room: usize) -> u8
     ensures { λ r. ⌜ r ≡ refusalOf h numbers room ⌝ }
 {
-    if bad_length(numbers) {
+    if linalg::bad_length(numbers) {
         return 17;
     }
     if room < numbers {

@@ -4,7 +4,7 @@ use mathlib.Core.Bool.{Bool, true, false, not, _||_, cond, true≢false}
 use mathlib.Core.List.{List}
 use Prim.Native.Nat.{ℕ, _≤_, _%_}
 use native.Mathlib.Omega.{arith}
-use borrow.Author.Tests.{ltb-false}
+use borrow.Author.Tests.{ltb-false, eqb-true}
 use lib.Dec.{eqb, ltb}
 use lib.Ieee.{Float}
 use Rattle.point_normalise.specs.declared.linalg.Similarity.{Similarity}
@@ -28,6 +28,14 @@ no-similarity s h = none (degenerate s) (similarityOf s) h
 pub similarity : (s : List Float) (t : Similarity) → hartleyOf s ≡ Found t → (degenerate s ≡ false) × (t ≡ similarityOf s)
 unfolding hartleyOf
 similarity s t h = one (degenerate s) t (similarityOf s) h
+
+-- a length that isn't refused is even, and no more than 400 points'
+pub even-length : (n : ℕ) → badLength n ≡ false → n % 2 ≡ 0
+even-length n = go (eqb (n % 2) 0) refl
+  where
+    go : (b : Bool) → eqb (n % 2) 0 ≡ b → (not b || ltb 800 n) ≡ false → n % 2 ≡ 0
+    go true e h = eqb-true (n % 2) 0 e
+    go false e h = absurd (true≢false h)
 
 pub good-length : (n : ℕ) → badLength n ≡ false → n ≤ 800
 good-length n = go (not (eqb (n % 2) 0))
