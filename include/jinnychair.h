@@ -88,7 +88,8 @@ enum {
 enum {
     JC_SKIP_HOST_FAILED = 1, /* the host failed */
     JC_SKIP_BAD_CAMERA = 2,  /* a number of the camera isn't finite, or a focal length isn't above 0 */
-    JC_SKIP_NO_MEAN = 3      /* the mean error isn't finite */
+    JC_SKIP_NO_MEAN = 3,     /* the mean error isn't finite */
+    JC_SKIP_NO_NUMBER = 4    /* the score isn't a number */
 };
 
 /* Limits. */

@@ -3,20 +3,19 @@
 use Prim.Native.Nat.{ℕ, zero, suc, _+_, _-_, _*_, _≤_, _<_}
 use native.Mathlib.Omega.{arith}
 use mathlib.Core.Path.{_≡_, refl, sym, ap, subst, _∙_}
-use mathlib.Core.Bool.{Bool, true, false, not, _&&_, cond, true≢false}
+use mathlib.Core.Bool.{true, false, not, _&&_, true≢false}
 use mathlib.Core.List.{List, [], _∷_}
 use borrow.Author.Tests.{not-true, ltb-true, ltb-false, lt-ltb, le-ltb, le-leb, eqb-true, eq-eqb}
-use lib.Dec.{leb, ltb, eqb}
+use lib.Dec.{ltb, eqb}
 use lib.ListN.{length}
 use lib.Ieee.{Float}
 use Rattle.common.specs.Tests.{case, both-true}
 use Rattle.common.specs.Each.{All}
 use Rattle.seed_rules.specs.declared.CandidateSeed.{CandidateSeed}
 use Rattle.seed_rules.specs.Layout.{seedAt}
-use Rattle.seed_rules.specs.Rules.{offsets, nextList}
+use Rattle.seed_rules.specs.Rules.{offsets}
 use Rattle.seed_rules.specs.RulesLaws.{next-length}
 use Rattle.score_outcome.specs.declared.Finding.{Finding}
-use Rattle.score_outcome.specs.declared.Finding.the-variants.{Failed}
 use Rattle.score_outcome.specs.declared.Outcome.{Outcome}
 use Rattle.score_outcome.specs.Evaluation.{outcomeOf, findingRefusal}
 use Rattle.score_best.specs.declared.Candidate.{Candidate}
@@ -30,11 +29,12 @@ use Rattle.search_calls.specs.NextLaws.{next-hands, next-keeps}
 use Rattle.search_answer.specs.Answer as ans
 use Rattle.search_answer.specs.AnswerLaws.{answer-passed}
 use Rattle.book.specs.Book as book
-use Rattle.book.specs.Book.{Inputs, demand, Book}
+use Rattle.book.specs.Book.{Inputs, demand}
 use Rattle.book.specs.Lent.{Lent, next-with, answer-with, left, through, counted, accepted, stillLeft, Turn, Taken, turns}
 use Rattle.book.specs.Theorem.{Ends}
 use Rattle.book.proofs.Cases.{case-list}
-use Rattle.book.proofs.RunOf.{runOf, Bounded, Fine}
+use Rattle.book.proofs.Good.{Core, Good}
+use Rattle.book.proofs.RunOf.{runOf}
 
 -- ---- what stays true of the record
 -- of its numbers
@@ -345,15 +345,16 @@ reaches i r (t ∷ ts) h k n =
     (λ o. let a = one-turn i r t h o (k .0) in reaches i _ ts (a .lasts) (k .1) (let p = a .less in omega arith))
 
 -- ---- the run that an accepted Start roundOpened
-pub opened-lasts : (i : Inputs) (l : List Float) → Fine (book.opened i) l → Lasts i (runOf (book.opened i))
+pub opened-lasts : (i : Inputs) → Good i (book.opened i) → Lasts i (runOf (book.opened i))
 unfolding runOf book.opened
-opened-lasts i l f = record { sizes = sizes i (f .bounded) (f .there .fits); room = f .room; calm = λ o. refl }
+opened-lasts i g = record { sizes = sizes i (g .core); room = g .room; calm = λ o. refl }
   where
-    sizes : (i : Inputs) → Bounded (book.opened i) → 6 * length (book.firstList i) ≤ demand i → Sizes i (runOf (book.opened i))
-    sizes i b q = unfold runOf book.opened in
-        let c = b .counted in
-        let r = b .few-rounds in
-        record { few-rounds = b .few-rounds; in-rounds = b .in-rounds; demand-is = refl; least = b .least; most = b .most; list-fits = q; few = omega arith }
+    sizes : (i : Inputs) → Core (book.opened i) → Sizes i (runOf (book.opened i))
+    sizes i h = unfold runOf book.opened in
+        let z = h .sized in
+        let c = h .few in
+        let r = z .few-rounds in
+        record { few-rounds = z .few-rounds; in-rounds = h .in-rounds; demand-is = refl; least = z .least; most = z .most; list-fits = h .fits; few = omega arith }
 
 pub run-ends : (i : Inputs) (r : Run) (cs : List Lent) → Lasts i r → r .place .number ≡ 0 → Ends i r cs (through r cs)
 unfolding findingRefusal

@@ -1,8 +1,9 @@
 -- An accepted Start opens the book: the run, the list that it wrote, and what holds of them. Assumes nothing.
-use Prim.Native.Nat.{ℕ, zero, suc, _+_, _*_, _/_, _≤_, _<_}
+use Prim.Native.Nat.{ℕ, _+_, _*_, _/_, _≤_, _<_}
 use native.Mathlib.Nat.{mul-le-mul}
 use native.Mathlib.Omega.{arith}
-use mathlib.Core.Path.{_≡_, refl, sym, ap, _∙_}
+use mathlib.Core.Path.{_≡_, refl, sym, _∙_}
+use mathlib.Core.Logic.{inl}
 use mathlib.Core.Bool.{Bool, true, false, _&&_, cond, true≢false}
 use mathlib.Core.List.{List, [], _∷_}
 use borrow.Author.Tests.{ltb-true, ltb-false}
@@ -16,21 +17,22 @@ use Rattle.seed_rules.specs.declared.CandidateSeed.{CandidateSeed}
 use Rattle.seed_rules.specs.Rules.{inBound}
 use Rattle.seed_rules.specs.RulesLaws.{initial-length}
 use Rattle.seed_rules.specs.Layout.{allSeeds, seedAt, written}
-use Rattle.seed_rules.specs.LayoutLaws.{seeds-layout, read-length}
+use Rattle.seed_rules.specs.LayoutLaws.{read-length}
 use Rattle.seed_rules.specs.Facts.{initial-in-bound}
 use Rattle.score_best.specs.Best.{bestOf, firstUnbeaten}
 use Rattle.search_record.specs.declared.run.Run.{Run}
 use Rattle.search_start.specs.declared.Started.the-variants.{Accepted}
-use Rattle.search_start.specs.Start.{positive, goodSeed, demandOf, openingOf}
+use Rattle.search_start.specs.Start.{positive, goodSeed, demandOf, openingOf, startChecks}
 use Rattle.search_start.specs.StartLaws.{Passed, start-passed}
-use Rattle.book.specs.Book.{Inputs, demand, Book, scoredOf, roundBest, runBest, stepOf, firstList, isEmpty, opened}
+use Rattle.book.specs.Book.{Inputs, demand, scoredOf, roundBest, runBest, stepOf, firstList, isEmpty, opened}
+use Rattle.book.specs.Conditions.{conditions}
 use Rattle.book.specs.Theorem.{optionsOf, startOf, startedList}
+use Rattle.book.proofs.Refusals.{none-hold, start-decided}
 use Rattle.book.proofs.Starts.{refusal, openingRun, accepted, list-is}
 use Rattle.book.proofs.Lists.{Front, write-front}
-use Rattle.book.proofs.RunOf.{runOf, Bounded, Fine}
-use Rattle.book.proofs.Planned.{right-opened}
-use Rattle.book.proofs.Bounds.{Within, Good}
-use Rattle.book.proofs.Walks.{State}
+use Rattle.book.proofs.Planned.{planned-opened}
+use Rattle.book.proofs.Good.{Within, Core}
+use Rattle.book.proofs.RunOf.{runOf, State}
 
 empty-is : (ss : List CandidateSeed) → eqb (length ss) 0 ≡ isEmpty ss
 empty-is [] = refl
@@ -120,32 +122,35 @@ module _ (i : Inputs) (l : List Float) (z : refusal i l ≡ 0) where
   some-left [] h = absurd (true≢false h)
   some-left (s ∷ ss) h = omega arith
 
-  opened-fine : Fine (opened i) (written (firstList i) l)
-  unfolding opened
-  opened-fine = record {
-    there = opened-front;
-    bounded = opened-bounded;
-    room = λ o. some-left (firstList i) o;
-    calm = λ o. refl;
-  }
-    where
-      opened-bounded : Bounded (opened i)
-      opened-bounded = unfold opened in record {
-        few-rounds = start-facts .sizes .rounds-max;
-        in-rounds = omega arith;
-        least = demand-least .0;
-        most = demand-most;
-        counted = let p = list-length in let q = few-seeds in omega arith;
-        at-most = omega arith;
-      }
+  -- the bound is a number, since 3 doesn't hold
+  finite-max : isFinite (i .max) ≡ true
+  finite-max =
+      let n = none-hold (startChecks (i .views) (optionsOf i) (i .xs) (i .ys) (i .decomposition) (length l)) (conditions i (length l)) (start-decided i (length l)) z in
+      case (isFinite (i .max)) (λ e. e) (λ e. absurd (n .1 .1 .0 (inl e)))
 
-  opened-good : Good i (opened i)
+  opened-core : Core (opened i)
   unfolding opened
-  opened-good = record { inputs-are = refl; seeds = seeds-within; proper = tt }
+  opened-core = record {
+    sized = record { few-rounds = start-facts .sizes .rounds-max; least = demand-least .0; most = demand-most; finite-bound = finite-max };
+    in-rounds = omega arith;
+    few = let p = list-length in let q = few-seeds in omega arith;
+    fits = let p = list-length in let q = demand-least .1 in omega arith;
+    seeds = seeds-within;
+    proper = tt;
+    numbered = tt;
+    planned = planned-opened i;
+  }
+
+  none-left : (ss : List CandidateSeed) → isEmpty ss ≡ true → 0 ≡ length ss
+  none-left [] h = refl
+  none-left (s ∷ ss) h = absurd (true≢false (sym h))
 
   pub opened-state : State i (opened i) (written (firstList i) l)
-  unfolding opened
-  opened-state = record { fine = opened-fine; right = right-opened i; good = opened-good; counted = tt }
+  unfolding opened runBest scoredOf bestOf firstUnbeaten
+  opened-state = record {
+    good = record { inputs-are = refl; core = opened-core; room = λ o. some-left (firstList i) o; full = λ o. none-left (firstList i) o; calm = λ o. refl; finished = λ o. inl refl };
+    there = opened-front;
+  }
 
 -- ---- an accepted Start
 pub record Opens (i : Inputs) (l : List Float) (r : Run) : Type 0 where

@@ -1,32 +1,28 @@
--- The book's lists and entries are those that the rules name, round by round, and a run that is over with a result has had every round. Assumes nothing.
-use Prim.Native.Nat.{ℕ, zero, suc, _+_, _-_, _≤_, _<_}
+-- The book's lists and entries are those that the rules name, round by round. Assumes nothing.
+use Prim.Native.Nat.{ℕ, zero, suc, _+_, _<_}
 use native.Mathlib.Omega.{arith}
 use mathlib.Core.Path.{_≡_, refl, sym, ap, _∙_}
-use mathlib.Core.Logic.{_⊎_, inl, inr}
-use mathlib.Core.Bool.{Bool, true, false, cond, true≢false}
-use mathlib.Core.List.{List, [], _∷_, _++_, map, append-assoc, append-nil, map-append}
-use borrow.Author.Tests.{ltb-true, ltb-false, eq-eqb, ne-eqb}
-use lib.Dec.{ltb, eqb}
+use mathlib.Core.List.{List, [], _∷_, _++_, map, append-nil, map-append}
+use borrow.Author.Tests.{eq-eqb, ne-eqb}
+use lib.Dec.{eqb}
 use lib.ListN.{length, getD, length-append, length-map}
-use lib.Ieee.{Float}
 use Rattle.common.specs.Tests.{case}
 use Rattle.common.specs.All.{all-append, all-map}
 use Rattle.common.specs.Each.{All}
 use Rattle.seed_rules.specs.declared.CandidateSeed.{CandidateSeed}
 use Rattle.seed_rules.specs.Layout.{six}
-use Rattle.score_outcome.specs.declared.Finding.{Finding}
 use Rattle.score_outcome.specs.declared.Outcome.{Outcome}
-use Rattle.score_outcome.specs.Evaluation.{outcomeOf, findingRefusal}
 use Rattle.score_best.specs.declared.Candidate.{Candidate}
-use Rattle.score_best.specs.Best.{Chosen, nothing, chosen, bestOf, firstUnbeaten}
-use Rattle.book.specs.Calls.{Call, next, seed, answer, ask}
-use Rattle.book.specs.Book.{Inputs, demand, Entry, Book, entries, number, noSeed, current, scoredOf, roundBest, runBest, orElse, firstList, listAround, opened, withWaiting, withEntry, withRound, withEnd, closeRound, bookEnter, bookNext, bookSeed, bookAnswer, bookResult, bookCall}
+use Rattle.score_best.specs.Best.{chosen}
+use Rattle.book.specs.Calls.{seed}
+use Rattle.book.specs.Book.{Inputs, Entry, Book, entries, number, noSeed, roundBest, runBest, orElse, firstList, listAround, opened, withWaiting, withEntry, withRound, withEnd}
 use Rattle.book.specs.Trace.{Handing}
-use Rattle.book.specs.Named.{outcomesIn, enteredAll, following, Plan, plan, named, handingsOf, handings}
-use Rattle.book.proofs.Cases.{case-chosen, case-list}
-use Rattle.book.proofs.RunOf.{Fine}
-use Rattle.book.proofs.Simulation.{waits-room, entry}
-use Rattle.book.proofs.Growth.{handingOf}
+use Rattle.book.specs.Named.{outcomesIn, enteredAll, following, Plan, plan, handingsOf, handings}
+use Rattle.book.proofs.Moves.{entry}
+
+-- an entry as it was handed out
+abbrev pub handingOf : Entry → Handing
+handingOf e = record { round = e .round; number = e .number; part = six (e .seed) }
 
 -- ---- the outcomes of a round
 outcomes-append : (xs ys : List Entry) (r : ℕ) → outcomesIn (xs ++ ys) r ≡ outcomesIn xs r ++ outcomesIn ys r
@@ -143,30 +139,14 @@ module _ (b : Book) (h : Planned b) where
   pub done : length (b .answered) ≡ length (b .list) → Done b
   done c = record { before-is = done-before; list-is = done-list; handings-are = done-handings c }
 
--- ---- what a finished run has done
-abbrev Finished : Book → Type 0
-Finished b = (runBest b ≡ nothing) ⊎ ((b .round ≡ b .inputs .rounds) × (length (b .answered) ≡ length (b .list)))
-
-pub record Right (b : Book) : Type 0 where
-  pub planned : Planned b
-  pub finished : b .over ≡ true → Finished b
-
-await-right : (b : Book) → b .over ≡ false → Right b → Right (withWaiting b)
+-- ---- as the book changes
+pub await-planned : (b : Book) → Planned b → Planned (withWaiting b)
 unfolding withWaiting
-await-right b o h = record { planned = same b (h .planned); finished = λ e. absurd (true≢false (sym e ∙ o)) }
-  where
-    same : (b : Book) → Planned b → Planned (withWaiting b)
-    same b h = unfold withWaiting in record { past = h .past; this = h .this; before-is = h .before-is; list-is = h .list-is; so-far = h .so-far; handings-are = h .handings-are }
+await-planned b h = record { past = h .past; this = h .this; before-is = h .before-is; list-is = h .list-is; so-far = h .so-far; handings-are = h .handings-are }
 
-end-planned : (b : Book) → Planned b → Planned (withEnd b)
+pub end-planned : (b : Book) → Planned b → Planned (withEnd b)
 unfolding withEnd
 end-planned b h = record { past = h .past; this = h .this; before-is = h .before-is; list-is = h .list-is; so-far = h .so-far; handings-are = h .handings-are }
-
-end-right : (b : Book) → Planned b → Finished b → Right (withEnd b)
-end-right b h f = record { planned = end-planned b h; finished = λ e. same b f }
-  where
-    same : (b : Book) → Finished b → Finished (withEnd b)
-    same b f = unfold withEnd runBest in f
 
 entry-so-far : (b : Book) (o : Outcome) → Planned b → length (b .answered) < length (b .list)
     → b .answered ++ entry b o ∷ [] ≡ enteredAll (b .round) (length (b .earlier)) (b .list) (map (λ e. e .outcome) (b .answered ++ entry b o ∷ []))
@@ -182,7 +162,7 @@ entry-so-far b o h r =
     ∙ ap (λ (z : List Entry). z ++ at ∷ []) (sym (h .so-far))
     ∙ ap (λ (z : Entry). b .answered ++ z ∷ []) same)
 
-entry-planned : (b : Book) (o : Outcome) → Planned b → length (b .answered) < length (b .list) → Planned (withEntry b o)
+pub entry-planned : (b : Book) (o : Outcome) → Planned b → length (b .answered) < length (b .list) → Planned (withEntry b o)
 unfolding withEntry
 entry-planned b o h r = record {
   past = h .past;
@@ -208,109 +188,16 @@ round-planned b h c =
       handings-are = d .handings-are;
     }
 
--- ---- the end of a round
-else-nothing : (a c : Chosen) → orElse a c ≡ nothing → c ≡ nothing
-else-nothing nothing c e = e
-else-nothing (chosen w) c e = let z : _≡_ {A = ℕ} 0 1 = cc in absurd (omega arith)
-
 following-is : (b : Book) (w : Candidate) → orElse (roundBest b) (runBest b) ≡ chosen w → following (b .inputs) (b .round) (b .answered) (entries b) ≡ listAround (b .inputs) (suc (b .round)) w
 unfolding following roundBest runBest
 following-is b w e = simp (following, e)
 
-abbrev Closed : ℕ → Type 0
-Closed k = (b : Book) → Planned b → b .over ≡ false → length (b .answered) ≡ length (b .list) → b .round + k ≡ b .inputs .rounds → Right (closeRound k b)
-
-open-planned : (b : Book) (w : Candidate) (ss : List CandidateSeed) → Planned b → length (b .answered) ≡ length (b .list) → orElse (roundBest b) (runBest b) ≡ chosen w
+pub open-planned : (b : Book) (w : Candidate) (ss : List CandidateSeed) → Planned b → length (b .answered) ≡ length (b .list) → orElse (roundBest b) (runBest b) ≡ chosen w
     → listAround (b .inputs) (suc (b .round)) w ≡ ss → Planned (withRound b ss)
 open-planned b w ss h c e q =
     let z : following (b .inputs) (b .round) (b .answered) (entries b) ≡ ss = following-is b w e ∙ q in
     rw z at (round-planned b h c)
 
-round-over : (b : Book) (ss : List CandidateSeed) → withRound b ss .over ≡ b .over
-unfolding withRound
-round-over b ss = refl
-
-close-more : (k : ℕ) → Closed k → Closed (suc k)
-unfolding closeRound
-close-more k ih b h o c r =
-    case-chosen (orElse (roundBest b) (runBest b))
-    (λ e. simp (closeRound, e) (end-right b h (inl (else-nothing (roundBest b) (runBest b) e))))
-    (λ w e.
-    case-list (listAround (b .inputs) (suc (b .round)) w)
-    (λ q. simp (closeRound, e, q) (skipped b w h o c r e q))
-    (λ s ss q. simp (closeRound, e, q) (record { planned = open-planned b w (s ∷ ss) h c e q; finished = λ t. absurd (true≢false (sym t ∙ round-over b (s ∷ ss) ∙ o)) })))
-  where
-    skipped : (b : Book) (w : Candidate) → Planned b → b .over ≡ false → length (b .answered) ≡ length (b .list) → b .round + suc k ≡ b .inputs .rounds
-        → orElse (roundBest b) (runBest b) ≡ chosen w → listAround (b .inputs) (suc (b .round)) w ≡ [] → Right (closeRound k (withRound b []))
-    skipped b w h o c r e q = unfold withRound in ih (withRound b []) (open-planned b w [] h c e q) o refl (omega arith)
-
-close-last : Closed 0
-unfolding closeRound
-close-last b h o c r = end-right b h (inr (omega arith, c))
-
-close-right : (k : ℕ) → Closed k
-close-right zero = close-last
-close-right (suc k) = close-more k (close-right k)
-
--- ---- each call
-entry-count : (b : Book) (o : Outcome) → length (withEntry b o .answered) ≡ length (b .answered) + 1
-unfolding withEntry
-entry-count b o = length-append (b .answered) (entry b o ∷ [])
-
-module _ (b : Book) (o : Outcome) where
-  entry-over : withEntry b o .over ≡ b .over
-  unfolding withEntry
-  entry-over = refl
-
-  entry-list : withEntry b o .list ≡ b .list
-  unfolding withEntry
-  entry-list = refl
-
-  entry-rounds : (withEntry b o .round ≡ b .round) × (withEntry b o .inputs ≡ b .inputs)
-  unfolding withEntry
-  entry-rounds = (refl, refl)
-
-enter-right : (b : Book) (o : Outcome) → Planned b → b .over ≡ false → length (b .answered) < length (b .list) → b .round ≤ b .inputs .rounds → Right (bookEnter b o)
-unfolding bookEnter
-enter-right b o h g r n =
-    let c = withEntry b o in
-    let p = entry-planned b o h r in
-    let over : c .over ≡ false = entry-over b o ∙ g in
-    case (ltb (length (c .answered)) (length (c .list)))
-    (λ e. simp e (record { planned = p; finished = λ t. absurd (true≢false (sym t ∙ over)) }))
-    (λ e.
-    let full : length (c .answered) ≡ length (c .list) =
-    let x = ltb-false (length (c .answered)) (length (c .list)) e in
-    let y : length (c .list) ≡ length (b .list) = ap length (entry-list b o) in
-    let z = entry-count b o in
-    omega arith in
-    let m : c .round ≤ c .inputs .rounds = rw (entry-rounds b o .0, entry-rounds b o .1) n in
-    simp e (close-right (c .inputs .rounds - c .round) c p over full (omega arith)))
-
-pub right-call : (b : Book) (l : List Float) (c : Call) → Fine b l → Right b → Right (bookCall b c .book)
-unfolding bookCall bookNext bookSeed bookAnswer bookResult
-right-call b l (next n) f h =
-    case (b .waits) (λ w. simp w h) (λ w.
-    case (ltb n (demand (b .inputs))) (λ s. simp (w, s) h) (λ s.
-    case (b .over)
-    (λ o. case-chosen (runBest b) (λ e. simp (w, s, o, e) h) (λ v e. simp (w, s, o, e) h))
-    (λ o. simp (w, s, o) (await-right b o h))))
-right-call b l (seed n) f h = h
-right-call b l (answer n f rows flags) g h =
-    case (b .waits)
-    (λ w. case (ltb n (demand (b .inputs)))
-    (λ s. simp (w, s) h)
-    (λ s. case (eqb (findingRefusal f rows flags) 0)
-    (λ z.
-    let o = waits-room b l g w in
-    simp (w, s, z) (enter-right b (outcomeOf f (current b .sensor) (b .inputs .center) rows flags) (h .planned) o (g .room o) (g .bounded .in-rounds)))
-    (λ z. simp (w, s, z) h)))
-    (λ w. simp w h)
-right-call b l ask f h = case (b .over) (λ o. case-chosen (runBest b) (λ e. simp (o, e) h) (λ v e. simp (o, e) h)) (λ o. simp o h)
-
-pub right-opened : (i : Inputs) → Right (opened i)
-unfolding opened plan handings runBest scoredOf bestOf firstUnbeaten
-right-opened i = record {
-  planned = record { past = tt; this = tt; before-is = refl; list-is = refl; so-far = sym (entered-none 0 0 (firstList i)); handings-are = refl };
-  finished = λ e. inl refl;
-}
+pub planned-opened : (i : Inputs) → Planned (opened i)
+unfolding opened plan handings
+planned-opened i = record { past = tt; this = tt; before-is = refl; list-is = refl; so-far = sym (entered-none 0 0 (firstList i)); handings-are = refl }

@@ -1,9 +1,9 @@
 -- Start refuses just where one of 01's conditions holds, with the first one's number. Assumes nothing.
-use Prim.Native.Nat.{ℕ, zero, suc, _/_, _%_, _<_}
+use Prim.Native.Nat.{ℕ, _/_, _%_, _<_}
 use native.Mathlib.Omega.{arith}
-use mathlib.Core.Path.{_≡_, refl, sym, ap, _∙_}
+use mathlib.Core.Path.{_≡_, refl, sym, _∙_}
 use mathlib.Core.Logic.{_⊎_, inl, inr, ⊎-elim}
-use mathlib.Core.Bool.{Bool, true, false, not, _&&_, _||_, cond, true≢false}
+use mathlib.Core.Bool.{Bool, true, false, not, _&&_, _||_, true≢false}
 use mathlib.Core.List.{List, [], _∷_}
 use borrow.Author.Tests.{ltb-true, ltb-false, eqb-true, eqb-false}
 use lib.Dec.{ltb, eqb, eqb·suc-zero}
@@ -19,7 +19,7 @@ use Rattle.seed_rules.specs.Bound.{within-order}
 use Rattle.seed_rules.specs.Layout.{allSeeds}
 use Rattle.search_start.specs.Start.{positive, goodSeed, tooMany, demandOf, startChecks}
 use Rattle.book.specs.Book.{Inputs, demand}
-use Rattle.book.specs.Conditions.{Condition, _provided_, FirstHolds, NoneHolds, Some, NotFinite, NotAboveZero, NotPositive, Beyond, BadSeed, conditions}
+use Rattle.book.specs.Conditions.{Condition, _provided_, FirstHolds, NoneHolds, Some, NotFinite, NotPositive, Beyond, BadSeed, conditions}
 use Rattle.book.specs.Theorem.{optionsOf}
 
 -- ---- a test decides a fact
@@ -92,6 +92,13 @@ none-returned [] (c ∷ cs) d h = absurd d
 none-returned (t ∷ ts) [] d h = absurd d
 none-returned ((m when true) ∷ ts) ((k provided C) ∷ cs) d h = absurd (h .0 (d .2 .holds refl))
 none-returned ((m when false) ∷ ts) ((k provided C) ∷ cs) d h = none-returned ts cs (d .3) (h .1)
+
+pub none-hold : (ts : List Check) (cs : List Condition) → Decide ts cs → firstRefusal ts ≡ 0 → NoneHolds cs
+none-hold [] [] d e = tt
+none-hold [] (c ∷ cs) d e = absurd d
+none-hold (t ∷ ts) [] d e = absurd d
+none-hold ((m when true) ∷ ts) ((k provided C) ∷ cs) d e = let p = d .1 in absurd (omega arith)
+none-hold ((m when false) ∷ ts) ((k provided C) ∷ cs) d e = (d .2 .fails refl, none-hold ts cs (d .3) e)
 
 -- ---- Start's tests
 not-positive : (x : Float) → Decides (not (positive x)) (NotPositive x)

@@ -1,11 +1,10 @@
--- The run's record as a function of the book, and what holds of both and of the lent list, as the calls leave them. Assumes nothing.
-use Prim.Native.Nat.{ℕ, _+_, _*_, _≤_, _<_}
+-- The run's record as a function of the book, and that it is sound. Assumes nothing.
+use Prim.Native.Nat.{_+_, _*_, _≤_}
 use native.Mathlib.Omega.{arith}
 use mathlib.Core.Path.{_≡_, refl}
-use mathlib.Core.Bool.{Bool, true, false, not, _&&_, cond}
-use mathlib.Core.List.{List, [], _∷_, _++_}
+use mathlib.Core.Bool.{Bool, true, false, not}
+use mathlib.Core.List.{List}
 use borrow.Author.Tests.{lt-ltb, le-leb}
-use lib.Dec.{leb, ltb}
 use lib.ListN.{length, length-append}
 use lib.Ieee.{Float}
 use Rattle.common.specs.Tests.{case}
@@ -14,8 +13,9 @@ use Rattle.score_best.specs.Best.{Chosen, nothing, chosen, noBest, held}
 use Rattle.search_record.specs.declared.run.Run.{Run}
 use Rattle.search_record.specs.declared.run.Waiting.{Waiting}
 use Rattle.search_record.specs.Record.{nobody, hasPlace, sound}
-use Rattle.book.specs.Book.{demand, Book, number, current, roundBest, runBest, stepOf, isNothing}
+use Rattle.book.specs.Book.{Inputs, demand, Book, number, current, roundBest, runBest, stepOf, isNothing}
 use Rattle.book.proofs.Lists.{Front}
+use Rattle.book.proofs.Good.{Good}
 
 -- ---- the run that goes with a book
 abbrev pub waitingOf : Bool → CandidateSeed → Waiting
@@ -34,22 +34,10 @@ runOf b =
       «run_best» = held (runBest b);
     }
 
--- ---- what holds of a book that an accepted Start opened
-pub record Bounded (b : Book) : Type 0 where
-  pub few-rounds : b .inputs .rounds ≤ 16
-  pub in-rounds : b .round ≤ b .inputs .rounds
-  pub least : 54 ≤ demand (b .inputs)
-  pub most : demand (b .inputs) ≤ 3072
-  -- 512 seeds in round 0 at most, and nine in each later round
-  pub counted : length (b .earlier) + length (b .list) ≤ 512 + 9 * b .round
-  pub at-most : length (b .answered) ≤ length (b .list)
-
-pub record Fine (b : Book) (l : List Float) : Type 0 where
+-- a book between the calls, and the lent list: the round's seeds stand in its front
+pub record State (i : Inputs) (b : Book) (l : List Float) : Type 0 where
+  pub good : Good i b
   pub there : Front (demand (b .inputs)) (b .list) l
-  pub bounded : Bounded b
-  -- a seed is there to hand out unless the run is over, and none waits once it is
-  pub room : b .over ≡ false → length (b .answered) < length (b .list)
-  pub calm : b .over ≡ true → b .waits ≡ false
 
 -- ---- the run's fields, as the tests read them
 module _ (b : Book) where
@@ -115,29 +103,31 @@ pub ruleset run-fields = (run-demand, run-over, run-len, run-at, run-number, run
 pub ruleset run-bests = (run-round-best, run-run-best, is-found)
 
 -- ---- such a run is sound
-pub count-bound : (b : Book) → Bounded b → number b ≤ 656
-count-bound b h =
-    let n : number b ≡ length (b .earlier) + length (b .answered) = length-append (b .earlier) (b .answered) in
-    let p = h .counted in
-    let q = h .at-most in
-    let r = h .in-rounds in
-    let s = h .few-rounds in
-    omega arith
+module _ (i : Inputs) (b : Book) (g : Good i b) where
+  pub count-bound : number b ≤ 656
+  count-bound =
+      let h = g .core in
+      let n : number b ≡ length (b .earlier) + length (b .answered) = length-append (b .earlier) (b .answered) in
+      let p = h .few in
+      let q = h .in-rounds in
+      let r = h .sized .few-rounds in
+      case (b .over) (λ o. let m = g .full o in omega arith) (λ o. let m = g .room o in omega arith)
 
-pub sound-run : (b : Book) (l : List Float) → Fine b l → sound (runOf b) ≡ true
-unfolding sound hasPlace
-sound-run b l f =
-    let h = f .bounded in
-    let q = f .there .fits in
-    let m = h .most in
-    simp (
-      run-fields,
-      le-leb (b .inputs .rounds) 16 (h .few-rounds),
-      le-leb (b .round) (b .inputs .rounds) (h .in-rounds),
-      le-leb (number b) 656 (count-bound b h),
-      le-leb (length (b .list)) 512 (omega arith),
-      le-leb (6 * length (b .list)) (demand (b .inputs)) q,
-      le-leb 54 (demand (b .inputs)) (h .least),
-      le-leb (demand (b .inputs)) 3072 m,
-    )
-    (case (b .over) (λ o. simp (o, f .calm o)) (λ o. simp (o, lt-ltb (length (b .answered)) (length (b .list)) (f .room o))))
+  pub sound-run : sound (runOf b) ≡ true
+  unfolding sound hasPlace
+  sound-run =
+      let h = g .core in
+      let z = h .sized in
+      let q = h .fits in
+      let m = z .most in
+      simp (
+        run-fields,
+        le-leb (b .inputs .rounds) 16 (z .few-rounds),
+        le-leb (b .round) (b .inputs .rounds) (h .in-rounds),
+        le-leb (number b) 656 count-bound,
+        le-leb (length (b .list)) 512 (omega arith),
+        le-leb (6 * length (b .list)) (demand (b .inputs)) q,
+        le-leb 54 (demand (b .inputs)) (z .least),
+        le-leb (demand (b .inputs)) 3072 m,
+      )
+      (case (b .over) (λ o. simp (o, g .calm o)) (λ o. simp (o, lt-ltb (length (b .answered)) (length (b .list)) (g .room o))))

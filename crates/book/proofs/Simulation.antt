@@ -1,142 +1,122 @@
--- Each call replies as the book does and keeps the run a function of the book, where no score is NaN. Assumes nothing.
+-- Each call replies as the book does and keeps the run a function of the book. Assumes nothing.
 use Prim.Native.Nat.{ℕ, zero, suc, _+_, _-_, _*_, _≤_, _<_}
 use native.Mathlib.Numerals.{add-one}
 use native.Mathlib.Omega.{arith}
 use mathlib.Core.Path.{_≡_, refl, sym, ap, _∙_}
-use mathlib.Core.Bool.{Bool, true, false, not, _&&_, cond, true≢false}
+use mathlib.Core.Bool.{true, false, cond}
 use mathlib.Core.List.{List, [], _∷_, _++_, append-assoc, append-nil}
-use borrow.Author.Tests.{ltb-true, ltb-false, lt-ltb, le-ltb, le-leb, lt-leb}
-use lib.Dec.{leb, ltb, eqb, eqb·suc-zero}
-use lib.ListN.{length, getD, take, drop, length-append, take-append-drop}
+use borrow.Author.Tests.{ltb-true, ltb-false, le-leb, lt-leb}
+use lib.Dec.{ltb, eqb, eqb·suc-zero}
+use lib.ListN.{length, take, drop, length-append, take-append-drop}
 use lib.Ieee.{Float}
 use Rattle.common.specs.Tests.{case}
-use Rattle.common.specs.All.{all-left, all-right}
-use Rattle.common.specs.Each.{All}
-use Rattle.common.specs.Refusal.{firstRefusal}
 use Rattle.float.specs.Binary64.{_*₆₄_}
 use Rattle.float.specs.Literals.{half₆₄}
 use Rattle.seed_rules.specs.declared.CandidateSeed.{CandidateSeed}
-use Rattle.seed_rules.specs.Rules.{offsets, nextList}
-use Rattle.seed_rules.specs.RulesLaws.{next-length}
 use Rattle.seed_rules.specs.Layout.{six, seedAt, written}
 use Rattle.score_outcome.specs.declared.Finding.{Finding}
-use Rattle.score_outcome.specs.declared.Scoring.{Scoring}
 use Rattle.score_outcome.specs.declared.Outcome.{Outcome}
 use Rattle.score_outcome.specs.declared.Outcome.the-variants.{Skipped, Scored}
 use Rattle.score_outcome.specs.Evaluation.{outcomeOf, findingRefusal}
 use Rattle.score_best.specs.declared.Candidate.{Candidate}
 use Rattle.score_best.specs.declared.Best.{Best}
-use Rattle.score_best.specs.Best.{Chosen, nothing, chosen, bestOf, firstUnbeaten, noBest, held, improved, candidateOf}
-use Rattle.score_best.specs.Order.{Sound, best-snoc}
+use Rattle.score_best.specs.Best.{Chosen, nothing, chosen, bestOf, firstUnbeaten, noBest, held, candidateOf}
+use Rattle.score_best.specs.Order.{best-snoc}
 use Rattle.search_record.specs.declared.run.Run.{Run}
 use Rattle.search_record.specs.declared.run.Waiting.{Waiting}
 use Rattle.search_record.specs.Record as rec
 use Rattle.search_calls.specs.Next.{nextDef, seedLent, seedPart}
 use Rattle.search_answer.specs.Answer as ans
 use Rattle.search_calls.specs.Result.{resultDef}
-use Rattle.book.specs.Calls.{Call, next, seed, answer, ask, Reply, candidate, over, part, scored, skipped, result, refused}
-use Rattle.book.specs.Book.{Inputs, demand, Entry, Book, entries, number, noSeed, current, scoredOf, roundBest, runBest, orElse, stepOf, listAround, withWaiting, withEntry, withRound, withEnd, openRound, closeRound, bookEnter, Kept, kept, isNothing, bookNext, bookSeed, replyTo, bookAnswer, bookResult, bookCall}
+use Rattle.book.specs.Calls.{Call, next, seed, answer, ask, Reply, over, part, result, refused}
+use Rattle.book.specs.Book.{Inputs, demand, Entry, Book, entries, number, current, scoredOf, roundBest, runBest, orElse, stepOf, listAround, withWaiting, withEntry, withRound, withEnd, closeRound, bookEnter, Kept, kept, bookNext, bookSeed, replyTo, bookAnswer, bookResult, bookCall}
 use Rattle.book.specs.Walk.{Step, runCall, answeredReply}
 use Rattle.book.proofs.Cases.{case-chosen, case-list, case-outcome}
-use Rattle.book.proofs.RunOf.{waitingOf, runOf, Bounded, Fine, run-demand, run-over, run-len, run-at, run-number, run-round, run-rounds, run-center, run-waiting, run-round-best, run-run-best, run-max, is-waiting, is-found, run-fields, run-bests, sound-run}
+use Rattle.book.proofs.Moves.{entry}
+use Rattle.book.proofs.Good.{waits-going, nine}
+use Rattle.book.proofs.RunOf.{runOf, State, run-waiting, run-round-best, run-run-best, run-max, run-fields, run-bests, sound-run}
 use Rattle.book.proofs.Lists.{seed-at, part-at, Front, lend, give-back, write-front, no-front, short}
 
 -- a call's step beside the book's
 pub record Agrees (x : Step) (k : Kept) : Type 0 where
   pub reply : x .reply ≡ k .reply
   pub run : x .run ≡ runOf (k .book)
-  pub fine : Fine (k .book) (x .list)
+  pub there : Front (demand (k .book .inputs)) (k .book .list) (x .list)
 
 -- ---- a call that changes nothing
-unmoved : (b : Book) (l : List Float) → Fine b l → (a : Reply) → Agrees (record { reply = a; run = runOf b; list = l }) (kept a b)
-unmoved b l f a = record { reply = refl; run = refl; fine = f }
+abbrev pub There : Book → List Float → Type 0
+There b l = Front (demand (b .inputs)) (b .list) l
+
+unmoved : (b : Book) (l : List Float) → There b l → (a : Reply) → Agrees (record { reply = a; run = runOf b; list = l }) (kept a b)
+unmoved b l f a = record { reply = refl; run = refl; there = f }
 
 -- ---- Next
 pub await-run : (b : Book) → rec.awaiting (runOf b) (current b) ≡ runOf (withWaiting b)
 unfolding rec.awaiting runOf withWaiting roundBest runBest
 await-run b = refl
 
-pub await-fine : (b : Book) (l : List Float) → b .over ≡ false → Fine b l → Fine (withWaiting b) l
+pub await-there : (b : Book) (l : List Float) → There b l → There (withWaiting b) l
 unfolding withWaiting
-await-fine b l o f = record { there = f .there; bounded = same (f .bounded); room = f .room; calm = λ e. absurd (true≢false (sym e ∙ o)) }
-  where
-    same : Bounded b → Bounded (withWaiting b)
-    same h = unfold withWaiting in record { few-rounds = h .few-rounds; in-rounds = h .in-rounds; least = h .least; most = h .most; counted = h .counted; at-most = h .at-most }
+await-there b l f = f
 
 pub in-list : (b : Book) (l : List Float) → Front (demand (b .inputs)) (b .list) l → length (b .answered) < length (b .list) → seedAt l (length (b .answered)) ≡ current b
 in-list b l f h = rw (f .list-is) (seed-at (b .list) (f .tail) (length (b .answered)) h)
 
-next-agrees : (b : Book) (l : List Float) (n : ℕ) → Fine b l → Agrees (runCall (runOf b) l (next n)) (bookNext b n)
+next-agrees : (i : Inputs) (b : Book) (l : List Float) (n : ℕ) → State i b l → Agrees (runCall (runOf b) l (next n)) (bookNext b n)
 unfolding runCall nextDef bookNext
-next-agrees b l n f =
+next-agrees i b l n f =
     let d = short (demand (b .inputs)) l n (f .there .long) in
-    let t = sound-run b l f in
-    case (b .waits) (λ w. simp (run-fields, t, w) (unmoved b l f (refused 9))) (λ w.
-    case (ltb n (demand (b .inputs))) (λ s. simp (run-fields, t, w, d, s) (unmoved b l f (refused 10))) (λ s.
+    let t = sound-run i b (f .good) in
+    case (b .waits) (λ w. simp (run-fields, t, w) (unmoved b l (f .there) (refused 9))) (λ w.
+    case (ltb n (demand (b .inputs))) (λ s. simp (run-fields, t, w, d, s) (unmoved b l (f .there) (refused 10))) (λ s.
     case (b .over)
     (λ o. case-chosen (runBest b)
-    (λ e. simp (run-fields, run-bests, t, w, d, s, o, e) (unmoved b l f (refused 11)))
-    (λ v e. simp (run-fields, run-bests, t, w, d, s, o, e) (unmoved b l f over)))
+    (λ e. simp (run-fields, run-bests, t, w, d, s, o, e) (unmoved b l (f .there) (refused 11)))
+    (λ v e. simp (run-fields, run-bests, t, w, d, s, o, e) (unmoved b l (f .there) over)))
     (λ o.
     let g = lend (demand (b .inputs)) (b .list) l n (f .there) (ltb-false n (demand (b .inputs)) s) in
-    simp (run-fields, t, w, d, s, o, in-list b (take n l) g (f .room o), await-run b)
-    (record { reply = refl; run = refl; fine = await-fine b l o f }))))
+    simp (run-fields, t, w, d, s, o, in-list b (take n l) g (f .good .room o), await-run b)
+    (record { reply = refl; run = refl; there = await-there b l (f .there) }))))
 
 -- ---- the seed call
 pub in-part : (b : Book) (l : List Float) → Front (demand (b .inputs)) (b .list) l → length (b .answered) < length (b .list) → take 6 (drop (6 * length (b .answered)) l) ≡ six (current b)
 in-part b l f h = rw (f .list-is) (part-at (b .list) (f .tail) (length (b .answered)) h)
 
--- while a seed waits the run goes on
-pub waits-room : (b : Book) (l : List Float) → Fine b l → b .waits ≡ true → b .over ≡ false
-waits-room b l f w = case (b .over) (λ o. absurd (true≢false (sym w ∙ f .calm o))) (λ o. o)
-
-seed-agrees : (b : Book) (l : List Float) (n : ℕ) → Fine b l → Agrees (runCall (runOf b) l (seed n)) (bookSeed b n)
+seed-agrees : (i : Inputs) (b : Book) (l : List Float) (n : ℕ) → State i b l → Agrees (runCall (runOf b) l (seed n)) (bookSeed b n)
 unfolding runCall seedPart seedLent bookSeed
-seed-agrees b l n f =
+seed-agrees i b l n f =
     let d = short (demand (b .inputs)) l n (f .there .long) in
-    let t = sound-run b l f in
+    let t = sound-run i b (f .good) in
     case (b .waits)
     (λ w. case (ltb n (demand (b .inputs)))
-    (λ s. simp (run-fields, t, w, s, lt-leb (demand (b .inputs)) (length (take n l)) (ltb-true (length (take n l)) (demand (b .inputs)) (d ∙ s))) (unmoved b l f (part [])))
+    (λ s. simp (run-fields, t, w, s, lt-leb (demand (b .inputs)) (length (take n l)) (ltb-true (length (take n l)) (demand (b .inputs)) (d ∙ s))) (unmoved b l (f .there) (part [])))
     (λ s.
     let g = lend (demand (b .inputs)) (b .list) l n (f .there) (ltb-false n (demand (b .inputs)) s) in
-    simp (run-fields, t, w, s, le-leb (demand (b .inputs)) (length (take n l)) (g .long), in-part b (take n l) g (f .room (waits-room b l f w))) (unmoved b l f (part (six (current b))))))
-    (λ w. simp (run-fields, t, w) (unmoved b l f (part [])))
+    simp (run-fields, t, w, s, le-leb (demand (b .inputs)) (length (take n l)) (g .long), in-part b (take n l) g (f .good .room (waits-going i b (f .good) w))) (unmoved b l (f .there) (part (six (current b))))))
+    (λ w. simp (run-fields, t, w) (unmoved b l (f .there) (part [])))
 
 -- ---- Result
-result-agrees : (b : Book) (l : List Float) → Fine b l → Agrees (runCall (runOf b) l ask) (bookResult b)
+result-agrees : (i : Inputs) (b : Book) (l : List Float) → State i b l → Agrees (runCall (runOf b) l ask) (bookResult b)
 unfolding runCall resultDef bookResult
-result-agrees b l f =
-    let t = sound-run b l f in
+result-agrees i b l f =
+    let t = sound-run i b (f .good) in
     case (b .over)
-    (λ o. case-chosen (runBest b) (λ e. simp (run-fields, run-bests, t, o, e) (unmoved b l f (refused 11))) (λ v e. simp (run-fields, run-bests, t, o, e) (unmoved b l f (result v))))
-    (λ o. simp (run-fields, t, o) (unmoved b l f (refused 14)))
+    (λ o. case-chosen (runBest b) (λ e. simp (run-fields, run-bests, t, o, e) (unmoved b l (f .there) (refused 11))) (λ v e. simp (run-fields, run-bests, t, o, e) (unmoved b l (f .there) (result v))))
+    (λ o. simp (run-fields, t, o) (unmoved b l (f .there) (refused 14)))
 
 -- ---- the end of a round
--- what a book and a list must be for a round of it to end: nothing waits, and the run goes on
-pub record Ending (b : Book) (l : List Float) : Type 0 where
-  pub there : Front (demand (b .inputs)) (b .list) l
-  pub bounded : Bounded b
-  pub calm : b .waits ≡ false
-  pub going : b .over ≡ false
-
+-- the run and the list that go with a book
 pub record Ends (x : ans.Left) (b : Book) : Type 0 where
   pub run : x .run ≡ runOf b
-  pub fine : Fine b (x .list)
+  pub there : There b (x .list)
 
 end-run : (b : Book) → b .waits ≡ false → rec.ended (runOf b) ≡ runOf (withEnd b)
 unfolding rec.ended runOf withEnd roundBest runBest
 end-run b w = rw w
 
-end-ends : (b : Book) (l : List Float) → Ending b l → Ends (ans.left (rec.ended (runOf b)) l) (withEnd b)
+end-ends : (b : Book) (l : List Float) → b .waits ≡ false → There b l → Ends (ans.left (rec.ended (runOf b)) l) (withEnd b)
 unfolding withEnd
-end-ends b l e = record {
-  run = end-run b (e .calm);
-  fine = record { there = e .there; bounded = same (e .bounded); room = λ o. absurd (true≢false o); calm = λ o. refl };
-}
-  where
-    same : Bounded b → Bounded (withEnd b)
-    same h = unfold withEnd in record { few-rounds = h .few-rounds; in-rounds = h .in-rounds; least = h .least; most = h .most; counted = h .counted; at-most = h .at-most }
+end-ends b l w f = record { run = end-run b w; there = f }
 
 -- the step of the next list
 step-next : (n : ℕ) (s : Float) → cond (eqb n 0) s (stepOf n s *₆₄ half₆₄) ≡ stepOf (suc n) s
@@ -186,78 +166,40 @@ held-else (chosen w) c = refl
 run-else : (b : Book) → ans.orBest (runOf b .«round_best») (runOf b .«run_best») ≡ held (orElse (roundBest b) (runBest b))
 run-else b = rw (run-round-best b, run-run-best b) (held-else (roundBest b) (runBest b))
 
-round-bounded : (b : Book) (ss : List CandidateSeed) → Bounded b → b .round < b .inputs .rounds → length ss ≤ 9 → Bounded (withRound b ss)
-unfolding withRound
-round-bounded b ss h r n =
-    let k : number b ≡ length (b .earlier) + length (b .answered) = length-append (b .earlier) (b .answered) in
-    let p = h .counted in
-    let q = h .at-most in
-    record { few-rounds = h .few-rounds; in-rounds = r; least = h .least; most = h .most; counted = rw k (omega arith); at-most = omega arith }
-
-open-ends : (b : Book) (l : List Float) (s : CandidateSeed) (ss : List CandidateSeed) → Ending b l → b .round < b .inputs .rounds → length (s ∷ ss) ≤ 9
+open-ends : (b : Book) (l : List Float) (s : CandidateSeed) (ss : List CandidateSeed) → b .waits ≡ false → There b l → 54 ≤ demand (b .inputs) → length (s ∷ ss) ≤ 9
     → Ends (ans.left (rec.roundOpened (runOf b) (length (s ∷ ss))) (written (s ∷ ss) l)) (withRound b (s ∷ ss))
 unfolding withRound
-open-ends b l s ss e r n = record {
-  run = open-run b (s ∷ ss) (e .calm);
-  fine = record {
-    there = write-front (demand (b .inputs)) (s ∷ ss) l (e .there .long) (let p = e .bounded .least in omega arith);
-    bounded = round-bounded b (s ∷ ss) (e .bounded) r n;
-    room = λ o. omega arith;
-    calm = λ o. refl;
-  };
-}
+open-ends b l s ss w f d n = record { run = open-run b (s ∷ ss) w; there = write-front (demand (b .inputs)) (s ∷ ss) l (f .long) (omega arith) }
 
-nine : (i : Inputs) (r : ℕ) (w : Candidate) → length (listAround i r w) ≤ 9
-unfolding listAround offsets
-nine i r w = let d = offsets (stepOf r (i .step)) in next-length d d (w .sensor) (w .camera .k) (i .max)
-
-module _ (b : Book) (ss : List CandidateSeed) where
-  round-waits : withRound b ss .waits ≡ false
+-- a round without seeds
+module _ (b : Book) where
+  skip-same : (withRound b [] .waits ≡ false) × (withRound b [] .inputs ≡ b .inputs)
   unfolding withRound
-  round-waits = refl
+  skip-same = (refl, refl)
 
-  round-over : withRound b ss .over ≡ b .over
+  skip-there : (l : List Float) → There b l → There (withRound b []) l
   unfolding withRound
-  round-over = refl
-
-  round-round : withRound b ss .round ≡ suc (b .round)
-  unfolding withRound
-  round-round = refl
-
-  round-inputs : withRound b ss .inputs ≡ b .inputs
-  unfolding withRound
-  round-inputs = refl
-
-skip-ending : (b : Book) (l : List Float) → Ending b l → b .round < b .inputs .rounds → Ending (withRound b []) l
-skip-ending b l e r = record {
-  there = front b l (no-front (demand (b .inputs)) (b .list) l (e .there));
-  bounded = round-bounded b [] (e .bounded) r (omega arith);
-  calm = round-waits b [];
-  going = round-over b [] ∙ e .going;
-}
-  where
-    front : (b : Book) (l : List Float) → Front (demand (b .inputs)) [] l → Front (demand (withRound b [] .inputs)) (withRound b [] .list) l
-    front b l f = unfold withRound in f
+  skip-there l f = no-front (demand (b .inputs)) (b .list) l f
 
 -- k further rounds are asked for
 abbrev Closing : ℕ → Type 0
-Closing k = (b : Book) (l : List Float) → Ending b l → b .round + k ≡ b .inputs .rounds → Ends (ans.closeRound k (runOf b) l) (closeRound k b)
+Closing k = (b : Book) (l : List Float) → b .waits ≡ false → There b l → 54 ≤ demand (b .inputs) → Ends (ans.closeRound k (runOf b) l) (closeRound k b)
 
 close-last : Closing 0
-unfolding ans.closeRound closeRound noBest
-close-last b l e r = end-ends b l e
+unfolding ans.closeRound closeRound
+close-last b l w f d = end-ends b l w f
 
 close-more : (k : ℕ) → Closing k → Closing (suc k)
 unfolding ans.closeRound closeRound noBest
-close-more k ih b l e r =
+close-more k ih b l v f d =
     case-chosen (orElse (roundBest b) (runBest b))
-    (λ q. simp (ans.closeRound, closeRound, run-else b, q) (end-ends b l e))
+    (λ q. simp (ans.closeRound, closeRound, run-else b, q) (end-ends b l v f))
     (λ w q.
     case-list (listAround (b .inputs) (suc (b .round)) w)
-    (λ t. simp (ans.closeRound, closeRound, run-else b, q, run-seeds, t, open-run b [] (e .calm)) (ih (withRound b []) l (skip-ending b l e (omega arith)) (rw (round-round b [], round-inputs b []) (omega arith))))
+    (λ t. simp (ans.closeRound, closeRound, run-else b, q, run-seeds, t, open-run b [] v) (ih (withRound b []) l (skip-same b .0) (skip-there b l f) (rw (skip-same b .1) d)))
     (λ s ss t.
     let n : length (s ∷ ss) ≤ 9 = rw t at (nine (b .inputs) (suc (b .round)) w) in
-    simp (ans.closeRound, closeRound, run-else b, q, run-seeds, t) (open-ends b l s ss e (omega arith) n)))
+    simp (ans.closeRound, closeRound, run-else b, q, run-seeds, t) (open-ends b l s ss v f d n)))
 
 close-agrees : (k : ℕ) → Closing k
 close-agrees zero = close-last
@@ -273,17 +215,11 @@ scored-append (e ∷ a) b =
     (λ s h. simp (scoredOf, h, scored-append a b))
 
 -- ---- an outcome is entered
-abbrev pub entry : Book → Outcome → Entry
-entry b o = record { number = number b; round = b .round; seed = current b; outcome = o }
-
-best-entry : (b : Book) (o : Outcome) (es : List Entry) → All Sound (scoredOf es)
+best-entry : (b : Book) (o : Outcome) (es : List Entry)
     → rec.withOutcome (held (bestOf (scoredOf es))) (number b) (current b .sensor) o ≡ held (bestOf (scoredOf (es ++ entry b o ∷ [])))
 unfolding scoredOf rec.withOutcome
-best-entry b (Skipped n) es h = simp (scored-append, append-nil)
-best-entry b (Scored s) es h = rw (scored-append es (entry b (Scored s) ∷ [])) (sym (best-snoc (scoredOf es) (candidateOf (number b) (current b .sensor) s) h))
-
-sound-right : (a b : List Entry) → All Sound (scoredOf (a ++ b)) → All Sound (scoredOf b)
-sound-right a b h = all-right Sound (scoredOf a) (scoredOf b) (rw scored-append at h)
+best-entry b (Skipped n) es = simp (scored-append, append-nil)
+best-entry b (Scored s) es = rw (scored-append es (entry b (Scored s) ∷ [])) (sym (best-snoc (scoredOf es) (candidateOf (number b) (current b .sensor) s)))
 
 -- an entered run, its seed's tilts and its bests given by what they equal
 abbrev enteredWith : Run → Best → Best → Run
@@ -307,15 +243,15 @@ entered-with r o s a c e f g = rw (e, f, g)
 pub waiting-seed : (b : Book) → b .waits ≡ true → runOf b .waiting .seed ≡ current b
 waiting-seed b w = simp (run-waiting, w)
 
-enter-round-best : (b : Book) (o : Outcome) → All Sound (scoredOf (entries b))
+enter-round-best : (b : Book) (o : Outcome)
     → rec.withOutcome (runOf b .«round_best») (runOf b .place .number) (current b .sensor) o ≡ held (bestOf (scoredOf (b .answered ++ entry b o ∷ [])))
 unfolding runOf roundBest
-enter-round-best b o h = best-entry b o (b .answered) (sound-right (b .earlier) (b .answered) h)
+enter-round-best b o = best-entry b o (b .answered)
 
-enter-run-best : (b : Book) (o : Outcome) → All Sound (scoredOf (entries b))
+enter-run-best : (b : Book) (o : Outcome)
     → rec.withOutcome (runOf b .«run_best») (runOf b .place .number) (current b .sensor) o ≡ held (bestOf (scoredOf (b .earlier ++ (b .answered ++ entry b o ∷ []))))
 unfolding runOf runBest
-enter-run-best b o h = best-entry b o (entries b) h ∙ ap (λ (x : List Entry). held (bestOf (scoredOf x))) (append-assoc (b .earlier) (b .answered) (entry b o ∷ []))
+enter-run-best b o = best-entry b o (entries b) ∙ ap (λ (x : List Entry). held (bestOf (scoredOf x))) (append-assoc (b .earlier) (b .answered) (entry b o ∷ []))
 
 entry-count : (b : Book) (e : Entry) → length (b .earlier ++ (b .answered ++ e ∷ [])) ≡ number b + 1
 entry-count b e = ap length (sym (append-assoc (b .earlier) (b .answered) (e ∷ []))) ∙ length-append (entries b) (e ∷ [])
@@ -327,70 +263,59 @@ entered-is b o =
     let p : length (b .answered ++ entry b o ∷ []) ≡ length (b .answered) + 1 = length-append (b .answered) (entry b o ∷ []) in
     rw (p, entry-count b (entry b o))
 
-enter-run : (b : Book) (o : Outcome) → All Sound (scoredOf (entries b)) → b .waits ≡ true → rec.entered (runOf b) o ≡ runOf (withEntry b o)
-enter-run b o h w =
+enter-run : (b : Book) (o : Outcome) → b .waits ≡ true → rec.entered (runOf b) o ≡ runOf (withEntry b o)
+enter-run b o w =
     entered-with (runOf b) o (current b) (held (bestOf (scoredOf (b .answered ++ entry b o ∷ [])))) (held (bestOf (scoredOf (b .earlier ++ (b .answered ++ entry b o ∷ [])))))
-    (waiting-seed b w) (enter-round-best b o h) (enter-run-best b o h)
+    (waiting-seed b w) (enter-round-best b o) (enter-run-best b o)
     ∙ entered-is b o
 
 -- ---- the answer to the list's last seed ends the round
-entry-ending : (b : Book) (o : Outcome) (l : List Float) → Front (demand (b .inputs)) (b .list) l → Bounded b → b .over ≡ false → length (b .answered) < length (b .list)
-    → Ending (withEntry b o) l
-unfolding withEntry
-entry-ending b o l f h g r = record { there = f; bounded = more b o h r; calm = refl; going = g }
-  where
-    more : (b : Book) (o : Outcome) → Bounded b → length (b .answered) < length (b .list) → Bounded (withEntry b o)
-    more b o h r = unfold withEntry in record {
-      few-rounds = h .few-rounds;
-      in-rounds = h .in-rounds;
-      least = h .least;
-      most = h .most;
-      counted = h .counted;
-      at-most = rw length-append (omega arith);
-    }
+module _ (b : Book) (o : Outcome) where
+  entry-same : (withEntry b o .waits ≡ false) × (withEntry b o .inputs ≡ b .inputs)
+  unfolding withEntry
+  entry-same = (refl, refl)
 
-enter-agrees : (b : Book) (o : Outcome) (l : List Float) → All Sound (scoredOf (entries b)) → b .waits ≡ true → Ending (withEntry b o) l → Ends (ans.enterDef (runOf b) l o) (bookEnter b o)
+  entry-there : (l : List Float) → There b l → There (withEntry b o) l
+  unfolding withEntry
+  entry-there l f = f
+
+enter-agrees : (b : Book) (o : Outcome) (l : List Float) → b .waits ≡ true → There b l → 54 ≤ demand (b .inputs) → Ends (ans.enterDef (runOf b) l o) (bookEnter b o)
 unfolding ans.enterDef bookEnter
-enter-agrees b o l h w e =
+enter-agrees b o l w f d =
     let c = withEntry b o in
     case (ltb (length (c .answered)) (length (c .list)))
-    (λ t. simp (enter-run b o h w, run-fields, t)
-    (record { run = refl; fine = record { there = e .there; bounded = e .bounded; room = λ g. ltb-true (length (c .answered)) (length (c .list)) t; calm = λ g. e .calm } }))
-    (λ t. simp (enter-run b o h w, run-fields, t) (close-agrees (c .inputs .rounds - c .round) c l e (let r = e .bounded .in-rounds in omega arith)))
+    (λ t. simp (enter-run b o w, run-fields, t) (record { run = refl; there = entry-there b o l f }))
+    (λ t. simp (enter-run b o w, run-fields, t) (close-agrees (c .inputs .rounds - c .round) c l (entry-same b o .0) (entry-there b o l f) (rw (entry-same b o .1) d)))
 
 -- ---- Answer
 -- a refused Answer gives its front of the list back unchanged
-refused-agrees : (b : Book) (l : List Float) (n k : ℕ) → Fine b l → Agrees (record { reply = refused k; run = runOf b; list = take n l ++ drop n l }) (kept (refused k) b)
-refused-agrees b l n k f = record { reply = refl; run = refl; fine = rw take-append-drop f }
+refused-agrees : (b : Book) (l : List Float) (n k : ℕ) → There b l → Agrees (record { reply = refused k; run = runOf b; list = take n l ++ drop n l }) (kept (refused k) b)
+refused-agrees b l n k f = record { reply = refl; run = refl; there = rw take-append-drop f }
 
 reply-is : (o : Outcome) → answeredReply (ans.replyOf o) ≡ replyTo o
 reply-is (Skipped n) = refl
 reply-is (Scored s) = refl
 
-fine-back : (b : Book) (k m : List Float) → Fine b k → Fine b (k ++ m)
-fine-back b k m f = record { there = give-back (demand (b .inputs)) (b .list) k m (f .there); bounded = f .bounded; room = f .room; calm = f .calm }
-
-answer-agrees : (b : Book) (l : List Float) (n : ℕ) (f : Finding) (rows : List Float) (flags : List ℕ) → All Sound (scoredOf (entries b)) → Fine b l
+answer-agrees : (i : Inputs) (b : Book) (l : List Float) (n : ℕ) (f : Finding) (rows : List Float) (flags : List ℕ) → State i b l
     → Agrees (runCall (runOf b) l (answer n f rows flags)) (bookAnswer b n f rows flags)
 unfolding runCall ans.answerDef bookAnswer
-answer-agrees b l n f rows flags h g =
+answer-agrees i b l n f rows flags g =
     let d = short (demand (b .inputs)) l n (g .there .long) in
-    let t = sound-run b l g in
+    let t = sound-run i b (g .good) in
     case (b .waits)
     (λ w. case (ltb n (demand (b .inputs)))
-    (λ s. simp (run-fields, t, w, d, s) (refused-agrees b l n 10 g))
+    (λ s. simp (run-fields, t, w, d, s) (refused-agrees b l n 10 (g .there)))
     (λ s. case (eqb (findingRefusal f rows flags) 0)
     (λ z.
     let o = outcomeOf f (current b .sensor) (b .inputs .center) rows flags in
-    let q = waits-room b l g w in
-    let e = enter-agrees b o (take n l) h w (entry-ending b o (take n l) (lend (demand (b .inputs)) (b .list) l n (g .there) (ltb-false n (demand (b .inputs)) s)) (g .bounded) q (g .room q)) in
-    simp (run-fields, t, w, d, s, z) (record { reply = reply-is o; run = e .run; fine = fine-back (bookEnter b o) (ans.enterDef (runOf b) (take n l) o .list) (drop n l) (e .fine) }))
-    (λ z. simp (run-fields, t, w, d, s, z) (refused-agrees b l n (findingRefusal f rows flags) g))))
-    (λ w. simp (run-fields, t, w) (refused-agrees b l n 12 g))
+    let e = enter-agrees b o (take n l) w (lend (demand (b .inputs)) (b .list) l n (g .there) (ltb-false n (demand (b .inputs)) s)) (g .good .core .sized .least) in
+    simp (run-fields, t, w, d, s, z) (record { reply = reply-is o; run = e .run; there = give-back _ (bookEnter b o .list) (ans.enterDef (runOf b) (take n l) o .list) (drop n l) (e .there) }))
+    (λ z. simp (run-fields, t, w, d, s, z) (refused-agrees b l n (findingRefusal f rows flags) (g .there)))))
+    (λ w. simp (run-fields, t, w) (refused-agrees b l n 12 (g .there)))
 
-pub call-agrees : (b : Book) (l : List Float) (c : Call) → All Sound (scoredOf (entries b)) → Fine b l → Agrees (runCall (runOf b) l c) (bookCall b c)
+pub call-agrees : (i : Inputs) (b : Book) (l : List Float) (c : Call) → State i b l → Agrees (runCall (runOf b) l c) (bookCall b c)
 unfolding bookCall
-call-agrees b l (next n) h f = next-agrees b l n f
-call-agrees b l (seed n) h f = seed-agrees b l n f
-call-agrees b l (answer n f rows flags) h g = answer-agrees b l n f rows flags h g
-call-agrees b l ask h f = result-agrees b l f
+call-agrees i b l (next n) f = next-agrees i b l n f
+call-agrees i b l (seed n) f = seed-agrees i b l n f
+call-agrees i b l (answer n f rows flags) g = answer-agrees i b l n f rows flags g
+call-agrees i b l ask f = result-agrees i b l f

@@ -2,7 +2,6 @@
 use Prim.Native.Nat.{ℕ, zero, suc, _<_}
 use native.Mathlib.Omega.{arith}
 use mathlib.Core.Path.{_≡_, refl, sym, ap, _∙_}
-use mathlib.Core.Bool.{true, false}
 use mathlib.Core.List.{List}
 use borrow.Author.Tests.{eqb-true, eqb-false, eq-eqb, ne-eqb}
 use lib.Dec.{eqb}
@@ -14,7 +13,7 @@ use Rattle.search_record.specs.declared.run.Run.{Run}
 use Rattle.search_start.specs.declared.Started.the-variants.{Accepted, Refused}
 use Rattle.search_start.specs.Start.{startRefusal, opening, startSeeds, startChecks, startReply, startList}
 use Rattle.book.specs.Book.{Inputs, firstList}
-use Rattle.book.specs.Conditions.{FirstHolds, NoneHolds, conditions}
+use Rattle.book.specs.Conditions.{conditions}
 use Rattle.book.specs.Theorem.{optionsOf, startOf, startedList, Starts}
 use Rattle.book.proofs.Refusals.{first-holds, first-returned, none-returned, start-decided}
 

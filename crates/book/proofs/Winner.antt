@@ -1,56 +1,26 @@
 -- The run's best is the earliest of the lowest scores, with the properties of a scored finding. Assumes nothing.
-use Prim.Native.Nat.{ℕ, zero, suc, _+_, _≤_, _<_}
+use Prim.Native.Nat.{ℕ, suc, _+_, _≤_, _<_}
 use native.Mathlib.Omega.{arith}
-use mathlib.Core.Path.{_≡_, refl, sym, ap, _∙_}
+use mathlib.Core.Path.{_≡_, refl, sym, _∙_}
 use mathlib.Core.Logic.{_⊎_, inl, inr}
-use mathlib.Core.Bool.{Bool, true, false, not, _&&_, _||_, cond, true≢false}
+use mathlib.Core.Bool.{true, false, true≢false}
 use mathlib.Core.List.{List, [], _∷_, _++_, List·Memᴰ, List·Memᴰ·head, Memᴰ·append-right}
-use lib.Dec.{ltb, eqb}
-use lib.ListN.{length}
-use lib.Ieee.{Float, neg, lt, le, eq, isNan}
-use Rattle.common.specs.Tests.{case, both-true}
+use lib.Ieee.{Float, neg, lt, le, eq}
+use Rattle.common.specs.Tests.{both-true}
 use Rattle.common.specs.All.{all-append, all-left, all-right, all-map}
 use Rattle.common.specs.Each.{All}
-use Rattle.float.specs.Order.{lt-asym, lt-irrefl, lt-not-eq, le-of-not-lt}
+use Rattle.float.specs.Order.{lt-irrefl, lt-not-eq, le-of-not-lt}
 use Rattle.seed_rules.specs.Rules.{within, inBound}
 use Rattle.seed_rules.specs.Bound.{within-order}
 use Rattle.score_outcome.specs.declared.Scoring.{Scoring}
-use Rattle.score_outcome.specs.Evaluation.{outcomeOf, findingRefusal}
 use Rattle.score_outcome.specs.Facts.{ScoredFacts}
 use Rattle.score_best.specs.declared.Candidate.{Candidate}
-use Rattle.score_best.specs.Best.{beats, Chosen, nothing, chosen, bestOf, firstUnbeaten, candidateOf}
-use Rattle.score_best.specs.Order.{Sound, Leads, best-leads, leader}
-use Rattle.book.specs.Calls.{Call, next, seed, answer, ask}
-use Rattle.book.specs.Book.{Inputs, demand, Entry, Book, entries, current, scoredOf, bookCall, after}
+use Rattle.score_best.specs.Best.{beats, chosen, bestOf}
+use Rattle.score_best.specs.Order.{Sound, lower-beats, beats-number, Leads, found-leads}
+use Rattle.book.specs.Book.{Inputs, Entry, scoredOf}
 use Rattle.book.specs.Theorem.{Wins}
 use Rattle.book.proofs.Cases.{case-outcome}
-use Rattle.book.proofs.Simulation.{entry}
-use Rattle.book.proofs.Growth.{enteredBy, grows}
-use Rattle.book.proofs.Bounds.{Proper}
-
--- ---- the entries are numbered from k on
-abbrev pub Counted : ℕ → List Entry → Type 0
-Counted k [] = Unit {0}
-Counted k (e ∷ es) = (e .number ≡ k) × Counted (suc k) es
-
-counted-append : (k : ℕ) (a b : List Entry) → Counted k a → Counted (k + length a) b → Counted k (a ++ b)
-counted-append k [] b x y = let e : k + 0 ≡ k = omega arith in rw e at y
-counted-append k (c ∷ a) b x y =
-    let e : k + suc (length a) ≡ suc k + length a = omega arith in
-    (x .0, counted-append (suc k) a b (x .1) (rw e at y))
-
-entered-counted : (b : Book) (c : Call) → Counted (length (entries b)) (enteredBy b c)
-unfolding enteredBy
-entered-counted b (next n) = tt
-entered-counted b (seed n) = tt
-entered-counted b (answer n f rows flags) =
-    case (b .waits && (not (ltb n (demand (b .inputs))) && eqb (findingRefusal f rows flags) 0)) (λ t. simp t (refl, tt)) (λ t. simp t tt)
-entered-counted b ask = tt
-
-pub counted-call : (b : Book) (c : Call) → Counted 0 (entries b) → Counted 0 (entries (bookCall b c .book))
-counted-call b c h =
-    let e : length (entries b) ≡ 0 + length (entries b) = omega arith in
-    rw (grows b c) (counted-append 0 (entries b) (enteredBy b c) h (rw e at (entered-counted b c)))
+use Rattle.book.proofs.Good.{Proper, Counted}
 
 -- the scored ones of entries numbered from k on have numbers from k on, and they rise
 abbrev Rising : List Candidate → Type 0
@@ -76,16 +46,11 @@ rising-behind : (a : List Candidate) (w : Candidate) (b : List Candidate) → Ri
 rising-behind [] w b r = r .0
 rising-behind (v ∷ a) w b r = rising-behind a w b (r .1)
 
--- ---- the best of a list leads it
-found-leads : (ws : List Candidate) (w : Candidate) → All Sound ws → bestOf ws ≡ chosen w → Leads ws w
-unfolding bestOf firstUnbeaten
-found-leads [] w h e = let z : _≡_ {A = ℕ} 0 1 = cc in absurd (omega arith)
-found-leads (v ∷ vs) w h e = go (leader v vs h)
-  where
-    go : (u : Candidate) × Leads (v ∷ vs) u → Leads (v ∷ vs) w
-    go p = let q : bestOf (v ∷ vs) ≡ chosen (p .0) = best-leads (v ∷ vs) (p .0) (p .1) in let z : p .0 ≡ w = cc in rw z at (p .1)
-
 -- ---- by IEEE's comparisons
+all-both : {A : Type 0} (P Q R : A → Type 0) → ((x : A) → P x × Q x → R x) → (xs : List A) → All P xs → All Q xs → All R xs
+all-both P Q R f [] p q = tt
+all-both P Q R f (x ∷ xs) p q = (f x (p .0, q .0), all-both P Q R f xs (p .1) (q .1))
+
 below-le : (x y : Float) → lt x y ≡ true → le x y ≡ true
 unfolding le
 below-le x y h = rw h
@@ -97,37 +62,46 @@ module _ (w : Candidate) where
   Later : Candidate → Type 0
   Later v = eq (w .score) (v .score) ≡ true → (v ≡ w) ⊎ (w .number < v .number)
 
-  ahead-most : (v : Candidate) → beats w v ≡ true → AtMost v
-  unfolding beats AtMost
-  ahead-most v h = below-le (w .score) (v .score) h
+  -- where every score is a number
+  beaten-lower : (v : Candidate) → Sound v → beats w v ≡ true → lt (w .score) (v .score) ≡ true
+  beaten-lower v n h = sym (lower-beats w v (beats-number w v h) n) ∙ h
 
-  ahead-later : (v : Candidate) → beats w v ≡ true → Later v
-  unfolding beats Later
-  ahead-later v h e = absurd (true≢false (sym e ∙ lt-not-eq (w .score) (v .score) h))
+  not-lower : (v : Candidate) → Sound w → Sound v → beats v w ≡ false → lt (v .score) (w .score) ≡ false
+  not-lower v m n h = sym (lower-beats v w n m) ∙ h
+
+  ahead-most : (v : Candidate) → Sound v × (beats w v ≡ true) → AtMost v
+  unfolding AtMost
+  ahead-most v h = below-le (w .score) (v .score) (beaten-lower v (h .0) (h .1))
+
+  ahead-later : (v : Candidate) → Sound v × (beats w v ≡ true) → Later v
+  unfolding Later
+  ahead-later v h e = absurd (true≢false (sym e ∙ lt-not-eq (w .score) (v .score) (beaten-lower v (h .0) (h .1))))
 
   own-most : Sound w → AtMost w
   unfolding AtMost
   own-most n = le-of-not-lt (w .score) (w .score) n n (lt-irrefl (w .score))
 
-  behind-most : (vs : List Candidate) → Sound w → All Sound vs → All (λ v. beats v w ≡ false) vs → All AtMost vs
-  unfolding beats AtMost
-  behind-most [] n s h = tt
-  behind-most (v ∷ vs) n s h = (le-of-not-lt (w .score) (v .score) n (s .0) (h .0), behind-most vs n (s .1) (h .1))
+  behind-most : Sound w → (v : Candidate) → Sound v × (beats v w ≡ false) → AtMost v
+  unfolding AtMost
+  behind-most n v h = le-of-not-lt (w .score) (v .score) n (h .0) (not-lower v n (h .0) (h .1))
 
   all-most : (ws : List Candidate) → All Sound ws → Leads ws w → All AtMost ws
   all-most ws s l =
       let t : All Sound (l .before ++ w ∷ l .behind) = rw (l .split) at s in
       let r = all-right Sound (l .before) (w ∷ l .behind) t in
       rw (l .split)
-      (all-append AtMost (l .before) (w ∷ l .behind) (all-map (λ v. beats w v ≡ true) AtMost ahead-most (l .before) (l .ahead))
-      (own-most (r .0), behind-most (l .behind) (r .0) (r .1) (l .unbeaten-by)))
+      (all-append AtMost (l .before) (w ∷ l .behind)
+      (all-both Sound (λ v. beats w v ≡ true) AtMost ahead-most (l .before) (all-left Sound (l .before) (w ∷ l .behind) t) (l .ahead))
+      (own-most (l .number), all-both Sound (λ v. beats v w ≡ false) AtMost (behind-most (l .number)) (l .behind) (r .1) (l .unbeaten-by)))
 
-  all-earliest : (ws : List Candidate) → Rising ws → Leads ws w → All Later ws
+  all-earliest : (ws : List Candidate) → All Sound ws → Rising ws → Leads ws w → All Later ws
   unfolding Later
-  all-earliest ws s l =
+  all-earliest ws n s l =
       let t : Rising (l .before ++ w ∷ l .behind) = rw (l .split) at s in
+      let m : All Sound (l .before ++ w ∷ l .behind) = rw (l .split) at n in
       rw (l .split)
-      (all-append Later (l .before) (w ∷ l .behind) (all-map (λ v. beats w v ≡ true) Later ahead-later (l .before) (l .ahead))
+      (all-append Later (l .before) (w ∷ l .behind)
+      (all-both Sound (λ v. beats w v ≡ true) Later ahead-later (l .before) (all-left Sound (l .before) (w ∷ l .behind) m) (l .ahead))
       ((λ e. inl refl), all-map (λ v. w .number < v .number) Later (λ v p e. inr p) (l .behind) (rising-behind (l .before) w (l .behind) t)))
 
   leads-mem : (ws : List Candidate) → Leads ws w → List·Memᴰ w ws
@@ -145,7 +119,8 @@ unfolding scoredOf
 scored-proper i [] h = tt
 scored-proper i (e ∷ es) h =
     let r = scored-proper i es (h .1) in
-    case-outcome (e .outcome) (λ m q. simp (scoredOf, q) r) (λ g q. simp (scoredOf, q) ((h .0 .within, h .0 .facts g q), r))
+    let s = h .0 .stands in
+    case-outcome (e .outcome) (λ m q. simp (scoredOf, q) r) (λ g q. simp (scoredOf, q) ((h .0 .within, rw q at s), r))
 
 leads-proper : (i : Inputs) (ws : List Candidate) (w : Candidate) → All (ProperCandidate i) ws → Leads ws w → ProperCandidate i w
 leads-proper i ws w h l = all-right (ProperCandidate i) (l .before) (w ∷ l .behind) (rw (l .split) at h) .0
@@ -158,10 +133,15 @@ bound-parts : (i : Inputs) (w : Candidate) → inBound (i .max) (w .sensor) ≡ 
 unfolding inBound
 bound-parts i w h = both-true (within (i .max) (w .sensor .«tilt_x»)) (within (i .max) (w .sensor .«tilt_y»)) h
 
-pub winner : (i : Inputs) (es : List Entry) (w : Candidate) → All Sound (scoredOf es) → Counted 0 es → All (Proper i) es → bestOf (scoredOf es) ≡ chosen w → Wins i es w
+-- every score is a number
+pub numbers : (i : Inputs) (es : List Entry) → All (Proper i) es → All Sound (scoredOf es)
+numbers i es p = all-map (ProperCandidate i) Sound (λ v q. q .1 .score-number) (scoredOf es) (scored-proper i es p)
+
+pub winner : (i : Inputs) (es : List Entry) (w : Candidate) → Counted 0 es → All (Proper i) es → bestOf (scoredOf es) ≡ chosen w → Wins i es w
 unfolding AtMost Later
-winner i es w s c p e =
-    let l = found-leads (scoredOf es) w s e in
+winner i es w c p e =
+    let s = numbers i es p in
+    let l = found-leads (scoredOf es) w e in
     let q = leads-proper i (scoredOf es) w (scored-proper i es p) l in
     let t = bound-parts i w (q .0) in
     let x = sides (i .max) (w .sensor .«tilt_x») (t .0) in
@@ -170,7 +150,7 @@ winner i es w s c p e =
     record {
       is-scored = leads-mem w (scoredOf es) l;
       lowest = all-most w (scoredOf es) s l;
-      earliest = all-earliest w (scoredOf es) (scored-rising 0 es c) l;
+      earliest = all-earliest w (scoredOf es) s (scored-rising 0 es c) l;
       tilt-x-least = x .0;
       tilt-x-most = x .1;
       tilt-y-least = y .0;

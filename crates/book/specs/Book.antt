@@ -6,7 +6,7 @@ use mathlib.Core.List.{List, [], _∷_, _++_}
 use lib.Dec.{ltb, eqb}
 use lib.ListN.{length, getD}
 use lib.Ieee.{Float, binary64, ofBits}
-use Rattle.common.specs.Refusal.{Check, _when_, firstRefusal}
+use Rattle.common.specs.Refusal.{_when_, firstRefusal}
 use Rattle.float.specs.Binary64.{_*₆₄_}
 use Rattle.float.specs.Literals.{plusZero, half₆₄}
 use Rattle.camera_models.specs.declared.math.Pt2.{Pt2}

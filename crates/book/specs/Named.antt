@@ -7,7 +7,7 @@ use lib.ListN.{length}
 use Rattle.seed_rules.specs.declared.CandidateSeed.{CandidateSeed}
 use Rattle.seed_rules.specs.Layout.{six}
 use Rattle.score_outcome.specs.declared.Outcome.{Outcome}
-use Rattle.score_best.specs.Best.{Chosen, nothing, chosen, bestOf}
+use Rattle.score_best.specs.Best.{nothing, chosen, bestOf}
 use Rattle.book.specs.Book.{Inputs, Entry, scoredOf, orElse, firstList, listAround}
 use Rattle.book.specs.Trace.{Handing}
 

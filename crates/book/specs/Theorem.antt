@@ -9,9 +9,13 @@ use lib.Ieee.{Float, neg, lt, le, eq, isNan}
 use Rattle.common.specs.Each.{All}
 use Rattle.float.specs.Float.{absOf, isFinite}
 use Rattle.float.specs.Literals.{plusZero}
+use Rattle.camera_tilt.specs.declared.sensor.ScheimpflugParams.{ScheimpflugParams}
+use Rattle.seed_rules.specs.Rules.{tilts, seedGrid}
+use Rattle.seed_rules.specs.Layout.{six}
+use Rattle.seed_rules.specs.Tried.{Tried}
 use Rattle.score_outcome.specs.declared.Finding.{Finding}
 use Rattle.score_outcome.specs.declared.Finding.the-variants.{Failed}
-use Rattle.score_camera.specs.declared.pinhole.PinholeCamera.{PinholeCamera}
+use Rattle.score_outcome.specs.declared.Outcome.{Outcome}
 use Rattle.score_camera.specs.Camera.{tangentialBound}
 use Rattle.score_outcome.specs.Evaluation.{findingRefusal}
 use Rattle.score_best.specs.declared.Candidate.{Candidate}
@@ -22,15 +26,16 @@ use Rattle.search_start.specs.declared.Started.{Started}
 use Rattle.search_start.specs.declared.Started.the-variants.{Accepted, Refused}
 use Rattle.search_calls.specs.declared.next.Handed.the-variants as handed-as
 use Rattle.search_calls.specs.declared.result.Resulted.the-variants.{Result}
+use Rattle.search_calls.specs.declared.result.Resulted.the-variants as resulted-as
 use Rattle.search_start.specs.Start.{startReply, startList}
 use Rattle.search_calls.specs.Next.{nextDef}
 use Rattle.search_answer.specs.Answer.{answerRefusal}
 use Rattle.search_calls.specs.Result.{resultDef}
-use Rattle.book.specs.Calls.{Call, Reply}
-use Rattle.book.specs.Book.{Inputs, demand, Entry, Book, entries, scoredOf, opened, replies, after}
+use Rattle.book.specs.Calls.{Call}
+use Rattle.book.specs.Book.{Inputs, demand, Entry, entries, scoredOf, firstList, opened, replies, after}
 use Rattle.book.specs.Conditions.{FirstHolds, NoneHolds, conditions}
 use Rattle.book.specs.Walk.{walk}
-use Rattle.book.specs.Trace.{handed, answers, runAfter}
+use Rattle.book.specs.Trace.{Handing, handed, answers, runAfter}
 use Rattle.book.specs.Named.{outcomesIn, handings}
 use Rattle.book.specs.Lent.{Lent, through, accepted, stillLeft, Turn, Taken, turns}
 
@@ -44,9 +49,9 @@ startOf i l = startReply (i .views) (optionsOf i) (i .xs) (i .ys) (i .decomposit
 abbrev pub startedList : Inputs → List Float → List Float
 startedList i l = startList (i .views) (optionsOf i) (i .xs) (i .ys) (i .decomposition) (i .base) (i .center) l
 
--- ---- the one condition on what the host sends: no score in the book is NaN
-unfoldable pub NoNan : Book → Type 0
-NoNan b = All (λ w. isNan (w .score) ≡ false) (scoredOf (entries b))
+-- ---- no score of these answers is NaN
+unfoldable pub NoNan : List Entry → Type 0
+NoNan es = All (λ w. isNan (w .score) ≡ false) (scoredOf es)
 
 -- ---- w is the result that the accepted answers es call for
 pub record Wins (i : Inputs) (es : List Entry) (w : Candidate) : Type 0 where
@@ -75,16 +80,34 @@ pub record Wins (i : Inputs) (es : List Entry) (w : Candidate) : Type 0 where
   pub mean-finite : isFinite (w .«mean_reproj_error») ≡ true
   pub mean-not-negative : lt (w .«mean_reproj_error») plusZero ≡ false
 
+-- ---- a pair of typed tilts was tried: the seed that round 0's list has for it was handed out in round 0 and answered
+pub record TiltTried (i : Inputs) (hs : List Handing) (es : List Entry) (t : ScheimpflugParams) : Type 0 where
+  pub by : Tried (firstList i) (seedGrid (i .xs) (i .ys) (i .max)) (i .base) t
+  pub number : ℕ
+  pub outcome : Outcome
+  pub handed-out : List·Memᴰ (record { round = 0; number = number; part = six (by .seed) }) hs
+  pub answered : List·Memᴰ (record { number = number; round = 0; seed = by .seed; outcome = outcome }) es
+
+-- the run is over: Result gives a result, or 11
+abbrev pub Over : Run → Type 0
+Over r = ((w : Candidate) × (resultDef r ≡ Result w)) ⊎ (resultDef r ≡ resulted-as.Refused 11)
+
 -- ---- what holds of a run that Start opened, and of the list that Start wrote, for a list of calls
 pub record Follows (i : Inputs) (r : Run) (l : List Float) (cs : List Call) : Type 0 where
   -- every reply is the book's
   pub same-replies : walk r l cs ≡ replies (opened i) cs
   -- the accepted answers are those that the book holds
   pub same-entries : answers r l cs ≡ entries (after (opened i) cs)
+  -- whatever the host sent, none of their scores is NaN
+  pub no-nan : NoNan (answers r l cs)
   -- If Result then gives a result: each round handed out the seeds that the rules name from Start's inputs and the outcomes of the rounds
   -- before, each once, in order, numbered on from 0; and the result is the earliest candidate with the lowest score, within 01's bounds.
   pub handed-out : (w : Candidate) → resultDef (runAfter r l cs) ≡ Result w → handed r l cs ≡ handings i (outcomesIn (answers r l cs)) (suc (i .rounds))
   pub wins : (w : Candidate) → resultDef (runAfter r l cs) ≡ Result w → Wins i (answers r l cs) w
+  -- If the run is over, with a result or with 11: every pair of typed tilts within ±max_abs_tilt was tried.
+  pub every-tilt : Over (runAfter r l cs) → (x y : Float) → List·Memᴰ x (i .xs) → List·Memᴰ y (i .ys)
+      → le (neg (i .max)) x ≡ true → le x (i .max) ≡ true → le (neg (i .max)) y ≡ true → le y (i .max) ≡ true
+      → TiltTried i (handed r l cs) (answers r l cs) (tilts x y)
   -- at most 656 answers are accepted
   pub few-answers : length (answers r l cs) ≤ 656
 
@@ -113,7 +136,7 @@ pub record Starts (i : Inputs) (l : List Float) : Type 0 where
 -- ---- the theorem: Start on any inputs and any list, and then any calls, in any order, whatever the host answers
 pub record IsBook (i : Inputs) (l : List Float) : Type 0 where
   pub starts : Starts i l
-  pub follows : (r : Run) → startOf i l ≡ Accepted r → (cs : List Call) → NoNan (after (opened i) cs) → Follows i r (startedList i l) cs
+  pub follows : (r : Run) → startOf i l ≡ Accepted r → (cs : List Call) → Follows i r (startedList i l) cs
   pub ends : (r : Run) → startOf i l ≡ Accepted r → (cs : List Lent) → Ends i r cs (through r cs)
 
 abbrev pub SearchIsBook : Type 0

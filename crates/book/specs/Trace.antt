@@ -13,7 +13,7 @@ use Rattle.search_calls.specs.Next.{nextDef, seedPart}
 use Rattle.search_answer.specs.Answer.{answerRefusal}
 use Rattle.book.specs.Calls.{Call, next, seed, answer, ask}
 use Rattle.book.specs.Book.{Entry}
-use Rattle.book.specs.Walk.{Step, runCall}
+use Rattle.book.specs.Walk.{runCall}
 
 -- ---- a candidate that Next handed out: the round, the number, and the part that a seed call made at that point returns
 pub record Handing : Type 0 where

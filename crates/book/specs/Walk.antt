@@ -1,6 +1,5 @@
 -- The run beside the book: a list of calls, each given the run and the seed list as the calls before left them, by the very definitions
 -- that the entry points' contracts name. Definitions only.
-use Prim.Native.Nat.{ℕ}
 use mathlib.Core.List.{List, [], _∷_, _++_}
 use lib.ListN.{take, drop}
 use lib.Ieee.{Float}

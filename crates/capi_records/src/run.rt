@@ -34,7 +34,7 @@ pub struct NextFlat {
     pub run: RunRecord,
 }
 
-// 0 and the score; or 0 and the reason of a skip, 1, 2 or 3; or 12, 10, 13 or 15.
+// 0 and the score; or 0 and the reason of a skip, 1 to 4; or 12, 10, 13 or 15.
 #[repr(C)]
 pub struct AnswerFlat {
     pub number: u8,

@@ -1,11 +1,9 @@
 -- Two runs that end with nothing: round 0 is empty; and nothing is scored. Definitions only.
-use Prim.Native.Nat.{ℕ}
 use mathlib.Core.List.{List, [], _∷_, _++_}
-use lib.Ieee.{Float}
 use Rattle.score_outcome.specs.declared.Finding.the-variants.{Failed}
-use Rattle.book.specs.Calls.{Call, next, seed, answer, ask, Reply, candidate, over, part, scored, skipped, result, refused}
+use Rattle.book.specs.Calls.{Call, next, seed, answer, ask, Reply, candidate, part, skipped, refused}
 use Rattle.book.specs.Book.{Inputs}
-use Rattle.cases.specs.Words.{bits, f0, pinhole, centre, failed}
+use Rattle.cases.specs.Words.{bits, f0, quarter, pinhole, centre, failed}
 
 -- the one typed tilt, 0.5, is beyond the bound, 0.25
 abbrev pub emptyInputs : Inputs
@@ -13,7 +11,7 @@ emptyInputs = record {
   views = 3;
   rounds = 2;
   step = bits 0x3fc0_0000_0000_0000;
-  max = bits 0x3fd0_0000_0000_0000;
+  max = quarter;
   xs = bits 0x3fe0_0000_0000_0000 ∷ [];
   ys = f0 ∷ [];
   decomposition = [];
@@ -33,7 +31,7 @@ failedInputs = record {
   views = 3;
   rounds = 2;
   step = bits 0x3fc0_0000_0000_0000;
-  max = bits 0x3fd0_0000_0000_0000;
+  max = quarter;
   xs = f0 ∷ bits 0xbfd0_0000_0000_0000 ∷ [];
   ys = f0 ∷ [];
   decomposition = [];

@@ -3,3 +3,4 @@ pub mod Table
 pub mod Words
 pub mod Whole
 pub mod Ended
+pub mod Lost

@@ -1,6 +1,5 @@
 -- A run through three rounds: decomposition and grid seeds, a merged seed and one beyond the bound, equal scores, a round that scores nothing, every
 -- skip reason, a scored candidate with a tangential coefficient, and refused calls in between. Definitions only.
-use Prim.Native.Nat.{ℕ}
 use mathlib.Core.List.{List, [], _∷_, _++_}
 use lib.Ieee.{Float}
 use Rattle.score_outcome.specs.declared.Finding.the-variants.{Failed}
@@ -10,12 +9,9 @@ use Rattle.search_start.specs.Start.{openingOf}
 use Rattle.book.specs.Calls.{Call, next, seed, answer, ask, Reply, candidate, over, part, scored, skipped, result, refused}
 use Rattle.book.specs.Book.{Inputs}
 use Rattle.book.specs.Theorem.{optionsOf}
-use Rattle.cases.specs.Words.{bits, f0, f1, f50, f100, pinhole, centre, solvedWith, untilted, rightAngle, seenAt, inFront, turn, failed}
+use Rattle.cases.specs.Words.{bits, f0, quarter, f1, f50, f100, pinhole, centre, solvedWith, untilted, rightAngle, seenAt, inFront, turn, failed}
 
--- 0.25, 0.5
-abbrev quarter : Float
-quarter = bits 0x3fd0_0000_0000_0000
-
+-- 0.5
 abbrev half : Float
 half = bits 0x3fe0_0000_0000_0000
 

@@ -4,7 +4,6 @@ use mathlib.Core.List.{List, [], _∷_, _++_}
 use lib.Ieee.{Float, binary64, ofBits}
 use Rattle.camera_models.specs.declared.math.Pt2.{Pt2}
 use Rattle.camera_models.specs.declared.intrinsics.FxFyCxCy.{FxFyCxCy}
-use Rattle.score_camera.specs.declared.pinhole.PinholeCamera.{PinholeCamera}
 use Rattle.score_rows.specs.declared.TiltTrig.{TiltTrig}
 use Rattle.score_outcome.specs.declared.Finding.{Finding}
 use Rattle.score_outcome.specs.declared.Finding.the-variants.{Failed, Solved}
@@ -18,9 +17,12 @@ use Rattle.book.specs.Theorem.{startOf, startedList}
 abbrev pub bits : ℕ → Float
 bits b = ofBits binary64 b
 
--- 0, 1, 50, 100
+-- 0, 0.25, 1, 50, 100
 abbrev pub f0 : Float
 f0 = bits 0
+
+abbrev pub quarter : Float
+quarter = bits 0x3fd0_0000_0000_0000
 
 abbrev pub f1 : Float
 f1 = bits 0x3ff0_0000_0000_0000

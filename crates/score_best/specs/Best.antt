@@ -2,15 +2,19 @@
 use Prim.Native.Nat.{ℕ}
 use mathlib.Core.Bool.{Bool, true, false, not, _&&_, _||_, cond}
 use mathlib.Core.List.{List, [], _∷_}
-use lib.Ieee.{Float, binary64, ofBits, lt}
+use lib.Ieee.{Float, binary64, ofBits, lt, isNan}
 use Rattle.camera_tilt.specs.declared.sensor.ScheimpflugParams.{ScheimpflugParams}
 use Rattle.score_outcome.specs.declared.Scoring.{Scoring}
 use Rattle.score_best.specs.declared.Candidate.{Candidate}
 use Rattle.score_best.specs.declared.Best.{Best}
 
--- a candidate's score is lower than another's, as IEEE 754 compares: never where one is NaN
+-- a candidate's score is a number
+abbrev pub isNumber : Candidate → Bool
+isNumber w = not (isNan (w .score))
+
+-- A candidate is better than another: its score is a number, and the other's is none, or higher as IEEE 754 compares.
 unfoldable pub beats : Candidate → Candidate → Bool
-beats v w = lt (v .score) (w .score)
+beats v w = isNumber v && (not (isNumber w) || lt (v .score) (w .score))
 
 -- ---- of a whole list
 -- what is chosen of a list: nothing, or one of its candidates
@@ -23,12 +27,12 @@ unfoldable pub unbeaten : Candidate → List Candidate → Bool
 unbeaten w [] = true
 unbeaten w (v ∷ vs) = not (beats v w) && unbeaten w vs
 
--- the first of the second list that no candidate of the first beats
+-- the first of the second list whose score is a number and that no candidate of the first beats
 unfoldable pub firstUnbeaten : List Candidate → List Candidate → Chosen
 firstUnbeaten all [] = nothing
-firstUnbeaten all (w ∷ ws) = cond (unbeaten w all) (chosen w) (firstUnbeaten all ws)
+firstUnbeaten all (w ∷ ws) = cond (isNumber w && unbeaten w all) (chosen w) (firstUnbeaten all ws)
 
--- The best of a round or of a run: of its scored candidates the earliest with the lowest score.
+-- The best of a round or of a run: of its scored candidates, those whose score is a number, the earliest with the lowest score.
 unfoldable pub bestOf : List Candidate → Chosen
 bestOf ws = firstUnbeaten ws ws
 
@@ -56,9 +60,9 @@ abbrev pub held : Chosen → Best
 held nothing = noBest
 held (chosen w) = found w
 
--- The first candidate is taken; after it a lower score replaces, and an equal one doesn't.
+-- The first candidate whose score is a number is taken; after it a better one replaces, and an equal one doesn't.
 unfoldable pub isBetter : Candidate → Best → Bool
-isBetter v b = not (b .found) || beats v (b .candidate)
+isBetter v b = cond (b .found) (beats v (b .candidate)) (isNumber v)
 
 unfoldable pub improved : Best → Candidate → Best
 improved b v = cond (isBetter v b) (found v) b

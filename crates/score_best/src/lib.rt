@@ -1,4 +1,5 @@
-// The best of the scored candidates: the earliest with the lowest score. A run keeps it as it goes, replacing it by each better one.
+// The best of the scored candidates: the earliest with the lowest score. A run keeps it as it goes, replacing it by each better one. A score that isn't a
+// number is never the best, whatever record it stands in.
 
 ghost use mathlib.Core.Path.{_≡_};
 ghost use Rattle.score_best.specs.Best.{isBetter, improved, noBest};
@@ -56,11 +57,18 @@ pub fn no_best() -> Best
     }
 }
 
-// Whether a candidate replaces the best: there is none yet, or its score is lower. A NaN is lower than nothing, and nothing is lower than it.
+// Whether a candidate replaces the best: its score is a number, and there is no best yet, or one whose score is none, or a higher one.
 pub fn is_better(candidate: Candidate, current: Best) -> bool
     ensures { λ r. ⌜ r ≡ isBetter candidate current ⌝ }
 {
-    !current.found | (candidate.score < current.candidate.score)
+    if candidate.score != candidate.score {
+        return false;
+    }
+    if !current.found {
+        return true;
+    }
+    (current.candidate.score != current.candidate.score)
+        | (candidate.score < current.candidate.score)
 }
 
 // The best after one more candidate.

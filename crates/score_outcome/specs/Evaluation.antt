@@ -4,7 +4,7 @@ use mathlib.Core.Bool.{Bool, false, not, _||_, cond}
 use mathlib.Core.List.{List, [], _∷_}
 use lib.Dec.{eqb, ltb}
 use lib.ListN.{length}
-use lib.Ieee.{Float, eq}
+use lib.Ieee.{Float, eq, isNan}
 use Rattle.common.specs.Refusal.{_when_, firstRefusal}
 use Rattle.float.specs.Float.{isFinite}
 use Rattle.float.specs.Literals.{plusZero}
@@ -53,11 +53,13 @@ scoringOf s sensor center rows flags =
     let mean = meanWith s rows flags in
     record { camera = camera; mean = mean; score = scoreOf mean camera sensor center }
 
--- 01, 'The run': the camera is damped, then checked (reason 2), and the rows are projected; a mean that isn't finite is reason 3.
+-- 01, 'The run': the camera is damped, then checked (reason 2), and the rows are projected; a mean that isn't finite is reason 3. 02, E3: a score that
+-- isn't a number is reason 4; an infinite one is a score.
 unfoldable pub evaluated : SolvedCamera → ScheimpflugParams → Pt2 → List Float → List ℕ → Outcome
 evaluated s sensor center rows flags =
     cond (not (validCamera (dampedCamera (s .camera)))) (Skipped 2)
-    (cond (not (isFinite (meanWith s rows flags))) (Skipped 3) (Scored (scoringOf s sensor center rows flags)))
+    (cond (not (isFinite (meanWith s rows flags))) (Skipped 3)
+    (cond (isNan (scoringOf s sensor center rows flags .score)) (Skipped 4) (Scored (scoringOf s sensor center rows flags))))
 
 -- Reason 1: the host Failed.
 unfoldable pub outcomeOf : Finding → ScheimpflugParams → Pt2 → List Float → List ℕ → Outcome

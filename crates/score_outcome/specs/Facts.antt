@@ -1,7 +1,7 @@
 -- What holds of every scored finding, and which reasons a skipped one has. Assumes nothing.
 use Prim.Native.Nat.{ℕ, _≤_}
 use mathlib.Core.Path.{_≡_, refl, sym, subst, _∙_}
-use mathlib.Core.Bool.{Bool, true, false, _&&_, true≢false}
+use mathlib.Core.Bool.{true, false, _&&_}
 use mathlib.Core.List.{List}
 use native.Mathlib.Omega.{arith}
 use lib.Ieee.{Float, isNan, lt, le, ofBits}
@@ -15,7 +15,7 @@ use Rattle.camera_tilt.specs.declared.sensor.ScheimpflugParams.{ScheimpflugPara
 use Rattle.score_camera.specs.Camera.{tangentialBound, damped, dampedCamera, finiteIntrinsics, finiteDistortion, validCamera}
 use Rattle.score_camera.specs.Penalties.{scoreOf}
 use Rattle.score_outcome.specs.Evaluation.{meanWith, scoringOf, evaluated, outcomeOf}
-use Rattle.score_outcome.specs.Outcomes.{invalid-skips, infinite-skips, finite-scores}
+use Rattle.score_outcome.specs.Outcomes.{invalid-skips, infinite-skips, nan-skips, number-scores}
 use Rattle.score_outcome.specs.Mean.{mean-unsigned}
 use Rattle.score_outcome.specs.declared.SolvedCamera.{SolvedCamera}
 use Rattle.score_outcome.specs.declared.Scoring.{Scoring}
@@ -24,7 +24,7 @@ use Rattle.score_outcome.specs.declared.Finding.the-variants.{Failed, So
 use Rattle.score_outcome.specs.declared.Outcome.the-variants.{Skipped, Scored}
 
 -- A focal length is finite and above 0, a radial coefficient is +0, a tangential one finite and at most 0.05 in size, the mean finite and not below 0,
--- and the score is that of mean, camera, the seed's tilts and the observed centre.
+-- and the score is that of mean, camera, the seed's tilts and the observed centre, and is a number.
 pub record ScoredFacts (sensor : ScheimpflugParams) (center : Pt2) (g : Scoring) : Type 0 where
   pub fx-finite : isFinite (g .camera .k .fx) ≡ true
   pub fy-finite : isFinite (g .camera .k .fy) ≡ true
@@ -40,12 +40,14 @@ pub record ScoredFacts (sensor : ScheimpflugParams) (center : Pt2) (g : Scoring)
   pub mean-finite : isFinite (g .mean) ≡ true
   pub mean-not-below : lt (g .mean) plusZero ≡ false
   pub score-is : g .score ≡ scoreOf (g .mean) (g .camera) sensor center
+  pub score-number : isNan (g .score) ≡ false
 
 -- ---- what the camera check says
 scoring-facts : (s : SolvedCamera) (sensor : ScheimpflugParams) (center : Pt2) (rows : List Float) (flags : List ℕ)
-    → validCamera (dampedCamera (s .camera)) ≡ true → isFinite (meanWith s rows flags) ≡ true → ScoredFacts sensor center (scoringOf s sensor center rows flags)
+    → validCamera (dampedCamera (s .camera)) ≡ true → isFinite (meanWith s rows flags) ≡ true → isNan (scoringOf s sensor center rows flags .score) ≡ false
+    → ScoredFacts sensor center (scoringOf s sensor center rows flags)
 unfolding scoringOf damped validCamera finiteIntrinsics finiteDistortion signBit ofBits isNan
-scoring-facts s sensor center rows flags v f =
+scoring-facts s sensor center rows flags v f n =
     let k = s .camera .k in
     let d = damped (s .camera .dist) in
     let y = both-true (finiteIntrinsics k && finiteDistortion d && lt plusZero (k .fx)) (lt plusZero (k .fy)) v in
@@ -71,6 +73,7 @@ scoring-facts s sensor center rows flags v f =
       mean-finite = f;
       mean-not-below = unsigned-not-below (meanWith s rows flags) (mean-unsigned s rows flags);
       score-is = refl;
+      score-number = n;
     }
 
 -- ---- the outcome, taken apart
@@ -91,23 +94,29 @@ scored-facts (Solved s) sensor center rows flags g h =
     case (validCamera (dampedCamera (s .camera)))
     (λ v.
     case (isFinite (meanWith s rows flags))
-    (λ m. subst (λ (x : Scoring). ScoredFacts sensor center x) (scored-same _ g (sym (finite-scores s sensor center rows flags v m) ∙ h)) (scoring-facts s sensor center rows flags v m))
+    (λ m.
+    case (isNan (scoringOf s sensor center rows flags .score))
+    (λ n. absurd (never 4 g (sym (nan-skips s sensor center rows flags v m n) ∙ h)))
+    (λ n. subst (λ (x : Scoring). ScoredFacts sensor center x) (scored-same _ g (sym (number-scores s sensor center rows flags v m n) ∙ h)) (scoring-facts s sensor center rows flags v m n)))
     (λ m. absurd (never 3 g (sym (infinite-skips s sensor center rows flags v m) ∙ h))))
     (λ v. absurd (never 2 g (sym (invalid-skips s sensor center rows flags v) ∙ h)))
 
 solved-reason : (s : SolvedCamera) (sensor : ScheimpflugParams) (center : Pt2) (rows : List Float) (flags : List ℕ) (n : ℕ)
-    → evaluated s sensor center rows flags ≡ Skipped n → (2 ≤ n) × (n ≤ 3)
+    → evaluated s sensor center rows flags ≡ Skipped n → (2 ≤ n) × (n ≤ 4)
 solved-reason s sensor center rows flags n h =
     case (validCamera (dampedCamera (s .camera)))
     (λ v.
     case (isFinite (meanWith s rows flags))
-    (λ m. absurd (never n (scoringOf s sensor center rows flags) (sym h ∙ finite-scores s sensor center rows flags v m)))
+    (λ m.
+    case (isNan (scoringOf s sensor center rows flags .score))
+    (λ k. let e = skipped-same 4 n (sym (nan-skips s sensor center rows flags v m k) ∙ h) in (omega arith, omega arith))
+    (λ k. absurd (never n (scoringOf s sensor center rows flags) (sym h ∙ number-scores s sensor center rows flags v m k))))
     (λ m. let e = skipped-same 3 n (sym (infinite-skips s sensor center rows flags v m) ∙ h) in (omega arith, omega arith)))
     (λ v. let e = skipped-same 2 n (sym (invalid-skips s sensor center rows flags v) ∙ h) in (omega arith, omega arith))
 
--- Reason 1, 2 or 3.
+-- Reason 1, 2, 3 or 4.
 pub skipped-reason : (f : Finding) (sensor : ScheimpflugParams) (center : Pt2) (rows : List Float) (flags : List ℕ) (n : ℕ)
-    → outcomeOf f sensor center rows flags ≡ Skipped n → (1 ≤ n) × (n ≤ 3)
+    → outcomeOf f sensor center rows flags ≡ Skipped n → (1 ≤ n) × (n ≤ 4)
 unfolding outcomeOf
 skipped-reason Failed sensor center rows flags n h = let e = skipped-same 1 n h in (omega arith, omega arith)
 skipped-reason (Solved s) sensor center rows flags n h = let e = solved-reason s sensor center rows flags n h in (omega arith, omega arith)

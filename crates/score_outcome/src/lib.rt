@@ -33,7 +33,7 @@ pub struct Scoring {
     pub score: f64,
 }
 
-// Skipped: 1 the host failed, 2 the camera is not valid, 3 the mean error is not finite.
+// Skipped: 1 the host failed, 2 the camera is not valid, 3 the mean error is not finite, 4 the score is not a number.
 pub enum Outcome {
     Skipped(u8),
     Scored(Scoring),
@@ -99,6 +99,9 @@ fn evaluate_candidate(
         return Outcome::Skipped(3);
     }
     let score = candidate_score(mean, camera, sensor, center);
+    if score != score {
+        return Outcome::Skipped(4);
+    }
     Outcome::Scored(Scoring {
         camera: camera,
         mean: mean,

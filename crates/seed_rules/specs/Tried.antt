@@ -1,6 +1,6 @@
 -- Every typed tilt is tried: for each pair of typed tilts within the bound, by order alone, round 0's list has a seed with the base camera, or with one near it, whose tilts
 -- are near the pair's, or near those of a pair that is near it. Nearness is the rule's own, on rounded differences. Assumes nothing.
-use mathlib.Core.Path.{_≡_, refl, ap}
+use mathlib.Core.Path.{_≡_, ap}
 use mathlib.Core.Bool.{true}
 use mathlib.Core.List.{List, [], _++_, map, List·Memᴰ, Memᴰ·append-right, Memᴰ·map}
 use mathlib.Core.Logic.{_⊎_, inl, inr, ⊎-elim}

@@ -54,7 +54,7 @@ pub struct Scored {
 /// What became of a candidate.
 #[derive(Clone, Copy, Debug, PartialEq)]
 pub enum Outcome {
-    /// Left out: 1 the host failed, 2 no camera, 3 no finite mean.
+    /// Left out: 1 the host failed, 2 no camera, 3 no finite mean, 4 a score that isn't a number.
     Skipped(u8),
     /// Compared by its score.
     Scored(Scored),
@@ -165,6 +165,9 @@ impl Finding {
             return Outcome::Skipped(3);
         }
         let score = camera.score(mean, seed.tilts, centre);
+        if score.is_nan() {
+            return Outcome::Skipped(4);
+        }
         Outcome::Scored(Scored { camera, mean, score })
     }
 }

@@ -64,7 +64,7 @@ fn write(list: &[Seed], lent: &mut [f64]) {
     }
 }
 
-/// Lower replaces, equal doesn't; a NaN taken first stays.
+/// Lower replaces, equal doesn't. No score is NaN: its candidate is left out.
 fn best<'a>(entries: impl Iterator<Item = &'a Entry>) -> Option<Winner> {
     let scored = entries.filter_map(|entry| match entry.outcome {
         Outcome::Skipped(_) => None,

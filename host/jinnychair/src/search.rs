@@ -115,6 +115,7 @@ macro_rules! skip {
     (1 $part:ident) => { part!($part "the host sent Failed", "Look into the host's solution at that tilt. If all are skipped, it is the views.") };
     (2 $part:ident) => { part!($part "a number of the camera isn't finite, or a focal length isn't above 0", "As 1. Radial distortion is set to 0 before the check, so it can't be the cause.") };
     (3 $part:ident) => { part!($part "the mean error isn't finite: no row in front of the camera, or none with a finite error", "Check the poses' signs and the flags.") };
+    (4 $part:ident) => { part!($part "the score isn't a number: the camera's centre lies so far from the observed one that the square of the distance overflows, or the observed centre isn't finite", "Look at the solved centre (cx, cy). If every candidate has this reason, at the observed centre that Start was given.") };
 }
 
 numbered! { skip
@@ -123,6 +124,7 @@ numbered! { skip
         HostFailed = 1;
         BadCamera = 2;
         NoMean = 3;
+        NoNumber = 4;
     }
 }
 
@@ -189,8 +191,9 @@ pub struct Tried<'a> {
 /// A search that is under way.
 ///
 /// It owns its record and its seed list, and only its own calls change them. So each call gets both as the calls before
-/// left them, which is the condition of the theorem about whole runs: where no score is NaN, the replies are those of the plain
-/// book of 01, every seed that the rules name was handed out, and the winner has the lowest score, the earliest of equal ones.
+/// left them, which is the condition of the theorem about whole runs: the replies are those of the plain book of 01, every seed
+/// that the rules name was handed out, every typed tilt within the bound was tried, and the winner has the lowest score, the
+/// earliest of equal ones.
 #[derive(Clone, Debug)]
 #[must_use = "a search tries nothing before it is run"]
 pub struct Search {

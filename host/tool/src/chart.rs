@@ -89,7 +89,7 @@ impl Scale {
     }
 
     fn colour(&self, score: f64) -> String {
-        if score.is_nan() { "#ffffff".into() } else { colour(self.share(score)) }
+        colour(self.share(score))
     }
 
     /// Values of the form 1, 2 or 5 times a power of ten; powers alone where the scale is long.
@@ -362,12 +362,6 @@ impl Drawing {
             let y = LEGEND_TOP + 22.0 + 26.0 * (round / SHAPES) as f64;
             self.mark([x, y], round, LARGEST_MARK, FAINT);
             self.text([x + 11.0, y + 4.0], "start", 12.0, &round.to_string());
-        }
-        let without_number =
-            tried.iter().filter(|one| one.outcome.score().is_some_and(f64::is_nan)).count();
-        if without_number > 0 {
-            let text = format!("white: the score is not a number ({without_number})");
-            self.text([left, LEGEND_TOP + 80.0], "start", 12.0, &text);
         }
     }
 

@@ -12,6 +12,7 @@ pub const SKIPS: &[(SkipReason, char, &str)] = &[
     (SkipReason::HostFailed, 'H', "the host found no camera"),
     (SkipReason::BadCamera, 'C', "not a camera"),
     (SkipReason::NoMean, 'E', "no finite mean error"),
+    (SkipReason::NoNumber, 'N', "the score is not a number"),
 ];
 
 /// The letter of an outcome.

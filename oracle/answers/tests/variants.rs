@@ -1,4 +1,4 @@
-//! 01's distortion lines beside the published ones.
+//! 01's distortion lines and 02's rule for NaN scores beside the published ones.
 
 use oracle::operations::answer;
 use words::{float_words, parse};
@@ -30,4 +30,26 @@ fn the_derivatives_agree() {
         other_points += u32::from(scope[..2] != published[..2]);
     }
     assert!(other_points > 0);
+}
+
+/// On every stored search the two agree but where a score is NaN.
+#[test]
+fn searches_without_nan_agree() {
+    let path = concat!(env!("CARGO_MANIFEST_DIR"), "/../../crates/vectors/data/search.txt");
+    let stored = std::fs::read_to_string(path).expect("the stored file");
+    let mut others = 0;
+    for case in stored.lines().filter(|line| !line.starts_with('#')) {
+        let (input, output) = case.split_once(" = ").expect("two sides");
+        let input = parse(input.split(' ')).expect("words");
+        let published = answer("search_as_published", &input);
+        match published {
+            Ok(words) if words == parse(output.split(' ')).expect("words") => {}
+            Ok(words) => {
+                assert!(words.contains(&0x7ff8_0000_0000_0000), "{case}");
+                others += 1;
+            }
+            Err(_) => others += 1,
+        }
+    }
+    assert!(others > 0);
 }

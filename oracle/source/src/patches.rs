@@ -13,6 +13,8 @@ pub enum Purpose {
     LeftOut,
     /// 01 fixes other arithmetic or other inputs than the published lines have.
     Scope,
+    /// 02 asks for another rule than the published lines have; a search may still be played by theirs.
+    Request,
     /// The host's part of a search (estimates, poses, rows) comes from the case.
     Scripted,
     /// Tells the record of a search what happens, and changes nothing else.
@@ -343,6 +345,16 @@ pub const PATCHES: &[Patch] = &[
         edit: Edit::Replace {
             old: "mean_reproj_error(dataset, &camera, sensor, &poses);",
             new: "mean_reproj_error(&crate::script::rows(), &camera, sensor, &poses);",
+        },
+    },
+    // 02, E3: a score that isn't a number is no candidate's.
+    Patch {
+        krate: LINEAR,
+        module: "scheimpflug_init",
+        purpose: Purpose::Request,
+        edit: Edit::Replace {
+            old: "    Ok(Candidate {\n        init:",
+            new: "    if crate::script::loses(score) {\n        return Err(Error::numerical(\"the score isn't a number\"));\n    }\n    Ok(Candidate {\n        init:",
         },
     },
     // Candidate numbers and the reasons of skips, which the published search doesn't keep.

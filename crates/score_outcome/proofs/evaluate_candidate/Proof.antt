@@ -1,13 +1,17 @@
 -- `score_outcome::evaluate_candidate` meets its contract: each test of the code is the definition's. Assumes nothing.
-use mathlib.Core.Path.{refl, sym, ap, _∙_}
+use mathlib.Core.Path.{sym, ap, _∙_}
 use borrow.Author.Needs.{needs}
 use borrow.Author.Tests.{not-true, not-false}
+use lib.Ieee.{isNan}
 use Rattle.float.specs.Float.{isFinite}
+use Rattle.float.specs.Order.{ne-self}
 use Rattle.score_camera.specs.declared.pinhole.PinholeCamera.{PinholeCamera}
 use Rattle.score_camera.specs.Camera.{validCamera}
 use Rattle.score_rows.specs.Rows.{rowsOf, tiltMatrix, errorSum, meanOf}
-use Rattle.score_outcome.specs.Evaluation.{meanWith, scoringOf}
-use Rattle.score_outcome.specs.Outcomes.{invalid-skips, infinite-skips, finite-scores}
+use Rattle.score_outcome.specs.Evaluation.{meanWith}
+use Rattle.score_outcome.specs.declared.Scoring.{Scoring}
+use Rattle.score_outcome.specs.declared.Outcome.the-variants.{Scored}
+use Rattle.score_outcome.specs.Outcomes.{invalid-skips, infinite-skips, nan-skips, number-scores, scoring-is}
 use Rattle.score_outcome.proofs.evaluate_candidate.Statement.{statement}
 use Rattle.score_outcome.proofs.evaluate_candidate.Tie as tie
 
@@ -43,14 +47,26 @@ candidate-score-requires : tie.Need-candidate-score-requires
 candidate-score-requires c κs = search needs
 
 returns-3 : tie.Need-returns-3
-unfolding meanWith scoringOf
+unfolding meanWith
 returns-3 c =
-    let a = c .before .before .before .before .before .before .before .before .before .args in
-    let camera = sym (c .before .before .before .before .before .before .damped-camera .ensures) in
-    let valid = ap validCamera camera ∙ sym (c .before .before .before .before .before .validate-camera .ensures) ∙ not-false _ (c .before .before .before .before .if1 .left) in
-    let mean = ap (λ (k : PinholeCamera). meanOf (errorSum k (tiltMatrix (a .solved .trig)) (rowsOf (a .rows .now) (a .flags .now)))) camera ∙ sym (c .before .before .before .mean-of-rows .ensures) in
-    let finite = ap isFinite mean ∙ sym (c .before .before .is-finite .ensures) ∙ not-false _ (c .before .if2 .left) in
-    sym (finite-scores (a .solved) (a .sensor) (a .center) (a .rows .now) (a .flags .now) valid finite ∙ rw (camera, ← c .before .before .before .mean-of-rows .ensures, ← c .candidate-score .ensures) refl)
+    let a = c .before .before .before .before .before .before .before .before .before .before .args in
+    let camera = sym (c .before .before .before .before .before .before .before .damped-camera .ensures) in
+    let valid = ap validCamera camera ∙ sym (c .before .before .before .before .before .before .validate-camera .ensures) ∙ not-false _ (c .before .before .before .before .before .if1 .left) in
+    let mean = ap (λ (k : PinholeCamera). meanOf (errorSum k (tiltMatrix (a .solved .trig)) (rowsOf (a .rows .now) (a .flags .now)))) camera ∙ sym (c .before .before .before .before .mean-of-rows .ensures) in
+    let finite = ap isFinite mean ∙ sym (c .before .before .before .is-finite .ensures) ∙ not-false _ (c .before .before .if2 .left) in
+    let scoring = scoring-is (a .solved) (a .sensor) (a .center) (a .rows .now) (a .flags .now) _ _ _ camera (sym (c .before .before .before .before .mean-of-rows .ensures)) (sym (c .before .candidate-score .ensures)) in
+    sym (nan-skips (a .solved) (a .sensor) (a .center) (a .rows .now) (a .flags .now) valid finite (ap (λ (g : Scoring). isNan (g .score)) scoring ∙ sym (ne-self _) ∙ c .if3 .taken))
+
+returns-4 : tie.Need-returns-4
+unfolding meanWith
+returns-4 c =
+    let a = c .before .before .before .before .before .before .before .before .before .before .args in
+    let camera = sym (c .before .before .before .before .before .before .before .damped-camera .ensures) in
+    let valid = ap validCamera camera ∙ sym (c .before .before .before .before .before .before .validate-camera .ensures) ∙ not-false _ (c .before .before .before .before .before .if1 .left) in
+    let mean = ap (λ (k : PinholeCamera). meanOf (errorSum k (tiltMatrix (a .solved .trig)) (rowsOf (a .rows .now) (a .flags .now)))) camera ∙ sym (c .before .before .before .before .mean-of-rows .ensures) in
+    let finite = ap isFinite mean ∙ sym (c .before .before .before .is-finite .ensures) ∙ not-false _ (c .before .before .if2 .left) in
+    let scoring = scoring-is (a .solved) (a .sensor) (a .center) (a .rows .now) (a .flags .now) _ _ _ camera (sym (c .before .before .before .before .mean-of-rows .ensures)) (sym (c .before .candidate-score .ensures)) in
+    sym (number-scores (a .solved) (a .sensor) (a .center) (a .rows .now) (a .flags .now) valid finite (ap (λ (g : Scoring). isNan (g .score)) scoring ∙ sym (ne-self _) ∙ c .if3 .left) ∙ ap Scored scoring)
 
 pub evaluate-candidate-spec : {M : Type 1} → statement M
 evaluate-candidate-spec =
@@ -63,4 +79,5 @@ evaluate-candidate-spec =
     is-finite-requires
     returns-2
     candidate-score-requires
-    returns-3)
+    returns-3
+    returns-4)

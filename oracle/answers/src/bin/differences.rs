@@ -1,9 +1,12 @@
-//! Prints where the published text and 01 differ by running, each with a smallest input: numbers
-//! as decimals, and the bits on both sides. docs/DIFFERENCES.md lists them.
+//! Prints where the published text and 01, or 02, differ by running, each with a smallest input:
+//! numbers as decimals, and the bits on both sides. docs/DIFFERENCES.md lists them.
 
 use oracle::operations::answer;
+use oracle::operations::search::{Inputs, finding_words};
 use random::Random;
 use std::hint::black_box;
+use vision_calibration_core::given_tilt::GivenTilt;
+use vision_calibration_linear::script::{Finding, Row};
 use words::{float_words, line};
 
 fn main() {
@@ -11,6 +14,7 @@ fn main() {
     terms_that_underflow();
     hypotenuse();
     zeros_of_two_signs();
+    nan_first();
 }
 
 /// The answers by 01's lines and by the published ones.
@@ -109,4 +113,32 @@ fn zeros_of_two_signs() {
     let (greatest, least) = (first.max(second), second.min(first));
     println!("  f64::max(-0, 0) here {:016x}", greatest.to_bits());
     println!("  f64::min(0, -0) here {:016x}", least.to_bits());
+}
+
+/// Two candidates, of which the first has its centre so far out that its score is NaN.
+fn nan_first() {
+    let camera = [100.0, 100.0, 50.0, 50.0];
+    let inputs = Inputs {
+        views: 3,
+        tilt_x_seeds: vec![0.0, 0.25],
+        tilt_y_seeds: vec![0.0],
+        rounds: 0,
+        refine_step: 0.0,
+        max_abs_tilt: 0.25,
+        decomposition: Vec::new(),
+        base: camera,
+        center: [50.0, 50.0],
+    };
+    let found = |cx: f64| {
+        let row = Row { ideal: [0.0, 0.0], seen: [cx, 50.0], in_front: true };
+        finding_words(&Finding::Solved {
+            camera: [100.0, 100.0, cx, 50.0, 0.0, 0.0, 0.0, 0.0, 0.0],
+            tilt: GivenTilt::NONE,
+            rows: vec![row],
+        })
+    };
+    let input = [inputs.words(), vec![2], found(1e200), found(50.0)].concat();
+    let [request, published] = both("search", &input);
+    println!("search, centres 1e200 and 50\n  input     {}", line(&input));
+    println!("  02        {}\n  published {}", line(&request), line(&published));
 }

@@ -290,28 +290,30 @@ fn tiny_steps(random: &mut Random) -> Vec<Vec<u64>> {
         .collect()
 }
 
-/// A NaN score that comes first stays, also against lower scores; one that comes later doesn't
-/// win; and one that is first in a later round leads that round alone.
+/// A NaN score never wins: the first of round 0, a later one, the first of round 1, one behind it;
+/// nor where every score is NaN, since the observed centre lies at infinity.
 fn nan_scores() -> Vec<Vec<u64>> {
     let inputs = Inputs { rounds: 1, ..plain_inputs(&[0.0, 0.125, -0.125], &[0.0], 0.25) };
-    [0, 1, 3, 4]
-        .into_iter()
-        .map(|nan_at| {
-            let mut number = 0;
-            case(&inputs, move |_| {
-                let cx = if number == nan_at { 1e200 } else { CAMERA[2] };
-                number += 1;
-                let [fx, fy, _, cy] = CAMERA;
-                let row =
-                    Row { ideal: [0.0, 0.0], seen: [cx, cy + f64::from(number)], in_front: true };
-                Finding::Solved {
-                    camera: [fx, fy, cx, cy, 0.0, 0.0, 0.0, 0.0, 0.0],
-                    tilt: GivenTilt::NONE,
-                    rows: vec![row],
-                }
-            })
-        })
-        .collect()
+    let mut cases: Vec<Vec<u64>> =
+        [0, 1, 3, 4].into_iter().map(|nan_at| nan_at_one(&inputs, nan_at)).collect();
+    cases.push(nan_at_one(&Inputs { center: [f64::INFINITY, 240.0], ..inputs }, 0));
+    cases
+}
+
+/// A search whose candidate of this number has its centre so far out that its score is NaN.
+fn nan_at_one(inputs: &Inputs, nan_at: u32) -> Vec<u64> {
+    let mut number = 0;
+    case(inputs, move |_| {
+        let cx = if number == nan_at { 1e200 } else { CAMERA[2] };
+        number += 1;
+        let [fx, fy, _, cy] = CAMERA;
+        let row = Row { ideal: [0.0, 0.0], seen: [cx, cy + f64::from(number)], in_front: true };
+        Finding::Solved {
+            camera: [fx, fy, cx, cy, 0.0, 0.0, 0.0, 0.0, 0.0],
+            tilt: GivenTilt::NONE,
+            rows: vec![row],
+        }
+    })
 }
 
 /// 656 answers: 512 seeds in round 0 and nine in each of 16 rounds. Most of them fail, so that

@@ -14,8 +14,8 @@ use words::Reader;
 /// Reads an operation's inputs and gives its output words, or says what is wrong with the input.
 pub type Operation = fn(&mut Reader) -> Result<Vec<u64>, String>;
 
-/// Every operation by its name. Those that end in `_as_published` use the published distortion
-/// lines where 01 gives others.
+/// Every operation by its name. Those that end in `_as_published` use the published lines where 01
+/// gives others for the distortion, or 02 another rule for the search.
 pub const OPERATIONS: &[(&str, Operation)] = &[
     ("sqrt", models::sqrt),
     ("pixel_to_sensor", models::pixel_to_sensor),
@@ -45,6 +45,7 @@ pub const OPERATIONS: &[(&str, Operation)] = &[
     ("seed_lists", seeds::seed_lists),
     ("local_seed_grid", seeds::local_seed_grid),
     ("search", search::search),
+    ("search_as_published", search::search_as_published),
 ];
 
 /// The output words of an operation.

@@ -138,11 +138,12 @@ impl Inputs {
         PlanarDataset { views: vec![View::without_meta(view); self.views] }
     }
 
-    pub fn given(&self) -> Given {
+    pub fn given(&self, nan_loses: bool) -> Given {
         Given {
             base: self.base,
             center: self.center,
             decomposition: self.decomposition_seeds().collect(),
+            nan_loses,
         }
     }
 }
@@ -199,7 +200,8 @@ fn read_finding(input: &mut Reader) -> Result<Finding, String> {
     }
 }
 
-/// Runs an accepted search with the host's part played by `host`, and gives its output words.
+/// Runs an accepted search with the host's part played by `host`, and gives its output words. A
+/// score that isn't a number loses.
 ///
 /// # Errors
 ///
@@ -208,9 +210,18 @@ pub fn run(
     inputs: &Inputs,
     host: impl FnMut(&SeedNumbers) -> Finding + 'static,
 ) -> Result<Vec<u64>, String> {
+    run_by(inputs, true, host)
+}
+
+fn run_by(
+    inputs: &Inputs,
+    nan_loses: bool,
+    host: impl FnMut(&SeedNumbers) -> Finding + 'static,
+) -> Result<Vec<u64>, String> {
     let (dataset, options) = (inputs.dataset(), inputs.options());
-    let (result, record) =
-        play(inputs.given(), host, || estimate_scheimpflug_intrinsics_iterative(&dataset, options));
+    let (result, record) = play(inputs.given(nan_loses), host, || {
+        estimate_scheimpflug_intrinsics_iterative(&dataset, options)
+    });
     let mut output = vec![0];
     output.extend(record_words(&record));
     output.extend(result_words(result, &record)?);
@@ -226,6 +237,7 @@ fn record_words(record: &Record) -> Vec<u64> {
             Outcome::HostFailed => output.push(1),
             Outcome::BadCamera => output.push(2),
             Outcome::BadMean => output.push(3),
+            Outcome::NoNumber => output.push(4),
         }
     }
     output
@@ -254,6 +266,15 @@ fn result_words(
 
 /// Start's inputs, then a finding for each seed that is handed out, no more and no fewer.
 pub fn search(input: &mut Reader) -> Result<Vec<u64>, String> {
+    search_by(input, true)
+}
+
+/// The same where a NaN that came first stays, as in the published text.
+pub fn search_as_published(input: &mut Reader) -> Result<Vec<u64>, String> {
+    search_by(input, false)
+}
+
+fn search_by(input: &mut Reader, nan_loses: bool) -> Result<Vec<u64>, String> {
     let inputs = Inputs::read(input)?;
     let mut findings =
         (0..input.count()?).map(|_| read_finding(input)).collect::<Result<Vec<_>, _>>()?;
@@ -262,7 +283,8 @@ pub fn search(input: &mut Reader) -> Result<Vec<u64>, String> {
     }
     let given = findings.len() as u64;
     findings.reverse();
-    let output = run(&inputs, move |_| findings.pop().unwrap_or(Finding::Failed))?;
+    let output =
+        run_by(&inputs, nan_loses, move |_| findings.pop().unwrap_or(Finding::Failed))?;
     let handed_out = output[1];
     if handed_out != given {
         return Err(format!("{given} answers for {handed_out} seeds"));

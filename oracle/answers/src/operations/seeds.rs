@@ -22,7 +22,7 @@ pub fn seed_lists(input: &mut Reader) -> Result<Vec<u64>, String> {
     let base = FxFyCxCy { fx, fy, cx, cy };
     let (dataset, options) = (inputs.dataset(), inputs.options());
     let never_asked = |_: &SeedNumbers| Finding::Failed;
-    let (seeds, _) = play(inputs.given(), never_asked, || {
+    let (seeds, _) = play(inputs.given(true), never_asked, || {
         published::initial_seed_grid(&dataset, &base, &options)
     });
     seeds

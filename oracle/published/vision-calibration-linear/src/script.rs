@@ -23,6 +23,8 @@ pub struct Given {
     pub base: [f64; 4],
     pub center: [f64; 2],
     pub decomposition: Vec<SeedNumbers>,
+    /// Whether a score that isn't a number loses, as 02 asks; the published search keeps one that came first.
+    pub nan_loses: bool,
 }
 
 /// A point's row: ideal point, seen pixel, and whether it is in front of the camera.
@@ -47,6 +49,7 @@ pub enum Outcome {
     HostFailed,
     BadCamera,
     BadMean,
+    NoNumber,
 }
 
 /// A seed that was handed out, and its outcome.
@@ -188,6 +191,15 @@ pub(crate) fn bad_camera() {
 
 pub(crate) fn bad_mean() {
     enter(Outcome::BadMean);
+}
+
+/// Whether the score isn't a number and loses for that; then it is entered so.
+pub(crate) fn loses(score: f64) -> bool {
+    let loses = score.is_nan() && with(|play| play.given.nan_loses);
+    if loses {
+        enter(Outcome::NoNumber);
+    }
+    loses
 }
 
 /// Enters the score and gives the candidate's number.
