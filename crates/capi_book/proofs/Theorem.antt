@@ -7,7 +7,7 @@ use mathlib.Core.List.{List, [], _∷_, _++_, map}
 use borrow.Author.Tests.{le-leb}
 use lib.Dec.{eqb}
 use lib.ListN.{length, take, drop, length-take}
-use lib.Ieee.{Float}
+use lib.Ieee.{Float, isNan}
 use Rattle.common.specs.Tests.{case}
 use Rattle.float.specs.Float.{isFinite}
 use Rattle.camera_models.specs.declared.math.Pt2.{Pt2}
@@ -15,7 +15,7 @@ use Rattle.camera_tilt.specs.declared.sensor.ScheimpflugParams.{ScheimpflugPara
 use Rattle.score_camera.specs.Camera.{dampedCamera, validCamera}
 use Rattle.score_outcome.specs.declared.Finding.{Finding}
 use Rattle.score_outcome.specs.declared.Finding.the-variants.{Failed, Solved}
-use Rattle.score_outcome.specs.Evaluation.{meanWith, evaluated, outcomeOf}
+use Rattle.score_outcome.specs.Evaluation.{meanWith, scoringOf, evaluated, outcomeOf}
 use Rattle.search_record.specs.declared.run.Run.{Run}
 use Rattle.search_start.specs.declared.Started.the-variants.{Accepted, Refused}
 use Rattle.search_start.specs.Start.{startReply, startRefusal}
@@ -67,7 +67,10 @@ outcome-read Failed sensor center rows flags r = refl
 outcome-read (Solved s) sensor center rows flags r =
     case (not (validCamera (dampedCamera (s .camera))))
     (λ h. simp h)
-    (λ h. case (not (isFinite (meanWith s rows flags))) (λ k. simp (h, k)) (λ k. simp (h, k)))
+    (λ h.
+    case (not (isFinite (meanWith s rows flags)))
+    (λ k. simp (h, k))
+    (λ k. case (isNan (scoringOf s sensor center rows flags .score)) (λ n. simp (h, k, n)) (λ n. simp (h, k, n))))
 
 answer-read : (r : Run) (f : Finding) (rows : List Float) (flags : List ℕ) (l : List Float)
     → readAnswer (flatAnswer (answerDef r f rows flags l .reply)) ≡ answeredReply (answerDef r f rows flags l .reply .reply)
@@ -138,6 +141,6 @@ unfolding startReply
 accepted i l h = (_, accepts (startRefusal (i .views) (optionsOf i) (i .xs) (i .ys) (i .decomposition) (length l)) _ h)
 
 pub exported-is-book : ExportedIsBook
-exported-is-book i l h cs n =
+exported-is-book i l h cs =
     let a = accepted i l h in
-    rw (a .1) (exported-is-walk (a .0) (startedList i l) cs ∙ search-is-book i l .follows (a .0) (a .1) (map callOf cs) n .same-replies)
+    rw (a .1) (exported-is-walk (a .0) (startedList i l) cs ∙ search-is-book i l .follows (a .0) (a .1) (map callOf cs) .same-replies)

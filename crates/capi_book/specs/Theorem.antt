@@ -6,9 +6,9 @@ use Rattle.search_record.specs.declared.run.Run.{Run}
 use Rattle.capi_records.specs.declared.run.StartFlat.{StartFlat}
 use Rattle.capi_records.specs.Record.{flatRun}
 use Rattle.capi_records.specs.Run.{flatStarted}
-use Rattle.book.specs.Book.{Inputs, opened, replies, after}
+use Rattle.book.specs.Book.{Inputs, opened, replies}
 use Rattle.book.specs.Walk.{walk}
-use Rattle.book.specs.Theorem.{startOf, startedList, NoNan}
+use Rattle.book.specs.Theorem.{startOf, startedList}
 use Rattle.capi_book.specs.Exported.{Exported, callOf, flatWalk}
 
 -- jc_start's reply
@@ -22,5 +22,4 @@ ExportedIsWalk = (r : Run) (l : List Float) (cs : List Exported) → flatWalk (f
 -- After a jc_start that refuses nothing, every reply of every list of exported calls is the book's.
 abbrev pub ExportedIsBook : Type 0
 ExportedIsBook = (i : Inputs) (l : List Float) → flatStart i l .number ≡ 0
-    → (cs : List Exported) → NoNan (after (opened i) (map callOf cs))
-    → flatWalk (flatStart i l .run) (startedList i l) cs ≡ replies (opened i) (map callOf cs)
+    → (cs : List Exported) → flatWalk (flatStart i l .run) (startedList i l) cs ≡ replies (opened i) (map callOf cs)
