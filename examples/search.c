@@ -1,9 +1,8 @@
 /* A whole search from C: a plate is seen by a camera with a known tilt, and the host knows all but the tilt.
  *
- *     cc -std=c11 search.c $(pkg-config --cflags --libs jinnychair) -lm
+ *     cc -std=c11 search.c $(pkg-config --cflags --libs jinnychair)
  */
 #include "jinnychair.h"
-#include <math.h>
 #include <stdio.h>
 
 enum { DOTS = 35 };
@@ -11,8 +10,9 @@ static const double X_TILTS[] = {-0.16, -0.12, -0.08, -0.04, 0.0, 0.04, 0.08, 0.
 static const double Y_TILTS[] = {-0.04, -0.02, 0.0, 0.02, 0.04};
 enum { X_COUNT = sizeof X_TILTS / sizeof *X_TILTS, Y_COUNT = sizeof Y_TILTS / sizeof *Y_TILTS };
 
+/* Of tilts up to 0.5 radians; of others the number is 27 and the value 0. */
 static jc_trig trig_of(double tilt_x, double tilt_y) {
-    jc_trig trig = {sin(tilt_x), cos(tilt_x), sin(tilt_y), cos(tilt_y)};
+    jc_trig trig = {jc_sine(tilt_x).value, jc_cosine(tilt_x).value, jc_sine(tilt_y).value, jc_cosine(tilt_y).value};
     return trig;
 }
 
@@ -56,7 +56,7 @@ int main(void) {
         double seed[JC_SEED_NUMBERS]; /* fx, fy, cx, cy, tilt x, tilt y */
         jc_seed(run, list, list_len, seed, JC_SEED_NUMBERS);
         /* A host solves for a camera with these tilts here, and works out the rows. This one knows the camera. */
-        jc_solved_camera solved = {{k, {0.0, 0.0, 0.0, 0.0, 0.0}}, trig_of(seed[4], seed[5])};
+        jc_pinhole_camera solved = {{seed[0], seed[1], seed[2], seed[3]}, {0.0, 0.0, 0.0, 0.0, 0.0}};
         jc_answer_flat answer = jc_answer(run, 1, solved, rows, JC_ROW_NUMBERS * DOTS, flags, DOTS, list, list_len);
         if (answer.number != 0) return printf("not taken: %d\n", answer.number), 1;
         run = answer.run;

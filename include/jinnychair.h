@@ -43,8 +43,8 @@ extern "C" {
 
 /* ---- version ---- */
 
-/* The version that this header is for: 65,536 times the major, 256 times the minor, and the patch number, here 0.2.0. */
-#define JC_VERSION 0x0200u
+/* The version that this header is for: 65,536 times the major, 256 times the minor, and the patch number, here 0.3.0. */
+#define JC_VERSION 0x0300u
 
 /* That of the linked archive. */
 uint32_t jc_version(void);
@@ -81,6 +81,7 @@ enum {
     JC_COUNTS_DIFFER = 23,         /* not as many destination points as source points */
     JC_SOURCE_COLLINEAR = 24,      /* the source points lie on a line */
     JC_DESTINATION_COLLINEAR = 25, /* the destination points lie on a line */
+    JC_TILT_TOO_LARGE = 27,        /* max_abs_tilt is above 0.5 radians (28.6 degrees), or a tilt is NaN or beyond that */
     JC_NO_SHARED_POWER = 34        /* no power of two makes whole numbers in their ranges of a camera's four */
 };
 
@@ -142,7 +143,7 @@ typedef struct {
     double tilt_x, tilt_y;
 } jc_scheimpflug_params;
 
-/* Sine and cosine of each tilt. The caller works them out, so that a score doesn't depend on the machine's own sine. */
+/* Sine and cosine of each tilt, for the geometry: those of jc_sine and jc_cosine have the same bits on every machine. */
 typedef struct {
     double sin_x, cos_x, sin_y, cos_y;
 } jc_trig;
@@ -151,12 +152,6 @@ typedef struct {
     jc_intrinsics k;
     jc_distortion dist;
 } jc_pinhole_camera;
-
-/* What the host solved for a seed: the camera, and the sine and cosine of the seed's tilts. */
-typedef struct {
-    jc_pinhole_camera camera;
-    jc_trig trig;
-} jc_solved_camera;
 
 /* A conic, the symmetric matrix K^-T K^-1 times any factor, in the order of Zhang's equations. */
 typedef struct {
@@ -178,11 +173,17 @@ typedef struct {
 } jc_candidate;
 
 /* What a search is asked for, beside the tilts of its grid: how many rounds follow round 0, each around the best candidate of the round
- * before; the first of these rounds' step, in radians, which halves from round to round; and the bound on either tilt, in radians. */
+ * before; the first of these rounds' step, in radians, which halves from round to round; and the bound on either tilt, in radians, at most 0.5. */
 typedef struct {
     size_t refine_rounds;
     double refine_step, max_abs_tilt;
 } jc_options;
+
+/* 0 and the sine or the cosine, or JC_TILT_TOO_LARGE. */
+typedef struct {
+    uint8_t number;
+    double value;
+} jc_sum_reply;
 
 /* Three rows of three numbers. */
 typedef struct {
@@ -284,6 +285,9 @@ typedef struct {
 
 /* The correctly rounded square root. */
 double jc_sqrt(double x);
+/* Sine and cosine, by eight terms of their power series, of a number of at most 0.5 in size. 0, or 27. */
+jc_sum_reply jc_sine(double x);
+jc_sum_reply jc_cosine(double x);
 /* (u - cx) / fx, (v - cy) / fy. */
 jc_pt2 jc_pixel_to_sensor(jc_intrinsics k, jc_pt2 pixel);
 /* fx x + cx, fy y + cy. */
@@ -344,14 +348,14 @@ double jc_tilt_complexity(jc_scheimpflug_params sensor);
 double jc_principal_point_complexity(jc_intrinsics k, jc_pt2 center);
 /* The mean distance between projected and seen pixels. The camera is used as given, not damped. Rows have x, y (ideal point), u, v (seen pixel);
  * only rows with the flag 1 and a finite error count, and where none does the mean is infinity. It ends at the shorter of the two lists, and
- * refuses nothing: a tilt that jc_answer would refuse with 15 has some mean here. */
+ * refuses nothing: a tilt whose determinant is 0 has some mean here. */
 double jc_mean_reproj_error(jc_pinhole_camera camera, jc_trig trig, const double *rows, size_t rows_len, const uint8_t *flags,
                             size_t flags_len);
 
 /* ---- the search ---- */
 
 /* Starts a run and writes round 0's seeds to the front of the list: the decomposition's, then the grid of the tilts (radians) with the base
- * camera. 0, or 1 to 8. The list needs JC_LIST_LEN numbers, and the calls below are lent as many (10). A decomposition without seeds is any
+ * camera. 0, or 1 to 8, or 27. The list needs JC_LIST_LEN numbers, and the calls below are lent as many (10). A decomposition without seeds is any
  * array with the length 0. */
 jc_start_flat jc_start(size_t views, jc_options options, const double *tilt_x_seeds, size_t tilt_x_seeds_len,
                        const double *tilt_y_seeds, size_t tilt_y_seeds_len, const double *decomposition, size_t decomposition_len,
@@ -360,9 +364,9 @@ jc_start_flat jc_start(size_t views, jc_options options, const double *tilt_x_se
 jc_next_flat jc_next(jc_run_record run, const double *list, size_t list_len);
 /* Copies the waiting seed's six numbers to the front of `to`, and returns 6; 0 where no seed waits, or the list or `to` is too short. */
 size_t jc_seed(jc_run_record run, const double *list, size_t list_len, double *to, size_t to_len);
-/* Takes what the host found for the waiting seed; a round's last answer writes the next list. 12, 10, 13, 15. is_solved 0: the host failed, and
- * neither solved nor rows nor flags are read. A row's flag is 1 for a point in front of the camera, else 0. */
-jc_answer_flat jc_answer(jc_run_record run, uint8_t is_solved, jc_solved_camera solved, const double *rows, size_t rows_len,
+/* Takes what the host found for the waiting seed; a round's last answer writes the next list. 12, 10, 13, 27. is_solved 0: the host failed, and
+ * neither solved nor rows nor flags are read. Sines and cosines are those of the seed's tilts, by the library's own series. A row's flag is 1 for a point in front of the camera, else 0. */
+jc_answer_flat jc_answer(jc_run_record run, uint8_t is_solved, jc_pinhole_camera solved, const double *rows, size_t rows_len,
                          const uint8_t *flags, size_t flags_len, double *list, size_t list_len);
 /* The best candidate of a run that is over. 14, 11. */
 jc_result_flat jc_result(jc_run_record run);
@@ -377,7 +381,7 @@ jc_distorted_point jc_echo_distorted_point(jc_distorted_point x);
 jc_scheimpflug_params jc_echo_scheimpflug_params(jc_scheimpflug_params x);
 jc_trig jc_echo_trig(jc_trig x);
 jc_pinhole_camera jc_echo_pinhole_camera(jc_pinhole_camera x);
-jc_solved_camera jc_echo_solved_camera(jc_solved_camera x);
+jc_sum_reply jc_echo_sum_reply(jc_sum_reply x);
 jc_conic jc_echo_conic(jc_conic x);
 jc_candidate_seed jc_echo_candidate_seed(jc_candidate_seed x);
 jc_candidate jc_echo_candidate(jc_candidate x);
@@ -435,8 +439,8 @@ JC_ASSERT(offsetof(jc_trig, sin_y) == 16);
 JC_ASSERT(offsetof(jc_trig, cos_y) == 24);
 JC_ASSERT(sizeof(jc_pinhole_camera) == 72);
 JC_ASSERT(offsetof(jc_pinhole_camera, dist) == 32);
-JC_ASSERT(sizeof(jc_solved_camera) == 104);
-JC_ASSERT(offsetof(jc_solved_camera, trig) == 72);
+JC_ASSERT(sizeof(jc_sum_reply) == 16);
+JC_ASSERT(offsetof(jc_sum_reply, value) == 8);
 JC_ASSERT(sizeof(jc_conic) == 48);
 JC_ASSERT(offsetof(jc_conic, b12) == 8);
 JC_ASSERT(offsetof(jc_conic, b22) == 16);

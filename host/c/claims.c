@@ -27,6 +27,8 @@ static void geometry(void) {
     jc_pt2 of_none = jc_undistort(b, 0, p), of_twenty = jc_undistort(b, 20, p);
     claim(same(of_none.x, of_twenty.x) && same(of_none.y, of_twenty.y), "0 steps mean 20");
 
+    claim(jc_sine(0.5).number == 0 && same(jc_sine(-0.0).value, -0.0) && jc_cosine(-0.0).value == 1, "0.5 has a sine, and zeros give themselves and 1");
+    claim(jc_sine(0.51).number == JC_TILT_TOO_LARGE && jc_cosine(NAN).number == JC_TILT_TOO_LARGE, "27 beyond 0.5");
     jc_matrix h = {1, 0, 0, 0, 1, 0, 0, 0, -2};
     claim(jc_apply_homography(h, p).x == 0.3 / 1e-12, "forward a third number below 0 counts as 1e-12");
     claim(jc_apply_homography_inverse(h, p).x == 0.3 / -2, "backward it is divided by");
@@ -78,6 +80,8 @@ static void search(void) {
     jc_start_flat s = jc_start(3, options, TILTS, 2, TILTS, 2, TILTS, 0, K, center, list, len);
     claim(s.number == 0 && s.run.place.len == 4, "an empty decomposition is any array with the length 0");
     claim(jc_start(3, options, TILTS, 2, TILTS, 2, TILTS, 0, K, center, list, len - 1).number == JC_LIST_TOO_SHORT, "8");
+    jc_options degrees = {1, 0.005, 3.0};
+    claim(jc_start(3, degrees, TILTS, 2, TILTS, 2, TILTS, 0, K, center, list, len).number == JC_TILT_TOO_LARGE, "27");
     claim(jc_next(s.run, list, len - 1).number == JC_LIST_SHORTENED, "10");
     claim(jc_result(s.run).number == JC_NOT_OVER, "14");
 
@@ -90,7 +94,7 @@ static void search(void) {
     claim(jc_next(odd, list, len).number == JC_SEED_WAITING, "a record's flag is read as 0 or not 0");
     claim(jc_next(odd, list, len).run.waiting.is_waiting == 1, "and written as 0 or 1");
 
-    jc_solved_camera solved = {{K, {0, 0, 0, 0, 0}}, LEVEL};
+    jc_pinhole_camera solved = {K, {0, 0, 0, 0, 0}};
     const double row[] = {0, 0, 643, 484};
     const uint8_t one[] = {1}, two[] = {2};
     claim(jc_answer(n.run, 1, solved, row, 4, two, 1, list, len).number == JC_BAD_ROWS, "a row's flag of 2 is 13");

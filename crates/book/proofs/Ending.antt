@@ -30,7 +30,7 @@ use Rattle.search_answer.specs.Answer as ans
 use Rattle.search_answer.specs.AnswerLaws.{answer-passed}
 use Rattle.book.specs.Book as book
 use Rattle.book.specs.Book.{Inputs, demand}
-use Rattle.book.specs.Lent.{Lent, next-with, answer-with, left, through, counted, accepted, stillLeft, Turn, Taken, turns}
+use Rattle.book.specs.Lent.{Lent, next-with, answer-with, left, through, counted, accepted, stillLeft, Turn, Taken, AllTaken, turns}
 use Rattle.book.specs.Theorem.{Ends}
 use Rattle.book.proofs.Cases.{case-list}
 use Rattle.book.proofs.Good.{Core, Good}
@@ -294,7 +294,7 @@ module _ (i : Inputs) (r : Run) (h : Lasts i r) where
   next-hands-out o w l d = let e = h .sizes .demand-is in simp (lasts-sound i r h, w, le-ltb (length l) (r .place .demand) (omega arith), o)
 
   answer-passes : r .waiting .«is_waiting» ≡ true → (l : List Float) (f : Finding) (rows : List Float) (flags : List ℕ) → demand i ≤ length l
-      → findingRefusal f rows flags ≡ 0 → ans.answerRefusal r (length l) f rows flags ≡ 0
+      → findingRefusal f (r .waiting .seed .sensor) rows flags ≡ 0 → ans.answerRefusal r (length l) f rows flags ≡ 0
   answer-passes w l f rows flags d z = let e = h .sizes .demand-is in simp (lasts-sound i r h, w, le-ltb (length l) (r .place .demand) (omega arith), z)
 
   -- after Next a seed waits
@@ -325,7 +325,7 @@ left-same r s p o =
     ap (λ (x : Place). x .len - x .at + 9 * (s .options .«refine_rounds» - x .round)) p
     ∙ ap (λ (x : Options). r .place .len - r .place .at + 9 * (x .«refine_rounds» - r .place .round)) o
 
-one-turn : (i : Inputs) (r : Run) (t : Turn) → Lasts i r → r .place .over ≡ false → Taken i t
+one-turn : (i : Inputs) (r : Run) (t : Turn) → Lasts i r → r .place .over ≡ false → Taken i r t
     → Answers i r (left (left r (next-with (t .to-next))) (answer-with (t .to-answer) (t .finding) (t .rows) (t .flags)))
 unfolding left
 one-turn i r t h o k =
@@ -336,8 +336,8 @@ one-turn i r t h o k =
     let p = next-place r (t .to-next) in
     record { lasts = a .lasts; counts = a .counts ∙ ap (λ (x : Place). x .number + 1) (p .0); less = let e = left-same r s (p .0) (p .1) in let q = a .less in omega arith }
 
-reaches : (i : Inputs) (r : Run) (ts : List Turn) → Lasts i r → All (Taken i) ts → stillLeft r ≤ length ts → through r (turns ts) .place .over ≡ true
-unfolding through turns
+reaches : (i : Inputs) (r : Run) (ts : List Turn) → Lasts i r → AllTaken i r ts → stillLeft r ≤ length ts → through r (turns ts) .place .over ≡ true
+unfolding through turns AllTaken
 reaches i r [] h k n = case (r .place .over) (λ o. o) (λ o. absurd (let p = h .room o in omega arith))
 reaches i r (t ∷ ts) h k n =
     case (r .place .over)
@@ -369,6 +369,6 @@ run-ends i r cs h z =
       few = omega arith;
       next-accepted = λ o w l d. ap (λ x. x .reply) (next-hands-out i (through r cs) s o w l d);
       answer-accepted = answer-passes i (through r cs) s;
-      failed-taken = λ rows flags. refl;
+      failed-taken = λ t rows flags. refl;
       reaches-end = λ ts. reaches i (through r cs) ts s;
     }

@@ -10,7 +10,9 @@ use lib.ListN.{length, getD, length-append}
 use Rattle.common.specs.Tests.{case}
 use Rattle.common.specs.All.{all-append, all-map}
 use Rattle.common.specs.Each.{All}
+use lib.Ieee.{lt}
 use Rattle.float.specs.Float.{isFinite}
+use Rattle.float.specs.Literals.{half₆₄}
 use Rattle.seed_rules.specs.declared.CandidateSeed.{CandidateSeed}
 use Rattle.seed_rules.specs.Rules.{inBound, offsets}
 use Rattle.seed_rules.specs.RulesLaws.{next-length}
@@ -42,6 +44,7 @@ pub record Sized (i : Inputs) : Type 0 where
   pub least : 54 ≤ demand i
   pub most : demand i ≤ 3072
   pub finite-bound : isFinite (i .max) ≡ true
+  pub small-bound : lt half₆₄ (i .max) ≡ false
 
 -- of a book, also between an answer and the round that it ends
 pub record Core (b : Book) : Type 0 where
@@ -170,6 +173,9 @@ all-at P d [] k h l = absurd (omega arith)
 all-at P d (x ∷ xs) zero h l = h .0
 all-at P d (x ∷ xs) (suc k) h l = all-at P d xs k (h .1) (omega arith)
 
+pub current-within : (b : Book) → Core b → length (b .answered) < length (b .list) → Within (b .inputs) (current b)
+current-within b h l = all-at (Within (b .inputs)) noSeed (b .list) (length (b .answered)) (h .seeds) l
+
 counted-more : (k : ℕ) (es : List Entry) (e : Entry) → Counted k es → e .number ≡ k + length es → Counted k (es ++ e ∷ [])
 counted-more k [] e h n = (omega arith, tt)
 counted-more k (d ∷ es) e h n = (h .0, counted-more (suc k) es e (h .1) (omega arith))
@@ -179,7 +185,7 @@ module _ (b : Book) (o : Outcome) where
   unfolding withEntry
   entry-core h r s =
       let e : entries (withEntry b o) ≡ entries b ++ entry b o ∷ [] = sym (append-assoc (b .earlier) (b .answered) (entry b o ∷ [])) in
-      let own : Proper (b .inputs) (entry b o) = record { within = all-at (Within (b .inputs)) noSeed (b .list) (length (b .answered)) (h .seeds) r; stands = s } in
+      let own : Proper (b .inputs) (entry b o) = record { within = current-within b h r; stands = s } in
       record {
         sized = h .sized;
         in-rounds = h .in-rounds;

@@ -6,6 +6,7 @@ pub mod Good
 pub mod RunOf
 pub mod Simulation
 pub mod Growth
+pub mod Taken
 pub mod Winner
 pub mod Refusals
 pub mod Starts

@@ -99,7 +99,7 @@ unfoldable pub enteredBy : Book → Call → List Entry
 enteredBy b (next n) = []
 enteredBy b (seed n) = []
 enteredBy b (answer n f rows flags) =
-    cond (b .waits && (not (ltb n (demand (b .inputs))) && eqb (findingRefusal f rows flags) 0)) (entry b (outcomeOf f (current b .sensor) (b .inputs .center) rows flags) ∷ []) []
+    cond (b .waits && (not (ltb n (demand (b .inputs))) && eqb (findingRefusal f (current b .sensor) rows flags) 0)) (entry b (outcomeOf f (current b .sensor) (b .inputs .center) rows flags) ∷ []) []
 enteredBy b ask = []
 
 pub data Moves (b : Book) (c : Call) (k : Kept) : Type 0 where
@@ -120,7 +120,7 @@ moves b (answer n f rows flags) =
     case (b .waits)
     (λ w. case (ltb n (demand (b .inputs)))
     (λ s. simp (w, s) (stays refl (simp (w, s))))
-    (λ s. case (eqb (findingRefusal f rows flags) 0)
+    (λ s. case (eqb (findingRefusal f (current b .sensor) rows flags) 0)
     (λ z. simp (w, s, z) (enters (outcomeOf f (current b .sensor) (b .inputs .center) rows flags) w (outcome-stands (b .inputs) f (current b .sensor) rows flags) refl (simp (w, s, z))))
     (λ z. simp (w, s, z) (stays refl (simp (w, s, z))))))
     (λ w. simp w (stays refl (simp w)))

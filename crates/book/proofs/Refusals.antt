@@ -12,7 +12,7 @@ use lib.Ieee.{Float, neg, lt, le}
 use Rattle.common.specs.Each.{every}
 use Rattle.common.specs.Refusal.{Check, _when_, firstRefusal}
 use Rattle.float.specs.Float.{isFinite}
-use Rattle.float.specs.Literals.{plusZero}
+use Rattle.float.specs.Literals.{plusZero, half₆₄}
 use Rattle.seed_rules.specs.declared.CandidateSeed.{CandidateSeed}
 use Rattle.seed_rules.specs.Rules.{within, inBound}
 use Rattle.seed_rules.specs.Bound.{within-order}
@@ -30,6 +30,9 @@ pub record Decides (c : Bool) (C : Type 0) : Type 0 where
 fails-of : (b : Bool) → Decides (not b) (b ≡ false)
 fails-of true = record { holds = λ e. sym e; fails = λ e h. true≢false h }
 fails-of false = record { holds = λ e. refl; fails = λ e h. true≢false e }
+
+holds-of : (b : Bool) → Decides b (b ≡ true)
+holds-of b = record { holds = λ e. e; fails = λ e h. true≢false (sym h ∙ e) }
 
 either : (a b : Bool) {A B : Type 0} → Decides a A → Decides b B → Decides (a || b) (A ⊎ B)
 either true b p q = record { holds = λ e. inl (p .holds refl); fails = λ e. absurd (true≢false e) }
@@ -169,7 +172,7 @@ start-decided i n =
                   refl,
                   omega arith,
                   not-both (every isFinite (i .xs)) (every isFinite (i .ys)) (some-fails isFinite NotFinite (λ x. fails-of (isFinite x)) (i .xs)) (some-fails isFinite NotFinite (λ x. fails-of (isFinite x)) (i .ys)),
-                  (refl, omega arith, n-below i n, tt),
+                  (refl, omega arith, n-below i n, (refl, omega arith, holds-of (lt half₆₄ (i .max)), tt)),
                 ),
               ),
             ),

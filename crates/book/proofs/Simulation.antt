@@ -305,12 +305,12 @@ answer-agrees i b l n f rows flags g =
     case (b .waits)
     (λ w. case (ltb n (demand (b .inputs)))
     (λ s. simp (run-fields, t, w, d, s) (refused-agrees b l n 10 (g .there)))
-    (λ s. case (eqb (findingRefusal f rows flags) 0)
+    (λ s. case (eqb (findingRefusal f (current b .sensor) rows flags) 0)
     (λ z.
     let o = outcomeOf f (current b .sensor) (b .inputs .center) rows flags in
     let e = enter-agrees b o (take n l) w (lend (demand (b .inputs)) (b .list) l n (g .there) (ltb-false n (demand (b .inputs)) s)) (g .good .core .sized .least) in
     simp (run-fields, t, w, d, s, z) (record { reply = reply-is o; run = e .run; there = give-back _ (bookEnter b o .list) (ans.enterDef (runOf b) (take n l) o .list) (drop n l) (e .there) }))
-    (λ z. simp (run-fields, t, w, d, s, z) (refused-agrees b l n (findingRefusal f rows flags) (g .there)))))
+    (λ z. simp (run-fields, t, w, d, s, z) (refused-agrees b l n (findingRefusal f (current b .sensor) rows flags) (g .there)))))
     (λ w. simp (run-fields, t, w) (refused-agrees b l n 12 (g .there)))
 
 pub call-agrees : (i : Inputs) (b : Book) (l : List Float) (c : Call) → State i b l → Agrees (runCall (runOf b) l c) (bookCall b c)

@@ -2,30 +2,38 @@
 use Prim.Native.Nat.{ℕ, suc}
 use native.Mathlib.Omega.{arith}
 use mathlib.Core.Path.{_≡_, refl, ap, _∙_}
-use mathlib.Core.Logic.{⊎-elim}
+use mathlib.Core.Logic.{_⊎_, ⊎-elim}
 use mathlib.Core.Bool.{true, false}
 use mathlib.Core.List.{List, map, append-nil}
+use borrow.Author.Tests.{le-ltb}
+use lib.ListN.{length}
 use lib.Ieee.{Float}
 use Rattle.common.specs.Tests.{case}
 use Rattle.common.specs.Each.{All}
+use Rattle.common.specs.Refusal.{firstRefusal}
+use Rattle.score_outcome.specs.declared.Finding.{Finding}
+use Rattle.score_outcome.specs.declared.Finding.the-variants.{Failed}
+use Rattle.score_outcome.specs.Evaluation.{rowChecks}
 use Rattle.score_best.specs.declared.Candidate.{Candidate}
 use Rattle.score_best.specs.Best.{chosen}
 use Rattle.search_calls.specs.declared.next.Handed.the-variants as handed-as
 use Rattle.search_calls.specs.declared.result.Resulted.the-variants.{Result, Refused}
+use Rattle.search_answer.specs.Answer.{answerRefusal}
 use Rattle.search_calls.specs.Result.{resultDef}
 use Rattle.book.specs.Calls.{Call}
-use Rattle.book.specs.Book.{Inputs, Book, entries, number, runBest, opened, after}
-use Rattle.book.specs.Trace.{handed, answers}
+use Rattle.book.specs.Book.{Inputs, demand, Book, entries, number, current, runBest, opened, after}
+use Rattle.book.specs.Trace.{handed, answers, listAfter}
 use Rattle.book.specs.Named.{outcomesIn, handings}
 use Rattle.book.specs.Theorem.{startedList, NoNan, Over, Follows, SearchIsBook}
 use Rattle.book.proofs.Cases.{case-chosen}
 use Rattle.book.proofs.Planned.{handingOf, done}
-use Rattle.book.proofs.Good.{Proper, Good}
+use Rattle.book.proofs.Good.{Proper, Good, waits-going, current-within}
 use Rattle.book.proofs.RunOf.{runOf, State, run-fields, run-bests, sound-run, count-bound}
 use Rattle.book.proofs.Growth.{handedIn}
 use Rattle.book.proofs.Winner.{numbers, winner}
 use Rattle.book.proofs.Walks.{walks}
 use Rattle.book.proofs.Tilts.{all-tried}
+use Rattle.book.proofs.Taken.{not-refused}
 use Rattle.book.proofs.Starts.{starts}
 use Rattle.book.proofs.Opening.{opens}
 use Rattle.book.proofs.Ending.{opened-lasts, run-ends}
@@ -64,6 +72,15 @@ all-handed i b w g o e =
     ∙ ap (λ (j : Inputs). handings j (outcomesIn (entries b)) (suc (j .rounds))) (g .inputs-are))
     (g .finished o)
 
+-- ---- while a seed waits
+answer-open : (i : Inputs) (b : Book) (l : List Float) → State i b l → runOf b .waiting .«is_waiting» ≡ true
+    → (f : Finding) (rows : List Float) (flags : List ℕ) → (f ≡ Failed) ⊎ (firstRefusal (rowChecks rows flags) ≡ 0) → answerRefusal (runOf b) (length l) f rows flags ≡ 0
+answer-open i b l s w f rows flags k =
+    let g = s .good in
+    let q : b .waits ≡ true = simp run-fields at w in
+    let z = not-refused (b .inputs .max) (current b .sensor) f rows flags (g .core .sized .small-bound) (current-within b (g .core) (g .room (waits-going i b g q))) k in
+    simp (sound-run i b g, run-fields, q, z, le-ltb (length l) (demand (b .inputs)) (s .there .long))
+
 -- ---- of an accepted Start's book
 follows : (i : Inputs) (l : List Float) (cs : List Call) → State i (opened i) l → Follows i (runOf (opened i)) l cs
 unfolding NoNan
@@ -88,6 +105,7 @@ follows i l cs t =
           let o = is-over i b g (rw (w .run-is) at v) in
           rw (same, out ∙ over-handed b (g .calm o)) (all-tried i b g o x y mx my lx hx ly hy);
       few-answers = rw same (count-bound i b g);
+      answer-accepted = rw (w .run-is) (answer-open i b (listAfter (runOf (opened i)) l cs) (w .state));
     }
 
 opened-number : (i : Inputs) → runOf (opened i) .place .number ≡ 0

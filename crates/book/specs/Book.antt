@@ -188,15 +188,16 @@ abbrev pub replyTo : Outcome → Reply
 replyTo (Skipped reason) = skipped reason
 replyTo (Scored s) = scored (s .score)
 
--- Answer: 12 no seed is waiting, 10, and then what the finding itself is refused for
+-- Answer: 12 no seed is waiting, 10, and then what the finding itself is refused for, with the seed's own tilts
 unfoldable pub bookAnswer : Book → ℕ → Finding → List Float → List ℕ → Kept
 bookAnswer b n f rows flags =
     let o = outcomeOf f (current b .sensor) (b .inputs .center) rows flags in
+    let k = findingRefusal f (current b .sensor) rows flags in
     unless
     (firstRefusal
     ((12 when not (b .waits))
     ∷ (10 when ltb n (demand (b .inputs)))
-    ∷ (findingRefusal f rows flags when not (eqb (findingRefusal f rows flags) 0))
+    ∷ (k when not (eqb k 0))
     ∷ []))
     b
     (kept (replyTo o) (bookEnter b o))

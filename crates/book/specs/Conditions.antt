@@ -1,13 +1,13 @@
--- What 01 refuses Start for, in its order, as plain facts of the inputs. Definitions only.
+-- What 01 and 02 refuse Start for, in their order, as plain facts of the inputs. Definitions only.
 use Prim.Native.Nat.{ℕ, _/_, _%_, _<_}
 use mathlib.Core.Path.{_≡_}
 use mathlib.Core.Logic.{_⊎_}
-use mathlib.Core.Bool.{false}
+use mathlib.Core.Bool.{true, false}
 use mathlib.Core.List.{List, [], _∷_}
 use lib.ListN.{length}
 use lib.Ieee.{Float, neg, lt, le}
 use Rattle.float.specs.Float.{isFinite}
-use Rattle.float.specs.Literals.{plusZero}
+use Rattle.float.specs.Literals.{plusZero, half₆₄}
 use Rattle.seed_rules.specs.declared.CandidateSeed.{CandidateSeed}
 use Rattle.seed_rules.specs.Layout.{allSeeds}
 use Rattle.book.specs.Book.{Inputs, demand}
@@ -52,7 +52,7 @@ BadSeed max s =
     (((((NotPositive (k .fx) ⊎ NotPositive (k .fy)) ⊎ NotFinite (k .cx)) ⊎ NotFinite (k .cy)) ⊎ NotFinite (t .«tilt_x»)) ⊎ NotFinite (t .«tilt_y»))
     ⊎ (Beyond max (t .«tilt_x») ⊎ Beyond max (t .«tilt_y»))
 
--- ---- 01, 'Start', where n numbers are lent
+-- ---- 01, 'Start', where n numbers are lent, and then 02, E1: a bound above 0.5
 abbrev pub conditions : Inputs → ℕ → List Condition
 conditions i n =
     (1 provided (i .views < 3))
@@ -63,4 +63,5 @@ conditions i n =
     ∷ (6 provided (Some (BadSeed (i .max)) (allSeeds (i .decomposition))))
     ∷ (7 provided (Some NotFinite (i .xs) ⊎ Some NotFinite (i .ys)))
     ∷ (8 provided (n < demand i))
+    ∷ (27 provided (lt half₆₄ (i .max) ≡ true))
     ∷ []

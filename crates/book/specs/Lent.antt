@@ -39,7 +39,7 @@ accepted r (c ∷ cs) = counted r c + accepted (left r c) cs
 abbrev pub stillLeft : Run → ℕ
 stillLeft r = r .place .len - r .place .at + 9 * (r .options .«refine_rounds» - r .place .round)
 
--- ---- Next and an answer to it, which isn't refused for itself or for a short list
+-- ---- Next and an answer to it
 pub record Turn : Type 0 where
   pub to-next : List Float
   pub to-answer : List Float
@@ -47,9 +47,18 @@ pub record Turn : Type 0 where
   pub rows : List Float
   pub flags : List ℕ
 
-abbrev pub Taken : Inputs → Turn → Type 0
-Taken i t = (demand i ≤ length (t .to-next)) × (demand i ≤ length (t .to-answer)) × (findingRefusal (t .finding) (t .rows) (t .flags) ≡ 0)
-
 unfoldable pub turns : List Turn → List Lent
 turns [] = []
 turns (t ∷ ts) = next-with (t .to-next) ∷ answer-with (t .to-answer) (t .finding) (t .rows) (t .flags) ∷ turns ts
+
+-- the answer isn't refused for a short list, nor for itself with the seed that then waits
+abbrev pub Taken : Inputs → Run → Turn → Type 0
+Taken i r t =
+    (demand i ≤ length (t .to-next))
+    × (demand i ≤ length (t .to-answer))
+    × (findingRefusal (t .finding) (nextDef r (t .to-next) .run .waiting .seed .sensor) (t .rows) (t .flags) ≡ 0)
+
+-- each of the answers, one turn after the other
+unfoldable pub AllTaken : Inputs → Run → List Turn → Type 0
+AllTaken i r [] = Unit {0}
+AllTaken i r (t ∷ ts) = Taken i r t × AllTaken i (through r (turns (t ∷ []))) ts

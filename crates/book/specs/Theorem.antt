@@ -7,6 +7,7 @@ use mathlib.Core.List.{List, List·Memᴰ}
 use lib.ListN.{length}
 use lib.Ieee.{Float, neg, lt, le, eq, isNan}
 use Rattle.common.specs.Each.{All}
+use Rattle.common.specs.Refusal.{firstRefusal}
 use Rattle.float.specs.Float.{absOf, isFinite}
 use Rattle.float.specs.Literals.{plusZero}
 use Rattle.camera_tilt.specs.declared.sensor.ScheimpflugParams.{ScheimpflugParams}
@@ -17,7 +18,7 @@ use Rattle.score_outcome.specs.declared.Finding.{Finding}
 use Rattle.score_outcome.specs.declared.Finding.the-variants.{Failed}
 use Rattle.score_outcome.specs.declared.Outcome.{Outcome}
 use Rattle.score_camera.specs.Camera.{tangentialBound}
-use Rattle.score_outcome.specs.Evaluation.{findingRefusal}
+use Rattle.score_outcome.specs.Evaluation.{rowChecks, findingRefusal}
 use Rattle.score_best.specs.declared.Candidate.{Candidate}
 use Rattle.search_record.specs.declared.run.Run.{Run}
 use Rattle.search_record.specs.Record.{sound}
@@ -35,9 +36,9 @@ use Rattle.book.specs.Calls.{Call}
 use Rattle.book.specs.Book.{Inputs, demand, Entry, entries, scoredOf, firstList, opened, replies, after}
 use Rattle.book.specs.Conditions.{FirstHolds, NoneHolds, conditions}
 use Rattle.book.specs.Walk.{walk}
-use Rattle.book.specs.Trace.{Handing, handed, answers, runAfter}
+use Rattle.book.specs.Trace.{Handing, handed, answers, runAfter, listAfter}
 use Rattle.book.specs.Named.{outcomesIn, handings}
-use Rattle.book.specs.Lent.{Lent, through, accepted, stillLeft, Turn, Taken, turns}
+use Rattle.book.specs.Lent.{Lent, through, accepted, stillLeft, Turn, AllTaken, turns}
 
 -- ---- Start, on the book's inputs and a lent list
 abbrev pub optionsOf : Inputs → Options
@@ -110,6 +111,9 @@ pub record Follows (i : Inputs) (r : Run) (l : List Float) (cs : List Call) : Ty
       → TiltTried i (handed r l cs) (answers r l cs) (tilts x y)
   -- at most 656 answers are accepted
   pub few-answers : length (answers r l cs) ≤ 656
+  -- where a seed waits Answer takes Failed, and Solved with rows that 13 doesn't refuse: 27 comes from a changed list alone
+  pub answer-accepted : runAfter r l cs .waiting .«is_waiting» ≡ true → (f : Finding) (rows : List Float) (flags : List ℕ)
+      → (f ≡ Failed) ⊎ (firstRefusal (rowChecks rows flags) ≡ 0) → answerRefusal (runAfter r l cs) (length (listAfter r l cs)) f rows flags ≡ 0
 
 -- ---- the end of a run, whatever list each call is lent and whatever is answered: s is the run after the calls cs
 pub record Ends (i : Inputs) (r : Run) (cs : List Lent) (s : Run) : Type 0 where
@@ -121,10 +125,10 @@ pub record Ends (i : Inputs) (r : Run) (cs : List Lent) (s : Run) : Type 0 where
   pub next-accepted : s .place .over ≡ false → s .waiting .«is_waiting» ≡ false → (l : List Float) → demand i ≤ length l
       → nextDef s l .reply ≡ handed-as.Candidate (s .place .number)
   pub answer-accepted : s .waiting .«is_waiting» ≡ true → (l : List Float) (f : Finding) (rows : List Float) (flags : List ℕ) → demand i ≤ length l
-      → findingRefusal f rows flags ≡ 0 → answerRefusal s (length l) f rows flags ≡ 0
-  pub failed-taken : (rows : List Float) (flags : List ℕ) → findingRefusal Failed rows flags ≡ 0
+      → findingRefusal f (s .waiting .seed .sensor) rows flags ≡ 0 → answerRefusal s (length l) f rows flags ≡ 0
+  pub failed-taken : (t : ScheimpflugParams) (rows : List Float) (flags : List ℕ) → findingRefusal Failed t rows flags ≡ 0
   -- a host whose answers are accepted reaches the end
-  pub reaches-end : (ts : List Turn) → All (Taken i) ts → stillLeft s ≤ length ts → through s (turns ts) .place .over ≡ true
+  pub reaches-end : (ts : List Turn) → AllTaken i s ts → stillLeft s ≤ length ts → through s (turns ts) .place .over ≡ true
 
 -- ---- Start refuses just where one of 01's conditions holds, with the first one's number, and leaves the list as it was; it accepts all else
 pub record Starts (i : Inputs) (l : List Float) : Type 0 where

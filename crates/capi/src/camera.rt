@@ -1,14 +1,16 @@
-// The root, the camera without tilt, the tilted sensor and the distortion.
+// The root, sine and cosine, the camera without tilt, the tilted sensor and the distortion.
 ghost use mathlib.Core.Path.{_≡_};
 ghost use lib.Ieee.{binary64};
 ghost use Rattle.root.specs.Root.{root};
+ghost use Rattle.float_series.specs.Series.{sines, cosines};
+ghost use Rattle.float_series.specs.Answer.{answerOf};
 ghost use Rattle.camera_models.specs.Intrinsics.{pixelToSensor, sensorToPixel};
 ghost use Rattle.camera_tilt.specs.Matrix.{determinantOf};
 ghost use Rattle.camera_tilt.specs.Sensor.{tiltProjectionMatrix, applyHomography, applyHomographyInverse};
 ghost use Rattle.camera_models.specs.Distortion.{distorted, distortedWithJacobian};
 ghost use Rattle.camera_undistort.specs.Undistortion.{undistorted};
 ghost use Rattle.zhang.specs.Zhang.{fromHomographies};
-ghost use Rattle.capi_records.specs.Camera.{matrixOf, flatMatrix, flatInverse, flatEstimate};
+ghost use Rattle.capi_records.specs.Camera.{flatSum, matrixOf, flatMatrix, flatInverse, flatEstimate};
 use camera_models::distortion;
 use camera_models::distortion::BrownConrady5;
 use camera_models::distortion::DistortedPoint;
@@ -19,10 +21,12 @@ use camera_tilt::sensor;
 use capi_records::camera::CameraReply;
 use capi_records::camera::InverseReply;
 use capi_records::camera::Matrix3;
+use capi_records::camera::SumReply;
 use capi_records::camera::estimate_reply;
 use capi_records::camera::inverse_reply;
 use capi_records::camera::matrix_of;
 use capi_records::camera::rows_of;
+use capi_records::camera::sum_reply;
 use score_rows::TiltTrig;
 use zhang::Conic;
 
@@ -31,6 +35,21 @@ pub extern "C" fn jc_sqrt(x: f64) -> f64
     ensures { λ r. ⌜ r ≡ root binary64 x ⌝ }
 {
     root_code::sqrt(x)
+}
+
+// Sine and cosine of a number of at most 0.5 in size.
+#[no_mangle]
+pub extern "C" fn jc_sine(x: f64) -> SumReply
+    ensures { λ r. ⌜ r ≡ flatSum (answerOf sines x) ⌝ }
+{
+    sum_reply(float_series::sine(x))
+}
+
+#[no_mangle]
+pub extern "C" fn jc_cosine(x: f64) -> SumReply
+    ensures { λ r. ⌜ r ≡ flatSum (answerOf cosines x) ⌝ }
+{
+    sum_reply(float_series::cosine(x))
 }
 
 #[no_mangle]

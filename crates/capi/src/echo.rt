@@ -9,6 +9,7 @@ use camera_tilt::sensor::ScheimpflugParams;
 use capi_records::camera::CameraReply;
 use capi_records::camera::InverseReply;
 use capi_records::camera::Matrix3;
+use capi_records::camera::SumReply;
 use capi_records::lists::CenterReply;
 use capi_records::lists::LineReply;
 use capi_records::lists::NormalizeReply;
@@ -23,7 +24,6 @@ use capi_records::run::ResultFlat;
 use capi_records::run::StartFlat;
 use score_best::Candidate;
 use score_camera::pinhole::PinholeCamera;
-use score_outcome::SolvedCamera;
 use score_rows::TiltTrig;
 use search_record::run::Options;
 use seed_rules::CandidateSeed;
@@ -86,7 +86,7 @@ pub extern "C" fn jc_echo_pinhole_camera(x: PinholeCamera) -> PinholeCamera
 }
 
 #[no_mangle]
-pub extern "C" fn jc_echo_solved_camera(x: SolvedCamera) -> SolvedCamera
+pub extern "C" fn jc_echo_sum_reply(x: SumReply) -> SumReply
     ensures { λ r. ⌜ r ≡ x ⌝ }
 {
     x

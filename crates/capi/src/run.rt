@@ -20,7 +20,7 @@ use capi_records::run::finding_of;
 use capi_records::run::next_flat;
 use capi_records::run::result_flat;
 use capi_records::run::start_flat;
-use score_outcome::SolvedCamera;
+use score_camera::pinhole::PinholeCamera;
 use search_record::run::Options;
 
 // Start: round 0's list is written to the front of `list`.
@@ -72,7 +72,7 @@ pub extern "C" fn jc_seed(run: RunRecord, list: &[f64], to: &mut [f64]) -> usize
 pub extern "C" fn jc_answer(
     run: RunRecord,
     is_solved: u8,
-    solved: SolvedCamera,
+    solved: PinholeCamera,
     rows: &[f64],
     flags: &[u8],
     list: &mut [f64],

@@ -15,7 +15,7 @@ use Rattle.camera_tilt.specs.declared.sensor.ScheimpflugParams.{ScheimpflugPara
 use Rattle.score_camera.specs.Camera.{dampedCamera, validCamera}
 use Rattle.score_outcome.specs.declared.Finding.{Finding}
 use Rattle.score_outcome.specs.declared.Finding.the-variants.{Failed, Solved}
-use Rattle.score_outcome.specs.Evaluation.{meanWith, scoringOf, evaluated, outcomeOf}
+use Rattle.score_outcome.specs.Evaluation.{solvedAt, meanWith, scoringOf, evaluated, outcomeOf}
 use Rattle.search_record.specs.declared.run.Run.{Run}
 use Rattle.search_start.specs.declared.Started.the-variants.{Accepted, Refused}
 use Rattle.search_start.specs.Start.{startReply, startRefusal}
@@ -64,7 +64,8 @@ outcome-read : (f : Finding) (sensor : ScheimpflugParams) (center : Pt2) (rows :
     → readAnswer (flatAnswered (replyOf (outcomeOf f sensor center rows flags)) r) ≡ answeredReply (replyOf (outcomeOf f sensor center rows flags))
 unfolding outcomeOf evaluated
 outcome-read Failed sensor center rows flags r = refl
-outcome-read (Solved s) sensor center rows flags r =
+outcome-read (Solved c) sensor center rows flags r =
+    let s = solvedAt c sensor in
     case (not (validCamera (dampedCamera (s .camera))))
     (λ h. simp h)
     (λ h.

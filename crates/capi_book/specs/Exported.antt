@@ -6,7 +6,7 @@ use mathlib.Core.List.{List, [], _∷_, _++_}
 use lib.Dec.{eqb}
 use lib.ListN.{length, take, drop}
 use lib.Ieee.{Float}
-use Rattle.score_outcome.specs.declared.SolvedCamera.{SolvedCamera}
+use Rattle.score_camera.specs.declared.pinhole.PinholeCamera.{PinholeCamera}
 use Rattle.search_calls.specs.Next.{nextDef, seedPart}
 use Rattle.search_answer.specs.Answer.{answerDef}
 use Rattle.search_calls.specs.Result.{resultDef}
@@ -24,7 +24,7 @@ use Rattle.book.specs.Calls as book
 pub data Exported : Type 0 where
   jc-next : ℕ → Exported
   jc-seed : ℕ → (to : List Float) → 6 ≤ length to → Exported
-  jc-answer : ℕ → ℕ → SolvedCamera → List Float → List ℕ → Exported
+  jc-answer : ℕ → ℕ → PinholeCamera → List Float → List ℕ → Exported
   jc-result : Exported
 
 -- the call of the book that it makes

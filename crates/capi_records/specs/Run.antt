@@ -6,7 +6,7 @@ use lib.Dec.{eqb, leb}
 use lib.ListN.{length, drop}
 use lib.Ieee.{Float}
 use Rattle.float.specs.Literals.{plusZero}
-use Rattle.score_outcome.specs.declared.SolvedCamera.{SolvedCamera}
+use Rattle.score_camera.specs.declared.pinhole.PinholeCamera.{PinholeCamera}
 use Rattle.score_outcome.specs.declared.Finding.{Finding}
 use Rattle.score_outcome.specs.declared.Finding.the-variants.{Failed, Solved}
 use Rattle.score_best.specs.Best.{noBest}
@@ -56,7 +56,7 @@ flatResult (resulted.Result c) = record { number = 0; candidate = c }
 flatResult (resulted.Refused n) = record { number = n; candidate = noBest .candidate }
 
 -- the host's finding: Failed, or Solved where the flag is set
-abbrev pub findingOf : ℕ → SolvedCamera → Finding
+abbrev pub findingOf : ℕ → PinholeCamera → Finding
 findingOf n s = cond (eqb n 0) Failed (Solved s)
 
 -- a part copied to the front of a list that holds it; a shorter list stays as it is

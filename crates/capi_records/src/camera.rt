@@ -1,10 +1,18 @@
-// A matrix, its inverse and an estimated camera.
+// A sine or cosine, a matrix, its inverse and an estimated camera.
 ghost use mathlib.Core.Path.{_≡_};
-ghost use Rattle.capi_records.specs.Camera.{matrixOf, flatMatrix, noMatrix, flatInverse, flatEstimate};
+ghost use Rattle.capi_records.specs.Camera.{flatSum, matrixOf, flatMatrix, noMatrix, flatInverse, flatEstimate};
 use camera_models::intrinsics::FxFyCxCy;
 use camera_tilt::matrix;
 use camera_tilt::sensor;
+use float_series::Sum;
 use zhang::Estimated;
+
+// 0 and the sine or the cosine, or 27.
+#[repr(C)]
+pub struct SumReply {
+    pub number: u8,
+    pub value: f64,
+}
 
 // Three rows of three numbers.
 #[repr(C)]
@@ -32,6 +40,15 @@ pub struct InverseReply {
 pub struct CameraReply {
     pub number: u8,
     pub camera: FxFyCxCy,
+}
+
+pub fn sum_reply(s: Sum) -> SumReply
+    ensures { λ r. ⌜ r ≡ flatSum s ⌝ }
+{
+    match s {
+        Sum::Value(value) => SumReply { number: 0, value },
+        Sum::Refused(number) => SumReply { number, value: 0.0 },
+    }
 }
 
 pub fn rows_of(m: Matrix3) -> [[f64; 3]; 3]

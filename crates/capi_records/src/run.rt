@@ -9,8 +9,8 @@ use crate::record::RunRecord;
 use crate::record::no_run;
 use crate::record::run_record;
 use score_best::Candidate;
+use score_camera::pinhole::PinholeCamera;
 use score_outcome::Finding;
-use score_outcome::SolvedCamera;
 use search_answer::AnswerReply;
 use search_answer::Answered;
 use search_calls::next::Handed;
@@ -18,7 +18,7 @@ use search_calls::next::NextReply;
 use search_calls::result::Resulted;
 use search_start::Started;
 
-// 0 and the run, or 1 to 8.
+// 0 and the run, or 1 to 8, or 27.
 #[repr(C)]
 pub struct StartFlat {
     pub number: u8,
@@ -34,7 +34,7 @@ pub struct NextFlat {
     pub run: RunRecord,
 }
 
-// 0 and the score; or 0 and the reason of a skip, 1 to 4; or 12, 10, 13 or 15.
+// 0 and the score; or 0 and the reason of a skip, 1 to 4; or 12, 10, 13 or 27.
 #[repr(C)]
 pub struct AnswerFlat {
     pub number: u8,
@@ -141,7 +141,7 @@ pub fn result_flat(s: Resulted) -> ResultFlat
     }
 }
 
-pub fn finding_of(is_solved: u8, solved: SolvedCamera) -> Finding
+pub fn finding_of(is_solved: u8, solved: PinholeCamera) -> Finding
     ensures { λ r. ⌜ r ≡ findingOf «is_solved» solved ⌝ }
 {
     if is_solved != 0 {

@@ -9,7 +9,7 @@ use Rattle.search_start.specs.Start.{openingOf}
 use Rattle.book.specs.Calls.{Call, next, seed, answer, ask, Reply, candidate, over, part, scored, skipped, result, refused}
 use Rattle.book.specs.Book.{Inputs}
 use Rattle.book.specs.Theorem.{optionsOf}
-use Rattle.cases.specs.Words.{bits, f0, quarter, f1, f50, f100, pinhole, centre, solvedWith, untilted, rightAngle, seenAt, inFront, turn, failed}
+use Rattle.cases.specs.Words.{bits, f0, quarter, f1, f50, f100, pinhole, centre, solvedWith, seenAt, inFront, turn, failed}
 
 -- 0.5
 abbrev half : Float
@@ -39,25 +39,24 @@ roundZero =
     ask ∷ seed 54 ∷ answer 54 Failed [] [] ∷ next 53
     ∷ next 54 ∷ next 54 ∷ seed 53 ∷ seed 54
     ∷ answer 53 Failed [] []
-    ∷ answer 54 (solvedWith f100 f0 untilted) [] (1 ∷ [])
-    ∷ answer 54 (solvedWith f100 f0 untilted) (seenAt f50) (2 ∷ [])
-    ∷ answer 54 (solvedWith f100 f0 rightAngle) (seenAt f50) inFront
-    ∷ answer 54 (solvedWith f100 f0 untilted) (seenAt (bits 0x404a_0000_0000_0000)) inFront
+    ∷ answer 54 (solvedWith f100 f0) [] (1 ∷ [])
+    ∷ answer 54 (solvedWith f100 f0) (seenAt f50) (2 ∷ [])
+    ∷ answer 54 (solvedWith f100 f0) (seenAt (bits 0x404a_0000_0000_0000)) inFront
     ∷ next 54
-    ∷ answer 54 (solvedWith f100 f0 untilted) (seenAt (bits 0x4049_fe00_0000_0000)) inFront
+    ∷ answer 54 (solvedWith f100 f0) (seenAt (bits 0x4049_fe00_0000_0000)) inFront
     ∷ []
 
 abbrev roundZeroReplies : List Reply
 roundZeroReplies =
     refused 14 ∷ part [] ∷ refused 12 ∷ refused 10
     ∷ candidate 0 ∷ refused 9 ∷ part [] ∷ part (f100 ∷ f100 ∷ f50 ∷ f50 ∷ f0 ∷ f0 ∷ [])
-    ∷ refused 10 ∷ refused 13 ∷ refused 13 ∷ refused 15
+    ∷ refused 10 ∷ refused 13 ∷ refused 13
     ∷ scored (bits 0x4000_0000_0000_0000) ∷ candidate 1 ∷ scored (bits 0x4000_0000_0000_0000) ∷ []
 
 -- ---- round 1, around (0, 0) with step 0.125: the host fails, a focal length is 0, no row is counted; and it fails at the rest
 abbrev roundOne : List Call
 roundOne =
-    failed 54 ++ turn 54 (solvedWith f0 f0 untilted) [] [] ++ turn 54 (solvedWith f100 f0 untilted) (seenAt f50) (0 ∷ [])
+    failed 54 ++ turn 54 (solvedWith f0 f0) [] [] ++ turn 54 (solvedWith f100 f0) (seenAt f50) (0 ∷ [])
     ++ failed 54 ++ failed 54 ++ failed 54 ++ failed 54 ++ failed 54 ++ failed 54
 
 abbrev roundOneReplies : List Reply
@@ -69,7 +68,7 @@ roundOneReplies =
 -- Its score is 1 + 0.25 × 0.05² + 0.25 × 2 × 0.0625², rounded.
 abbrev roundTwo : List Call
 roundTwo =
-    (next 54 ∷ seed 54 ∷ answer 54 (solvedWith f100 (bits 0x3fb9_9999_9999_999a) untilted) (seenAt (bits 0x4049_8000_0000_0000)) inFront ∷ [])
+    (next 54 ∷ seed 54 ∷ answer 54 (solvedWith f100 (bits 0x3fb9_9999_9999_999a)) (seenAt (bits 0x4049_8000_0000_0000)) inFront ∷ [])
     ++ failed 54 ++ failed 54 ++ failed 54 ++ failed 54 ++ failed 54 ++ failed 54 ++ failed 54 ++ failed 54
     ++ (next 54 ∷ answer 54 Failed [] [] ∷ ask ∷ [])
 

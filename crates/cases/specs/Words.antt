@@ -4,7 +4,7 @@ use mathlib.Core.List.{List, [], _∷_, _++_}
 use lib.Ieee.{Float, binary64, ofBits}
 use Rattle.camera_models.specs.declared.math.Pt2.{Pt2}
 use Rattle.camera_models.specs.declared.intrinsics.FxFyCxCy.{FxFyCxCy}
-use Rattle.score_rows.specs.declared.TiltTrig.{TiltTrig}
+use Rattle.score_camera.specs.declared.pinhole.PinholeCamera.{PinholeCamera}
 use Rattle.score_outcome.specs.declared.Finding.{Finding}
 use Rattle.score_outcome.specs.declared.Finding.the-variants.{Failed, Solved}
 use Rattle.search_start.specs.declared.Started.{Started}
@@ -39,21 +39,11 @@ pinhole = record { fx = f100; fy = f100; cx = f50; cy = f50 }
 abbrev pub centre : Pt2
 centre = record { x = f50; y = f50 }
 
--- a finding with the focal length fx and the tangential coefficient p1, and sine and cosine of the tilts
-abbrev pub solvedWith : Float → Float → TiltTrig → Finding
-solvedWith fx p1 t = Solved (record {
-  camera = record { k = record { fx = fx; fy = f100; cx = f50; cy = f50 }; dist = record { k1 = f1; k2 = f0; k3 = f0; p1 = p1; p2 = f0 } };
-  trig = t;
-})
+-- a finding with the focal length fx and the tangential coefficient p1
+abbrev pub solvedWith : Float → Float → Finding
+solvedWith fx p1 = Solved (record { k = record { fx = fx; fy = f100; cx = f50; cy = f50 }; dist = record { k1 = f1; k2 = f0; k3 = f0; p1 = p1; p2 = f0 } })
 
-abbrev pub untilted : TiltTrig
-untilted = record { «sin_x» = f0; «cos_x» = f1; «sin_y» = f0; «cos_y» = f1 }
-
--- a tilt by a right angle, whose matrix has no inverse
-abbrev pub rightAngle : TiltTrig
-rightAngle = record { «sin_x» = f1; «cos_x» = f0; «sin_y» = f0; «cos_y» = f1 }
-
--- a row whose point is projected to (50, 50) and was seen at (u, 50)
+-- a row whose point is projected to (50, 50), at every tilt, and was seen at (u, 50)
 abbrev pub seenAt : Float → List Float
 seenAt u = f0 ∷ f0 ∷ u ∷ f50 ∷ []
 

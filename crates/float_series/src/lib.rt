@@ -2,7 +2,7 @@
 // Any other argument, NaN too, is refused with 27. How near the answers are to the exact sums is `specs/Theorem.antt`.
 ghost use mathlib.Core.Path.{_≡_};
 ghost use Prim.Native.Nat.{_≤_, _<_};
-ghost use Rattle.float_series.specs.Series.{sines, cosines, coefficientOf, hornerOf};
+ghost use Rattle.float_series.specs.Series.{sines, cosines, coefficientOf, hornerOf, seriesOf};
 ghost use Rattle.float_series.specs.Answer.{beyondHalf, answerOf};
 
 // A number, or the number of a refusal.
@@ -52,8 +52,21 @@ fn horner(first: usize, q: f64) -> f64
     sum
 }
 
+// The two sums, for any number; of one that `beyond` passes they are its sine and its cosine.
+pub fn sine_sum(x: f64) -> f64
+    ensures { λ r. ⌜ r ≡ seriesOf sines x ⌝ }
+{
+    horner(1, x * x) * x
+}
+
+pub fn cosine_sum(x: f64) -> f64
+    ensures { λ r. ⌜ r ≡ seriesOf cosines x ⌝ }
+{
+    horner(0, x * x)
+}
+
 // What is refused: NaN, and what is beyond 0.5 in size.
-fn beyond(x: f64) -> bool
+pub fn beyond(x: f64) -> bool
     ensures { λ r. ⌜ r ≡ beyondHalf x ⌝ }
 {
     (x != x) | (x < -0.5) | (0.5 < x)
@@ -65,7 +78,7 @@ pub fn sine(x: f64) -> Sum
     if beyond(x) {
         return Sum::Refused(27);
     }
-    Sum::Value(horner(1, x * x) * x)
+    Sum::Value(sine_sum(x))
 }
 
 pub fn cosine(x: f64) -> Sum
@@ -74,5 +87,5 @@ pub fn cosine(x: f64) -> Sum
     if beyond(x) {
         return Sum::Refused(27);
     }
-    Sum::Value(horner(0, x * x))
+    Sum::Value(cosine_sum(x))
 }

@@ -39,31 +39,35 @@ pub const OBSERVED_PIXEL_CENTER: usize = 17;
 
 pub const CONIC_TO_CAMERA: usize = 18;
 
-pub const UNTILT_POINTS: usize = 19;
+pub const SINE: usize = 19;
 
-pub const IDEAL_POINTS: usize = 20;
+pub const COSINE: usize = 20;
 
-pub const NORMALIZE_POINTS_2D: usize = 21;
+pub const UNTILT_POINTS: usize = 21;
 
-pub const DESIGN_ROWS: usize = 22;
+pub const IDEAL_POINTS: usize = 22;
 
-pub const UNTILT_POINTS_INTO: usize = 23;
+pub const NORMALIZE_POINTS_2D: usize = 23;
 
-pub const IDEAL_POINTS_INTO: usize = 24;
+pub const DESIGN_ROWS: usize = 24;
 
-pub const NORMALIZE_POINTS_2D_INTO: usize = 25;
+pub const UNTILT_POINTS_INTO: usize = 25;
 
-pub const DESIGN_ROWS_INTO: usize = 26;
+pub const IDEAL_POINTS_INTO: usize = 26;
 
-pub const LOCAL_SEED_GRID: usize = 27;
+pub const NORMALIZE_POINTS_2D_INTO: usize = 27;
 
-pub const SEED_LISTS: usize = 28;
+pub const DESIGN_ROWS_INTO: usize = 28;
 
-pub const SEARCH: usize = 29;
+pub const LOCAL_SEED_GRID: usize = 29;
 
-pub const CALLS: usize = 30;
+pub const SEED_LISTS: usize = 30;
 
-pub const KNOWN_PLATE: usize = 31;
+pub const SEARCH: usize = 31;
+
+pub const CALLS: usize = 32;
+
+pub const KNOWN_PLATE: usize = 33;
 
 // No crate answers it.
-pub const UNKNOWN: usize = 32;
+pub const UNKNOWN: usize = 34;

@@ -9,15 +9,15 @@ use oracle_files::expected::met_number;
 use oracle_files::fields::list_end;
 use oracle_files::operations;
 
-// How many numbers the input of an operation has; of one whose input has a list, 0.
+// How many numbers the input of an operation up to `CONIC_TO_CAMERA` has; of one whose input has a list, 0.
 const LENGTHS: [usize; 19] = [1, 2, 5, 2, 6, 0, 6, 6, 11, 11, 7, 8, 4, 9, 7, 5, 0, 0, 6];
 
 fn inputs_end(operation: usize, x: &[f64]) -> usize {
     if operation == operations::MEAN_REPROJ_ERROR {
         return rows_end(x, 13);
     }
-    if operation >= 19 {
-        return 0;
+    if operation > operations::CONIC_TO_CAMERA {
+        return 1;
     }
     let n = LENGTHS[operation];
     if n == 0 {
@@ -26,7 +26,7 @@ fn inputs_end(operation: usize, x: &[f64]) -> usize {
     n
 }
 
-// How far an operation up to `CONIC_TO_CAMERA` meets what is expected of its n inputs. The guess is the second input's word, where that is
+// How far an operation up to `COSINE` meets what is expected of its n inputs. The guess is the second input's word, where that is
 // no number.
 pub fn met(operation: usize, guess: u64, x: &[f64], n: usize) -> usize {
     if n != inputs_end(operation, x) {

@@ -11,6 +11,7 @@ use camera_models::distortion::DistortedPoint;
 use camera_tilt::matrix;
 use camera_tilt::sensor;
 use camera_tilt::sensor::Tilt;
+use float_series::Sum;
 use oracle_files::expected;
 use oracle_files::expected::met_number;
 use oracle_files::expected::met_whole;
@@ -94,6 +95,16 @@ pub fn met_estimate(x: &[f64], at: usize, estimate: Estimated) -> usize {
     }
 }
 
+fn met_sum(x: &[f64], at: usize, sum: Sum) -> usize {
+    match sum {
+        Sum::Refused(number) => met_whole(x, at, wide(number)),
+        Sum::Value(value) => {
+            let numbers = [0.0, value];
+            expected::met(x, at, &numbers)
+        }
+    }
+}
+
 // The operations that may refuse.
 fn met_refusable(operation: usize, x: &[f64], at: usize) -> usize {
     match operation {
@@ -110,7 +121,11 @@ fn met_refusable(operation: usize, x: &[f64], at: usize) -> usize {
             centre::observed_pixel_center(list_at(x, 0)),
         ),
         // six numbers b = 0, fx fy cx cy; or 16
-        _ => met_estimate(x, at, zhang::from_homographies(conic_of(x))),
+        operations::CONIC_TO_CAMERA => met_estimate(x, at, zhang::from_homographies(conic_of(x))),
+        // x = 0, sine; or 27
+        operations::SINE => met_sum(x, at, float_series::sine(number_at(x, 0))),
+        // x = 0, cosine; or 27
+        _ => met_sum(x, at, float_series::cosine(number_at(x, 0))),
     }
 }
 

@@ -13,6 +13,7 @@ use oracle_files::expected::met;
 use oracle_files::expected::met_whole;
 use oracle_files::fields::at_most;
 use oracle_files::fields::list_end;
+use oracle_files::fields::number_at;
 use oracle_files::fields::part;
 use oracle_files::fields::plus;
 use oracle_files::fields::whole_at;
@@ -101,6 +102,26 @@ fn call_result(state: State, x: &[f64]) -> State {
     }
 }
 
+// Writes to a place of the list, if there is one.
+fn write_number(list: &mut [f64], i: usize, number: f64) {
+    if i >= list.len() {
+        return;
+    }
+    list[i] = number;
+}
+
+// 5, place, number: between two calls the host changes the list, and nothing is replied
+fn change_list(state: State, list: &mut [f64], x: &[f64]) -> State {
+    let run = state.run;
+    let at = state.at;
+    write_number(list, whole_at(x, plus(at, 1)), number_at(x, plus(at, 2)));
+    State {
+        run,
+        at: plus(at, 3),
+        met: state.met,
+    }
+}
+
 // The call that stands next; where none does, all stays as it is.
 fn call(state: State, list: &mut [f64], x: &[f64]) -> State {
     match whole_at(x, state.at) {
@@ -108,6 +129,7 @@ fn call(state: State, list: &mut [f64], x: &[f64]) -> State {
         2 => call_seed(state, list, x),
         3 => call_answer(state, list, x),
         4 => call_result(state, x),
+        5 => change_list(state, list, x),
         _ => state,
     }
 }

@@ -1,4 +1,4 @@
-// What a host answers for a seed: 0 for Failed; or 1, camera, sines and cosines, and rows behind their count.
+// What a host answers for a seed: 0 for Failed; or 1, camera, and rows behind their count.
 ghost use Prim.Native.Nat.{_≤_};
 use oracle_files::fields::at_most;
 use oracle_files::fields::plus;
@@ -6,9 +6,7 @@ use oracle_files::fields::whole_at;
 use oracle_leaves::rows::flags_at;
 use oracle_leaves::rows::numbers_at;
 use oracle_leaves::structs::camera_at;
-use oracle_leaves::structs::trig_at;
 use score_outcome::Finding;
-use score_outcome::SolvedCamera;
 use search_answer::AnswerReply;
 use search_record::run::Run;
 
@@ -19,7 +17,7 @@ pub fn row_count(x: &[f64], at: usize) -> usize
     if whole_at(x, at) == 0 {
         return 0;
     }
-    at_most(whole_at(x, plus(at, 14)), 2048)
+    at_most(whole_at(x, plus(at, 10)), 2048)
 }
 
 // Where the answer at `at` ends.
@@ -27,25 +25,22 @@ pub fn finding_end(x: &[f64], at: usize) -> usize {
     if whole_at(x, at) == 0 {
         return plus(at, 1);
     }
-    plus(plus(at, 15), 5 * row_count(x, at))
+    plus(plus(at, 11), 5 * row_count(x, at))
 }
 
 fn finding_at(x: &[f64], at: usize) -> Finding {
     if whole_at(x, at) == 0 {
         return Finding::Failed;
     }
-    Finding::Solved(SolvedCamera {
-        camera: camera_at(x, plus(at, 1)),
-        trig: trig_at(x, plus(at, 10)),
-    })
+    Finding::Solved(camera_at(x, plus(at, 1)))
 }
 
 // Calls Answer with the answer at `at`, of whose rows' numbers the first `lent` are lent.
 pub fn answer(run: Run, x: &[f64], at: usize, lent: usize, list: &mut [f64]) -> AnswerReply {
     let count = row_count(x, at);
     let length = at_most(lent, 8192);
-    let rows = numbers_at(x, plus(at, 15), length, true);
-    let flags = flags_at(x, plus(at, 19), count);
+    let rows = numbers_at(x, plus(at, 11), length, true);
+    let flags = flags_at(x, plus(at, 15), count);
     search_answer::answer(
         run,
         finding_at(x, at),

@@ -1,16 +1,17 @@
 -- What Answer refuses of a finding, and the outcome of one that it takes. Definitions only.
 use Prim.Native.Nat.{ℕ, _*_}
 use mathlib.Core.Bool.{Bool, false, not, _||_, cond}
-use mathlib.Core.List.{List, [], _∷_}
+use mathlib.Core.List.{List, [], _∷_, _++_}
 use lib.Dec.{eqb, ltb}
 use lib.ListN.{length}
-use lib.Ieee.{Float, eq, isNan}
-use Rattle.common.specs.Refusal.{_when_, firstRefusal}
+use lib.Ieee.{Float, isNan}
+use Rattle.common.specs.Refusal.{Check, _when_, firstRefusal}
 use Rattle.float.specs.Float.{isFinite}
-use Rattle.float.specs.Literals.{plusZero}
-use Rattle.camera_tilt.specs.Matrix.{determinantOf}
+use Rattle.float_series.specs.Series.{sines, cosines, seriesOf}
+use Rattle.float_series.specs.Answer.{beyondHalf}
 use Rattle.camera_models.specs.declared.math.Pt2.{Pt2}
 use Rattle.camera_tilt.specs.declared.sensor.ScheimpflugParams.{ScheimpflugParams}
+use Rattle.score_camera.specs.declared.pinhole.PinholeCamera.{PinholeCamera}
 use Rattle.score_camera.specs.Camera.{dampedCamera, validCamera}
 use Rattle.score_camera.specs.Penalties.{scoreOf}
 use Rattle.score_rows.specs.Rows.{rowsOf, tiltMatrix, errorSum, meanOf}
@@ -27,20 +28,32 @@ unfoldable pub anyAboveOne : List ℕ → Bool
 anyAboveOne [] = false
 anyAboveOne (flag ∷ flags) = ltb 1 flag || anyAboveOne flags
 
--- 01, 'Answer', for Solved: 13 more than 1,024 points, rows not four per flag, a flag above 1; 15 a tilt whose determinant equals 0.
-unfoldable pub solvedRefusal : TiltTrig → List Float → List ℕ → ℕ
-solvedRefusal trig rows flags =
-    firstRefusal
-    ((13 when ltb 1024 (length flags))
-    ∷ (13 when not (eqb (length rows) (4 * length flags)))
-    ∷ (13 when anyAboveOne flags)
-    ∷ (15 when eq (determinantOf (tiltMatrix trig)) plusZero)
-    ∷ [])
+-- ---- what is refused of a finding
+-- 01, 'Answer', for Solved: 13 more than 1,024 points, rows not four per flag, a flag above 1
+abbrev pub rowChecks : List Float → List ℕ → List Check
+rowChecks rows flags = (13 when ltb 1024 (length flags)) ∷ (13 when not (eqb (length rows) (4 * length flags))) ∷ (13 when anyAboveOne flags) ∷ []
 
--- For Failed neither rows nor tilt are read.
-unfoldable pub findingRefusal : Finding → List Float → List ℕ → ℕ
-findingRefusal Failed rows flags = 0
-findingRefusal (Solved s) rows flags = solvedRefusal (s .trig) rows flags
+-- 02, E1: after 13, 27 where a tilt of the seed is NaN or beyond 0.5 in size
+unfoldable pub solvedRefusal : ScheimpflugParams → List Float → List ℕ → ℕ
+solvedRefusal sensor rows flags = firstRefusal (rowChecks rows flags ++ ((27 when (beyondHalf (sensor .«tilt_x») || beyondHalf (sensor .«tilt_y»))) ∷ []))
+
+-- For Failed neither rows nor tilts are read.
+unfoldable pub findingRefusal : Finding → ScheimpflugParams → List Float → List ℕ → ℕ
+findingRefusal Failed sensor rows flags = 0
+findingRefusal (Solved c) sensor rows flags = solvedRefusal sensor rows flags
+
+-- ---- the outcome
+-- 02, E1: sine and cosine of the seed's tilts, by the series
+unfoldable pub trigOf : ScheimpflugParams → TiltTrig
+trigOf t = record {
+  «sin_x» = seriesOf sines (t .«tilt_x»);
+  «cos_x» = seriesOf cosines (t .«tilt_x»);
+  «sin_y» = seriesOf sines (t .«tilt_y»);
+  «cos_y» = seriesOf cosines (t .«tilt_y»);
+}
+
+abbrev pub solvedAt : PinholeCamera → ScheimpflugParams → SolvedCamera
+solvedAt c t = record { camera = c; trig = trigOf t }
 
 -- the mean error of the rows, projected with the damped camera
 unfoldable pub meanWith : SolvedCamera → List Float → List ℕ → Float
@@ -61,7 +74,7 @@ evaluated s sensor center rows flags =
     (cond (not (isFinite (meanWith s rows flags))) (Skipped 3)
     (cond (isNan (scoringOf s sensor center rows flags .score)) (Skipped 4) (Scored (scoringOf s sensor center rows flags))))
 
--- Reason 1: the host Failed.
+-- Reason 1: the host Failed. A solved camera is looked at with the seed's own tilts.
 unfoldable pub outcomeOf : Finding → ScheimpflugParams → Pt2 → List Float → List ℕ → Outcome
 outcomeOf Failed sensor center rows flags = Skipped 1
-outcomeOf (Solved s) sensor center rows flags = evaluated s sensor center rows flags
+outcomeOf (Solved c) sensor center rows flags = evaluated (solvedAt c sensor) sensor center rows flags

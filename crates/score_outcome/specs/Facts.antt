@@ -14,7 +14,7 @@ use Rattle.camera_models.specs.declared.math.Pt2.{Pt2}
 use Rattle.camera_tilt.specs.declared.sensor.ScheimpflugParams.{ScheimpflugParams}
 use Rattle.score_camera.specs.Camera.{tangentialBound, damped, dampedCamera, finiteIntrinsics, finiteDistortion, validCamera}
 use Rattle.score_camera.specs.Penalties.{scoreOf}
-use Rattle.score_outcome.specs.Evaluation.{meanWith, scoringOf, evaluated, outcomeOf}
+use Rattle.score_outcome.specs.Evaluation.{solvedAt, meanWith, scoringOf, evaluated, outcomeOf}
 use Rattle.score_outcome.specs.Outcomes.{invalid-skips, infinite-skips, nan-skips, number-scores}
 use Rattle.score_outcome.specs.Mean.{mean-unsigned}
 use Rattle.score_outcome.specs.declared.SolvedCamera.{SolvedCamera}
@@ -90,7 +90,8 @@ pub scored-facts : (f : Finding) (sensor : ScheimpflugParams) (center : Pt2) (ro
     → outcomeOf f sensor center rows flags ≡ Scored g → ScoredFacts sensor center g
 unfolding outcomeOf
 scored-facts Failed sensor center rows flags g h = absurd (never 1 g h)
-scored-facts (Solved s) sensor center rows flags g h =
+scored-facts (Solved c) sensor center rows flags g h =
+    let s = solvedAt c sensor in
     case (validCamera (dampedCamera (s .camera)))
     (λ v.
     case (isFinite (meanWith s rows flags))
@@ -119,11 +120,11 @@ pub skipped-reason : (f : Finding) (sensor : ScheimpflugParams) (center : Pt2) (
     → outcomeOf f sensor center rows flags ≡ Skipped n → (1 ≤ n) × (n ≤ 4)
 unfolding outcomeOf
 skipped-reason Failed sensor center rows flags n h = let e = skipped-same 1 n h in (omega arith, omega arith)
-skipped-reason (Solved s) sensor center rows flags n h = let e = solved-reason s sensor center rows flags n h in (omega arith, omega arith)
+skipped-reason (Solved c) sensor center rows flags n h = let e = solved-reason (solvedAt c sensor) sensor center rows flags n h in (omega arith, omega arith)
 
 -- Reason 1 for Failed alone.
 pub skipped-failed : (f : Finding) (sensor : ScheimpflugParams) (center : Pt2) (rows : List Float) (flags : List ℕ)
     → outcomeOf f sensor center rows flags ≡ Skipped 1 → f ≡ Failed
 unfolding outcomeOf
 skipped-failed Failed sensor center rows flags h = refl
-skipped-failed (Solved s) sensor center rows flags h = let e = solved-reason s sensor center rows flags 1 h in absurd (omega arith)
+skipped-failed (Solved c) sensor center rows flags h = let e = solved-reason (solvedAt c sensor) sensor center rows flags 1 h in absurd (omega arith)

@@ -2,3 +2,4 @@ pub mod Evaluation
 pub mod Outcomes
 pub mod Mean
 pub mod Facts
+pub mod Invertible

@@ -2,28 +2,29 @@
 // Each function equals its rule for every input.
 
 ghost use mathlib.Core.Path.{_≡_};
-ghost use Rattle.score_outcome.specs.Evaluation.{anyAboveOne, solvedRefusal, findingRefusal, evaluated, outcomeOf};
+ghost use Rattle.score_outcome.specs.Evaluation.{anyAboveOne, trigOf, solvedRefusal, findingRefusal, evaluated, outcomeOf};
 use camera_models::math::Pt2;
-use camera_tilt::matrix::determinant;
 use camera_tilt::sensor::ScheimpflugParams;
+use float_series::beyond;
+use float_series::cosine_sum;
+use float_series::sine_sum;
 use score_camera::penalties::candidate_score;
 use score_camera::pinhole::PinholeCamera;
 use score_camera::pinhole::damped_camera;
 use score_camera::pinhole::validate_camera;
 use score_rows::TiltTrig;
 use score_rows::mean_of_rows;
-use score_rows::tilt_matrix;
 
-// What the host solved for a seed.
-#[repr(C)]
+// What the host found for a seed: the camera's nine numbers, or nothing.
+pub enum Finding {
+    Failed,
+    Solved(PinholeCamera),
+}
+
+// The camera that the host solved, and sine and cosine of its seed's tilts.
 pub struct SolvedCamera {
     pub camera: PinholeCamera,
     pub trig: TiltTrig,
-}
-
-pub enum Finding {
-    Failed,
-    Solved(SolvedCamera),
 }
 
 // A scored finding: its damped camera, its mean error and its score.
@@ -52,8 +53,8 @@ fn any_above_one(flags: &[u8]) -> bool
     false
 }
 
-fn solved_refusal(trig: TiltTrig, rows: &[f64], flags: &[u8]) -> u8
-    ensures { λ r. ⌜ r ≡ solvedRefusal trig (now (rows .entry)) (now (flags .entry)) ⌝ }
+fn solved_refusal(sensor: ScheimpflugParams, rows: &[f64], flags: &[u8]) -> u8
+    ensures { λ r. ⌜ r ≡ solvedRefusal sensor (now (rows .entry)) (now (flags .entry)) ⌝ }
 {
     if flags.len() > 1024 {
         return 13;
@@ -64,20 +65,37 @@ fn solved_refusal(trig: TiltTrig, rows: &[f64], flags: &[u8]) -> u8
     if any_above_one(flags) {
         return 13;
     }
-    if determinant(tilt_matrix(trig)) == 0.0 {
-        return 15;
+    if beyond(sensor.tilt_x) | beyond(sensor.tilt_y) {
+        return 27;
     }
     0
 }
 
-// The number of the first refusal of a finding, 0 for none. Of a failed one neither rows nor tilt are read.
-pub fn finding_refusal(finding: Finding, rows: &[f64], flags: &[u8]) -> u8
-    ensures { λ r. ⌜ r ≡ findingRefusal finding (now (rows .entry)) (now (flags .entry)) ⌝ }
+// The number of the first refusal of a finding, 0 for none. Of a failed one neither rows nor tilts are read.
+pub fn finding_refusal(
+    finding: Finding,
+    sensor: ScheimpflugParams,
+    rows: &[f64],
+    flags: &[u8],
+) -> u8
+    ensures { λ r. ⌜ r ≡ findingRefusal finding sensor (now (rows .entry)) (now (flags .entry)) ⌝ }
 {
-    let Finding::Solved(solved) = finding else {
+    let Finding::Solved(_) = finding else {
         return 0;
     };
-    solved_refusal(solved.trig, rows, flags)
+    solved_refusal(sensor, rows, flags)
+}
+
+// Sine and cosine of each tilt, by the series.
+fn trig_of(sensor: ScheimpflugParams) -> TiltTrig
+    ensures { λ r. ⌜ r ≡ trigOf sensor ⌝ }
+{
+    TiltTrig {
+        sin_x: sine_sum(sensor.tilt_x),
+        cos_x: cosine_sum(sensor.tilt_x),
+        sin_y: sine_sum(sensor.tilt_y),
+        cos_y: cosine_sum(sensor.tilt_y),
+    }
 }
 
 // The outcome of a solved camera, damped before it is checked.
@@ -119,8 +137,9 @@ pub fn finding_outcome(
 ) -> Outcome
     ensures { λ r. ⌜ r ≡ outcomeOf finding sensor center (now (rows .entry)) (now (flags .entry)) ⌝ }
 {
-    let Finding::Solved(solved) = finding else {
+    let Finding::Solved(camera) = finding else {
         return Outcome::Skipped(1);
     };
-    evaluate_candidate(solved, sensor, center, rows, flags)
+    let trig = trig_of(sensor);
+    evaluate_candidate(SolvedCamera { camera, trig }, sensor, center, rows, flags)
 }

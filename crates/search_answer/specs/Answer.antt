@@ -29,13 +29,14 @@ pub record Left : Type 0 where
 abbrev pub left : Run → List Float → Left
 left r l = record { run = r; list = l }
 
--- ---- refusals: 12 no seed is waiting, 10 the list is too short, then those of the finding
+-- ---- refusals: 12 no seed is waiting, 10 the list is too short, then those of the finding for the seed that the run keeps
 abbrev pub answerRefusal : Run → ℕ → Finding → List Float → List ℕ → ℕ
 answerRefusal r n f rows flags =
+    let k = findingRefusal f (r .waiting .seed .sensor) rows flags in
     firstRefusal
     ((12 when not (sound r && r .waiting .«is_waiting»))
     ∷ (10 when ltb n (r .place .demand))
-    ∷ (findingRefusal f rows flags when not (eqb (findingRefusal f rows flags) 0))
+    ∷ (k when not (eqb k 0))
     ∷ [])
 
 -- ---- the end of a round

@@ -41,7 +41,7 @@ fn answer_refusal(run: Run, list_len: usize, finding: Finding, rows: &[f64], fla
     if list_len < run.place.demand {
         return 10;
     }
-    score_outcome::finding_refusal(finding, rows, flags)
+    score_outcome::finding_refusal(finding, run.waiting.seed.sensor, rows, flags)
 }
 
 // The first best, or, if it has none, the second.

@@ -8,7 +8,7 @@ use lib.Ieee.{Float, lt}
 use Rattle.common.specs.Each.{every}
 use Rattle.common.specs.Refusal.{Check, _when_, firstRefusal}
 use Rattle.float.specs.Float.{isFinite}
-use Rattle.float.specs.Literals.{plusZero}
+use Rattle.float.specs.Literals.{plusZero, half₆₄}
 use Rattle.camera_models.specs.declared.math.Pt2.{Pt2}
 use Rattle.camera_models.specs.declared.intrinsics.FxFyCxCy.{FxFyCxCy}
 use Rattle.seed_rules.specs.declared.CandidateSeed.{CandidateSeed}
@@ -56,7 +56,7 @@ openingOf options center demand n = record {
   «run_best» = noBest;
 }
 
--- 01, 'Start', in its order: the refusals that need only the options and the lengths of the lists, and those that read the lists
+-- 01, 'Start', and 02, E1, in their order: the refusals that need only the options and the lengths of the lists, and then the others
 abbrev pub optionsChecks : ℕ → Options → ℕ → ℕ → ℕ → List Check
 optionsChecks views options x y d =
     (1 when ltb views 3)
@@ -76,6 +76,7 @@ module _ (views : ℕ) (options : Options) (xs ys decomposition : List Float) wh
       (6 when not (every (goodSeed (options .«max_abs_tilt»)) (allSeeds decomposition)))
       ∷ (7 when not (every isFinite xs && every isFinite ys))
       ∷ (8 when ltb n startDemand)
+      ∷ (27 when lt half₆₄ (options .«max_abs_tilt»))
       ∷ []
 
   abbrev pub startChecks : ℕ → List Check

@@ -1,4 +1,4 @@
--- What Start can rely on where none of its refusals holds: sizes within their limits, good seeds, a list that is long enough. Assumes nothing.
+-- What Start can rely on where none of its refusals holds: sizes within their limits, good seeds, a list that is long enough, a bound of at most 0.5. Assumes nothing.
 use Prim.Native.Nat.{ℕ, _+_, _*_, _/_, _≤_, _<_}
 use mathlib.Core.Path.{_≡_, refl, sym, _∙_}
 use mathlib.Core.Bool.{Bool, true, false, not, _&&_, _||_, cond}
@@ -8,12 +8,13 @@ use native.Mathlib.Omega.{arith}
 use borrow.Author.Tests.{ltb-true, ltb-false, not-false, eqb-true, eqb-false, ne-eqb}
 use lib.Dec.{ltb, eqb}
 use lib.ListN.{length}
-use lib.Ieee.{Float}
+use lib.Ieee.{Float, lt}
 use Rattle.common.specs.Each.{every}
 use Rattle.common.specs.Tests.{both-false}
 use Rattle.common.specs.Refusal.{firstRefusal}
 use Rattle.common.specs.RefusalLaws.{refuses-none}
 use Rattle.float.specs.Float.{isFinite}
+use Rattle.float.specs.Literals.{half₆₄}
 use Rattle.seed_rules.specs.Layout.{allSeeds}
 use Rattle.search_start.specs.Start.{positive, goodSeed, tooMany, demandOf, startDemand, optionsChecks, listsChecks, startRefusal}
 use Rattle.search_record.specs.declared.run.Options.{Options}
@@ -86,6 +87,7 @@ pub record Passed (views : ℕ) (options : Options) (xs ys decomposition : List 
   pub sizes : Sizes (length xs) (length ys) (length decomposition) (options .«refine_rounds»)
   pub good-seeds : every (goodSeed (options .«max_abs_tilt»)) (allSeeds decomposition) ≡ true
   pub demand-fits : startDemand views options xs ys decomposition ≤ n
+  pub bound-small : lt half₆₄ (options .«max_abs_tilt») ≡ false
 
 pub start-passed : (views : ℕ) (options : Options) (xs ys decomposition : List Float) (n : ℕ)
     → startRefusal views options xs ys decomposition n ≡ 0 → Passed views options xs ys decomposition n
@@ -93,5 +95,6 @@ start-passed views options xs ys decomposition n h =
     let p = neither (firstRefusal (optionsChecks views options (length xs) (length ys) (length decomposition))) (firstRefusal (listsChecks views options xs ys decomposition n)) (sym (first views options xs ys decomposition n _ refl) ∙ h) in
     let h6 = refuses-none (not (every (goodSeed (options .«max_abs_tilt»)) (allSeeds decomposition))) 6 _ (omega arith) (p .1) in
     let h7 = refuses-none (not (every isFinite xs && every isFinite ys)) 7 _ (omega arith) (h6 .1) .1 in
-    let h8 = refuses-none (ltb n (startDemand views options xs ys decomposition)) 8 _ (omega arith) h7 .0 in
-    record { sizes = sizes-fit views options xs ys decomposition n _ refl (p .0); good-seeds = not-false _ (h6 .0); demand-fits = ltb-false n _ h8 }
+    let h8 = refuses-none (ltb n (startDemand views options xs ys decomposition)) 8 _ (omega arith) h7 in
+    let h9 = refuses-none (lt half₆₄ (options .«max_abs_tilt»)) 27 _ (omega arith) (h8 .1) .0 in
+    record { sizes = sizes-fit views options xs ys decomposition n _ refl (p .0); good-seeds = not-false _ (h6 .0); demand-fits = ltb-false n _ (h8 .0); bound-small = h9 }

@@ -140,6 +140,9 @@ fn start_refusal(
     if list_len < demand_of(numbers, x, y) {
         return 8;
     }
+    if 0.5 < options.max_abs_tilt {
+        return 27;
+    }
     0
 }
 

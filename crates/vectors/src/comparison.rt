@@ -20,7 +20,7 @@ use oracle_files::text::next_line;
 
 // How far an operation meets what is expected of its n inputs; an unknown one does not.
 fn met(operation: usize, guess: u64, x: &[f64], n: usize) -> usize {
-    if operation <= operations::CONIC_TO_CAMERA {
+    if operation <= operations::COSINE {
         return oracle_leaves::leaves::met(operation, guess, x, n);
     }
     if operation <= operations::LOCAL_SEED_GRID {

@@ -203,7 +203,7 @@ impl Pair {
         }
         let place = random.below(self.list.len().min(60));
         let number =
-            random.pick(&[0.01, -0.02, 0.3, 5.0, f64::NAN, f64::INFINITY, -0.0, 1e-13, 900.0]);
+            random.pick(&[0.01, -0.02, 0.5, 5.0, f64::NAN, f64::INFINITY, -0.0, 1e-13, 900.0]);
         self.list[place] = number;
         self.book_list[place] = number;
     }

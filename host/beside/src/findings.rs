@@ -1,8 +1,6 @@
 //! What a host sends to Answer, good and bad, for both sides.
 
-use jinnychair::{
-    BrownConrady5, Finding, FxFyCxCy, PinholeCamera, Rows, ScheimpflugParams, TiltTrig,
-};
+use jinnychair::{BrownConrady5, Finding, FxFyCxCy, PinholeCamera, Rows};
 use random::Random;
 
 /// A host's answer.
@@ -14,8 +12,6 @@ pub enum Sent {
     Solved {
         /// fx, fy, cx, cy, k1, k2, k3, p1, p2.
         camera: [f64; 9],
-        /// Sine and cosine of the tilt about x, then about y.
-        trig: [f64; 4],
         /// Four numbers a row, or not.
         rows: Vec<f64>,
         /// One a row, or not.
@@ -28,15 +24,13 @@ impl Sent {
     pub fn finding(&self) -> Finding<'_> {
         match self {
             Self::Failed => Finding::Failed,
-            Self::Solved { camera, trig, rows, flags } => {
+            Self::Solved { camera, rows, flags } => {
                 let [fx, fy, cx, cy, k1, k2, k3, p1, p2] = *camera;
-                let [sin_x, cos_x, sin_y, cos_y] = *trig;
                 Finding::Solved {
                     camera: PinholeCamera {
                         k: FxFyCxCy { fx, fy, cx, cy },
                         dist: BrownConrady5 { k1, k2, k3, p1, p2 },
                     },
-                    trig: TiltTrig { sin_x, cos_x, sin_y, cos_y },
                     rows: Rows { numbers: rows, flags },
                 }
             }
@@ -47,15 +41,14 @@ impl Sent {
     pub fn for_book(&self) -> (book::Finding, book::Rows<'_>) {
         match self {
             Self::Failed => (book::Finding::Failed, book::Rows { numbers: &[], flags: &[] }),
-            Self::Solved { camera, trig, rows, flags } => {
+            Self::Solved { camera, rows, flags } => {
                 let [fx, fy, cx, cy, k1, k2, k3, p1, p2] = *camera;
                 let camera = book::Camera {
                     k: [fx, fy, cx, cy],
                     radial: [k1, k2, k3],
                     tangential: [p1, p2],
                 };
-                let trig = book::Trig { x: [trig[0], trig[1]], y: [trig[2], trig[3]] };
-                (book::Finding::Solved(camera, trig), book::Rows { numbers: rows, flags })
+                (book::Finding::Solved(camera), book::Rows { numbers: rows, flags })
             }
         }
     }
@@ -78,25 +71,17 @@ impl Sent {
         if random.once_in(10) {
             camera[random.below(9)] = random.pick(&ODD);
         }
-        let sensor = ScheimpflugParams { tilt_x, tilt_y };
-        let TiltTrig { sin_x, cos_x, sin_y, cos_y } = TiltTrig::from(sensor);
-        let mut trig = [sin_x, cos_x, sin_y, cos_y];
-        if random.once_in(20) {
-            // A determinant of 0, of either sign.
-            trig = random.pick(&[[1.0, 0.0, 0.0, 1.0], [0.0, 1.0, -1.0, 0.0], [0.0; 4]]);
-        }
         let (rows, flags) = rows(&camera, [tilt_x, tilt_y], random);
-        Self::Solved { camera, trig, rows, flags }
+        Self::Solved { camera, rows, flags }
     }
 }
 
 impl Sent {
-    /// No tilt and exact numbers: the row's error is 5, times the factor.
+    /// The point that no tilt moves, and exact numbers: the row's error is 5, times the factor.
     fn exact(times: f64) -> Self {
         Self::Solved {
             camera: [512.0, 512.0, 256.0, 192.0, 0.0, 0.0, 0.0, 0.0, 0.0],
-            trig: [0.0, 1.0, 0.0, 1.0],
-            rows: vec![0.25, -0.5, 384.0 + 3.0 * times, -64.0 - 4.0 * times],
+            rows: vec![0.0, 0.0, 256.0 + 3.0 * times, 192.0 - 4.0 * times],
             flags: vec![1],
         }
     }

@@ -6,6 +6,6 @@ mod outcome;
 mod pages;
 mod seeds;
 
-pub use outcome::{Camera, Finding, Outcome, Rows, Scored, Trig};
+pub use outcome::{Camera, Finding, Outcome, Rows, Scored};
 pub use pages::{Answered, Book, Entry, Handed, Winner};
 pub use seeds::{Inputs, Seed};

@@ -13,22 +13,13 @@ pub struct Camera {
     pub tangential: [f64; 2],
 }
 
-/// Sine and cosine of the tilt about x, then of the tilt about y.
-#[derive(Clone, Copy, Debug, PartialEq)]
-pub struct Trig {
-    /// Sine and cosine of the tilt about x.
-    pub x: [f64; 2],
-    /// Sine and cosine of the tilt about y.
-    pub y: [f64; 2],
-}
-
 /// What the host sends to Answer.
 #[derive(Clone, Copy, Debug)]
 pub enum Finding {
     /// The host found no camera.
     Failed,
-    /// The host's camera and the sines and cosines of its seed's tilts.
-    Solved(Camera, Trig),
+    /// The host's camera.
+    Solved(Camera),
 }
 
 /// The rows beside a finding: x, y, u, v each, and a flag each.
@@ -67,14 +58,27 @@ fn product(a: Matrix, b: Matrix) -> Matrix {
     std::array::from_fn(|i| std::array::from_fn(|j| entry(i, j)))
 }
 
-fn determinant(m: Matrix) -> f64 {
-    let minor = |a: usize, b: usize| m[1][a] * m[2][b] - m[1][b] * m[2][a];
-    m[0][0] * minor(1, 2) - m[0][1] * minor(0, 2) + m[0][2] * minor(0, 1)
+/// ±1/n! with the signs + + − −; n! is exact, so the quotient is rounded once.
+fn coefficient(n: u64) -> f64 {
+    let size = 1.0 / (1..=n).product::<u64>() as f64;
+    if n % 4 < 2 { size } else { -size }
+}
+
+/// From the last of eight coefficients on, times x·x plus the one before.
+fn series(first: u64, x: f64) -> f64 {
+    let square = x * x;
+    let before_last = [12, 10, 8, 6, 4, 2, 0].map(|n| first + n);
+    before_last.iter().fold(coefficient(first + 14), |sum, &n| sum * square + coefficient(n))
+}
+
+/// Sine and cosine.
+fn sine_and_cosine(x: f64) -> [f64; 2] {
+    [series(1, x) * x, series(0, x)]
 }
 
 /// P × R with R = rot_y × rot_x.
-fn tilt_matrix(trig: Trig) -> Matrix {
-    let ([sx, cx], [sy, cy]) = (trig.x, trig.y);
+fn tilt_matrix(tilts: [f64; 2]) -> Matrix {
+    let [[sx, cx], [sy, cy]] = tilts.map(sine_and_cosine);
     let rot_x = [[1.0, 0.0, 0.0], [0.0, cx, sx], [0.0, -sx, cx]];
     let rot_y = [[cy, 0.0, -sy], [0.0, 1.0, 0.0], [sy, 0.0, cy]];
     let r = product(rot_y, rot_x);
@@ -140,9 +144,9 @@ impl Camera {
 }
 
 impl Finding {
-    /// The number with which Answer refuses this finding, if it does; 12 and 10 come before.
-    pub(crate) fn refusal(&self, rows: Rows) -> Option<u8> {
-        let Self::Solved(_, trig) = self else { return None };
+    /// The number with which Answer refuses this finding for a seed, if it does; 12 and 10 come before.
+    pub(crate) fn refusal(&self, seed: Seed, rows: Rows) -> Option<u8> {
+        let Self::Solved(_) = self else { return None };
         let points = rows.flags.len();
         if points > 1024
             || rows.numbers.len() != 4 * points
@@ -150,17 +154,18 @@ impl Finding {
         {
             return Some(13);
         }
-        (determinant(tilt_matrix(*trig)) == 0.0).then_some(15)
+        let is_small = |tilt: f64| tilt.abs() <= 0.5;
+        (!seed.tilts.into_iter().all(is_small)).then_some(27)
     }
 
     /// The outcome of a finding that isn't refused.
     pub(crate) fn outcome(&self, seed: Seed, centre: [f64; 2], rows: Rows) -> Outcome {
-        let Self::Solved(solved, trig) = self else { return Outcome::Skipped(1) };
+        let Self::Solved(solved) = self else { return Outcome::Skipped(1) };
         let camera = solved.damped();
         if !camera.is_camera() {
             return Outcome::Skipped(2);
         }
-        let mean = camera.mean_error(tilt_matrix(*trig), rows);
+        let mean = camera.mean_error(tilt_matrix(seed.tilts), rows);
         if !mean.is_finite() {
             return Outcome::Skipped(3);
         }

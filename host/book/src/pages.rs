@@ -42,7 +42,7 @@ pub enum Handed {
 pub enum Answered {
     /// The candidate's outcome.
     Entered(Outcome),
-    /// 12, 10, 13 or 15.
+    /// 12, 10, 13 or 27.
     Refused(u8),
 }
 
@@ -80,7 +80,7 @@ impl Book {
     ///
     /// # Errors
     ///
-    /// The number 1 to 8 with which Start refuses; then nothing is written.
+    /// The number 1 to 8 or 27 with which Start refuses; then nothing is written.
     pub fn start(inputs: Inputs, lent: &mut [f64]) -> Result<Self, u8> {
         if let Some(number) = inputs.refusal(lent.len()) {
             return Err(number);
@@ -128,7 +128,7 @@ impl Book {
         if lent.len() < self.inputs.demand() {
             return Answered::Refused(10);
         }
-        if let Some(number) = finding.refusal(rows) {
+        if let Some(number) = finding.refusal(seed, rows) {
             return Answered::Refused(number);
         }
         let outcome = finding.outcome(seed, self.inputs.centre, rows);

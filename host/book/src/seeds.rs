@@ -86,7 +86,7 @@ impl Inputs {
                 || !(seed.k[0] > 0.0 && seed.k[1] > 0.0)
                 || !self.is_within_bound(seed.tilts)
         };
-        let refusals: [(u8, &dyn Fn() -> bool); 8] = [
+        let refusals: [(u8, &dyn Fn() -> bool); 9] = [
             (1, &|| self.views < 3),
             (2, &|| grids.iter().any(|grid| grid.is_empty())),
             (3, &|| !is_positive(self.max_abs_tilt)),
@@ -95,6 +95,7 @@ impl Inputs {
             (6, &|| self.decomposition_seeds().any(|seed| is_bad_seed(&seed))),
             (7, &|| grids.iter().any(|grid| grid.iter().any(|tilt| !tilt.is_finite()))),
             (8, &|| list_len < self.demand()),
+            (27, &|| self.max_abs_tilt > 0.5),
         ];
         refusals.iter().find(|(_, holds)| holds()).map(|(number, _)| *number)
     }

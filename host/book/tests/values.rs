@@ -1,10 +1,7 @@
 //! 01's own values, and runs of a few calls that can be followed by hand.
 #![allow(missing_docs)]
 
-use book::{Answered, Book, Camera, Finding, Handed, Inputs, Outcome, Rows, Trig};
-
-const NO_ROWS: Rows = Rows { numbers: &[], flags: &[] };
-const LEVEL: Trig = Trig { x: [0.0, 1.0], y: [0.0, 1.0] };
+use book::{Answered, Book, Camera, Finding, Handed, Inputs, Outcome, Rows};
 
 fn inputs(x: &[f64], y: &[f64]) -> Inputs {
     Inputs {
@@ -30,7 +27,7 @@ fn row(error: f64) -> [f64; 4] {
 }
 
 fn solved() -> Finding {
-    Finding::Solved(Camera { tangential: [0.0; 2], ..camera() }, LEVEL)
+    Finding::Solved(Camera { tangential: [0.0; 2], ..camera() })
 }
 
 fn answer(book: &mut Book, lent: &mut [f64], error: f64) -> Answered {
@@ -71,6 +68,9 @@ fn start_refuses_by_the_first_number() {
     assert_eq!(refusal(|i| i.decomposition = vec![1.0; 6], 54), Some(6));
     assert_eq!(refusal(|i| i.tilt_x_seeds = vec![f64::INFINITY], 54), Some(7));
     assert_eq!(refusal(|_| (), 53), Some(8));
+    assert_eq!(refusal(|i| i.max_abs_tilt = 1.0, 53), Some(8));
+    assert_eq!(refusal(|i| i.max_abs_tilt = 1.0, 54), Some(27));
+    assert_eq!(refusal(|i| i.max_abs_tilt = 0.5, 54), None);
 }
 
 #[test]
@@ -93,11 +93,26 @@ fn calls_out_of_order_are_refused() {
     assert_eq!(book.seed(&lent), [2.0, 2.0, 0.0, 0.0, 0.0, 0.0]);
     assert_eq!(book.next(&lent), Handed::Refused(9));
     assert_eq!(book.result(), Err(14));
-    let singular = Finding::Solved(camera(), Trig { x: [1.0, 0.0], y: [0.0, 1.0] });
-    assert_eq!(book.answer(&singular, NO_ROWS, &mut lent), Answered::Refused(15));
     let shapeless = Rows { numbers: &[], flags: &[1] };
     assert_eq!(book.answer(&solved(), shapeless, &mut lent), Answered::Refused(13));
     assert!(matches!(answer(&mut book, &mut lent, 1.0), Answered::Entered(Outcome::Scored(_))));
+}
+
+#[test]
+fn changed_tilt_beyond_a_half_is_refused_for_a_camera_alone() {
+    for (tilt, refused) in [(0.5000000000000001, true), (f64::NAN, true), (-0.5, false)] {
+        let mut lent = [0.0; 54];
+        let mut book = Book::start(inputs(&[0.0], &[0.0]), &mut lent).unwrap();
+        lent[5] = tilt;
+        assert_eq!(book.next(&lent), Handed::Candidate(0));
+        let rows = Rows { numbers: &[], flags: &[1] };
+        assert_eq!(book.answer(&solved(), rows, &mut lent), Answered::Refused(13));
+        if refused {
+            assert_eq!(answer(&mut book, &mut lent, 1.0), Answered::Refused(27));
+        }
+        let failed = book.answer(&Finding::Failed, rows, &mut lent);
+        assert_eq!(failed, Answered::Entered(Outcome::Skipped(1)));
+    }
 }
 
 #[test]
@@ -106,7 +121,7 @@ fn damping_keeps_the_sign_of_zero_and_limits_infinity() {
     let mut book = Book::start(inputs(&[0.0], &[0.0]), &mut lent).unwrap();
     book.next(&lent);
     let rows = Rows { numbers: &row(3.0), flags: &[1] };
-    let reply = book.answer(&Finding::Solved(camera(), LEVEL), rows, &mut lent);
+    let reply = book.answer(&Finding::Solved(camera()), rows, &mut lent);
     let Answered::Entered(Outcome::Scored(scored)) = reply else { panic!("{reply:?}") };
     assert_eq!(scored.camera.radial, [0.0; 3]);
     assert_eq!(scored.camera.tangential, [0.05, 0.0]);

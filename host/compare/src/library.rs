@@ -6,7 +6,7 @@ use jinnychair::record::{
 };
 use jinnychair::{
     BrownConrady5, Finding, FxFyCxCy, Handed, Outcome, PinholeCamera, Pt2, Rows, ScheimpflugParams,
-    Seed, TiltTrig, Winner,
+    Seed, TiltTrig, TrigError, Winner,
 };
 use oracle::operations::search::Inputs as DrawnInputs;
 use words::{Reader, float_words, word};
@@ -25,6 +25,8 @@ pub fn answer_words(operation: &str, input: &[u64]) -> Result<Words, String> {
     let mut r = Reader::new(input);
     let words = match operation {
         "sqrt" => vec![word(geometry::sqrt(r.float()?))],
+        "sine" => series_words(geometry::sine(r.float()?)),
+        "cosine" => series_words(geometry::cosine(r.float()?)),
         "pixel_to_sensor" => point_words(intrinsics(&mut r)?.pixel_to_sensor(point(&mut r)?)),
         "sensor_to_pixel" => point_words(intrinsics(&mut r)?.sensor_to_pixel(point(&mut r)?)),
         "tilt_projection_matrix" => {
@@ -54,7 +56,7 @@ pub fn answer_words(operation: &str, input: &[u64]) -> Result<Words, String> {
             })?
         }
         "ideal_points" => {
-            let camera = PinholeCamera { k: intrinsics(&mut r)?, dist: distortion(&mut r)? };
+            let camera = camera(&mut r)?;
             let (iters, t, points) = (iterations(&mut r)?, trig(&mut r)?, points(&mut r)?);
             lent(points.len(), |to: &mut [Pt2]| {
                 let mapped = geometry::ideal_points(camera, iters, t, &points, to);
@@ -85,9 +87,7 @@ pub fn answer_words(operation: &str, input: &[u64]) -> Result<Words, String> {
                 Err(e) => vec![e.number().into()],
             }
         }
-        "observed_pixel_center" => {
-            point_words(geometry::observed_pixel_center(&points(&mut r)?))
-        }
+        "observed_pixel_center" => point_words(geometry::observed_pixel_center(&points(&mut r)?)),
         "damp_seed_distortion" => distortion_words(distortion(&mut r)?.damped()),
         "distortion_complexity" => vec![word(distortion(&mut r)?.complexity())],
         "tilt_complexity" => vec![word(geometry::tilt_complexity(sensor(&mut r)?))],
@@ -96,10 +96,10 @@ pub fn answer_words(operation: &str, input: &[u64]) -> Result<Words, String> {
             vec![word(geometry::principal_point_complexity(k, center))]
         }
         "mean_reproj_error" => {
-            let answer = HostAnswer::read_solved(&mut r)?;
-            let (numbers, flags) = (&answer.rows, &answer.flags);
-            let rows = Rows { numbers, flags };
-            vec![word(geometry::mean_reproj_error(answer.camera, answer.trig, rows))]
+            let (camera, t) = (camera(&mut r)?, trig(&mut r)?);
+            let (numbers, flags) = rows(&mut r)?;
+            let rows = Rows { numbers: &numbers, flags: &flags };
+            vec![word(geometry::mean_reproj_error(camera, t, rows))]
         }
         "seed_lists" => seed_lists(&DrawnInputs::read(&mut r)?)?,
         "local_seed_grid" => local_seed_grid(&mut r)?,
@@ -235,29 +235,24 @@ fn matrix(r: &mut Reader) -> Result<Matrix3, String> {
     Ok([r.floats()?, r.floats()?, r.floats()?])
 }
 
-/// A solved camera with its rows, as the host sends it.
-struct HostAnswer {
-    camera: PinholeCamera,
-    trig: TiltTrig,
-    rows: Vec<f64>,
-    flags: Vec<u8>,
+fn camera(r: &mut Reader) -> Result<PinholeCamera, String> {
+    Ok(PinholeCamera { k: intrinsics(r)?, dist: distortion(r)? })
 }
 
-impl HostAnswer {
-    fn read_solved(r: &mut Reader) -> Result<Self, String> {
-        let camera = PinholeCamera { k: intrinsics(r)?, dist: distortion(r)? };
-        let trig = trig(r)?;
-        let (mut rows, mut flags) = (Vec::new(), Vec::new());
-        for _ in 0..r.count()? {
-            rows.extend(r.floats::<4>()?);
-            flags.push(u8::from(r.flag()?));
-        }
-        Ok(Self { camera, trig, rows, flags })
+/// The rows' numbers and their flags.
+fn rows(r: &mut Reader) -> Result<(Vec<f64>, Vec<u8>), String> {
+    let (mut rows, mut flags) = (Vec::new(), Vec::new());
+    for _ in 0..r.count()? {
+        rows.extend(r.floats::<4>()?);
+        flags.push(u8::from(r.flag()?));
     }
+    Ok((rows, flags))
+}
 
-    fn finding(&self) -> Finding<'_> {
-        let rows = Rows { numbers: &self.rows, flags: &self.flags };
-        Finding::Solved { camera: self.camera, trig: self.trig, rows }
+fn series_words(answer: Result<f64, TrigError>) -> Words {
+    match answer {
+        Ok(value) => vec![0, word(value)],
+        Err(e) => vec![e.number().into()],
     }
 }
 
@@ -341,8 +336,13 @@ fn search(r: &mut Reader) -> Result<Words, String> {
             return Err(format!("candidate {number}: {waits:?} is handed out, and {part:?} waits"));
         }
         words.extend(float_words(&part));
-        let solved = if r.flag()? { Some(HostAnswer::read_solved(r)?) } else { None };
-        let finding = solved.as_ref().map_or(Finding::Failed, HostAnswer::finding);
+        let solved = if r.flag()? { Some((camera(r)?, rows(r)?)) } else { None };
+        let finding = match &solved {
+            None => Finding::Failed,
+            Some((camera, (numbers, flags))) => {
+                Finding::Solved { camera: *camera, rows: Rows { numbers, flags } }
+            }
+        };
         match answer(&mut run, &finding, &mut list).map_err(|e| e.to_string())? {
             Outcome::Scored(score) => words.extend([0, word(score)]),
             Outcome::Skipped(reason) => words.push(reason.number().into()),

@@ -6,15 +6,17 @@ const K: FxFyCxCy = FxFyCxCy { fx: 1400.0, fy: 1400.0, cx: 640.0, cy: 480.0 };
 const PLANTED: ScheimpflugParams = ScheimpflugParams { tilt_x: -0.021, tilt_y: 0.007 };
 
 /// Where the tilted sensor sees an ideal point.
-fn seen(ideal: Pt2) -> Pt2 {
-    let tilt = geometry::tilt_projection_matrix(PLANTED.into());
+fn seen(planted: TiltTrig, ideal: Pt2) -> Pt2 {
+    let tilt = geometry::tilt_projection_matrix(planted);
     K.sensor_to_pixel(geometry::apply_homography(tilt, ideal))
 }
 
 fn main() -> Result<(), Box<dyn std::error::Error>> {
     let dots =
         (0..35).map(|i| Pt2 { x: 0.05 * f64::from(i % 7 - 3), y: 0.05 * f64::from(i / 7 - 2) });
-    let rows: Vec<f64> = dots.flat_map(|p| [p.x, p.y, seen(p).x, seen(p).y]).collect();
+    let planted = TiltTrig::try_from(PLANTED)?;
+    let row = |p| [p, seen(planted, p)].map(|p: Pt2| [p.x, p.y]).concat();
+    let rows: Vec<f64> = dots.flat_map(row).collect();
     let flags = vec![1; rows.len() / 4];
 
     let mut options = Options::default();
@@ -24,10 +26,10 @@ fn main() -> Result<(), Box<dyn std::error::Error>> {
     let mut search = Search::start(&inputs)?;
     let mut skipped = 0;
     let winner = search.run_watched(
-        |seed| {
+        |_| {
             let camera = PinholeCamera { k: K, dist: BrownConrady5::default() };
             let (rows, flags) = (rows.clone(), flags.clone());
-            Some(Solution { camera, trig: seed.sensor.into(), rows, flags })
+            Some(Solution { camera, rows, flags })
         },
         |tried| skipped += usize::from(tried.outcome.score().is_none()),
     )?;

@@ -20,7 +20,7 @@ macro_rules! refusal {
     (12 $part:ident) => { part!($part "no seed is waiting", "Call Next first. Also where the record isn't one that Start or a call returned.") };
     (13 $part:ident) => { part!($part "more than 1,024 rows, not four numbers for each flag, or a flag above 1", "Send fewer dots; check that rows and flags have the same count.") };
     (14 $part:ident) => { part!($part "the run isn't over", "Go on with Next and Answer until Next says Over.") };
-    (15 $part:ident) => { part!($part "the tilt's determinant is 0", "The sines and cosines aren't those of a tilt below 90°; compute them from the seed's tilts.") };
+    (15 $part:ident) => { part!($part "the tilt's determinant is 0", "The sines and cosines aren't those of a tilt below 90°; of tilts up to 0.5 the library's own never give it.") };
     (16 $part:ident) => { part!($part "no camera has this conic", "The views are too alike: turn the plate further between them.") };
     (17 $part:ident) => { part!($part "more than 400 points", "Split or thin out longer ones.") };
     (18 $part:ident) => { part!($part "the destination is too short", "Lend as many numbers as the points have; for rows 18 for each source point.") };
@@ -31,6 +31,7 @@ macro_rules! refusal {
     (23 $part:ident) => { part!($part "not as many destination points as source points", "Pair each dot with its pixel.") };
     (24 $part:ident) => { part!($part "the source points lie on a line", "Use dots from more than one row of the plate.") };
     (25 $part:ident) => { part!($part "the destination points lie on a line", "The plate was seen edge on: drop the view.") };
+    (27 $part:ident) => { part!($part "`max_abs_tilt` is above 0.5 radians, which is 28.6 degrees, or a tilt is NaN or beyond that", "Were degrees typed for radians? 3 degrees are 0.052. From Answer: the list was changed between the calls; Failed moves the run on.") };
     (34 $part:ident) => { part!($part "no power of two from 1 to 256 makes whole numbers in their ranges of all four", "Choose fx, fy, cx, cy as whole numbers times 1, 2, 4 .. or 256: 1 to 256 of them for fx and fy, −256 to 256 for cx and cy. For example 800, 808, 640, −480.") };
 }
 
@@ -127,6 +128,7 @@ refusals! {
         BadSeed = 6;
         TiltNotFinite = 7;
         ListTooShort = 8;
+        TiltTooLarge = 27;
     }
 }
 
@@ -145,7 +147,7 @@ refusals! {
         NoSeedWaiting = 12;
         ListShortened = 10;
         BadRows = 13;
-        SingularTilt = 15;
+        TiltTooLarge = 27;
     }
 }
 
@@ -163,6 +165,13 @@ refusals! {
         BadPoints = 17;
         DestinationTooShort = 18;
         SingularTilt = 15;
+    }
+}
+
+refusals! {
+    /// Why a tilt has no sine and no cosine here.
+    TrigError {
+        TiltTooLarge = 27;
     }
 }
 

@@ -6,7 +6,7 @@
 pub use crate::known_plate::known_plate;
 use crate::{
     BrownConrady5, ConicError, FxFyCxCy, NormalizeError, PinholeCamera, PointMapError, Pt2, Rows,
-    RowsError, ScheimpflugParams, TiltError, TiltTrig, raw,
+    RowsError, ScheimpflugParams, TiltError, TiltTrig, TrigError, raw,
 };
 
 /// Three rows of three numbers.
@@ -77,6 +77,33 @@ pub fn sqrt(x: f64) -> f64 {
     raw::jc_sqrt(x)
 }
 
+/// The sine of a number of at most 0.5 in size, by eight terms of its power series: the same bits on every machine.
+///
+/// ```
+/// use jinnychair::{TrigError, geometry::{cosine, sine}};
+/// assert_eq!(sine(0.005).map(f64::to_bits), Ok(0x3f74_7adb_b006_a987));
+/// assert_eq!((sine(-0.0).map(f64::to_bits), cosine(-0.0)), (Ok(1 << 63), Ok(1.0)));
+/// assert_eq!(sine(3.0), Err(TrigError::TiltTooLarge));
+/// ```
+///
+/// # Errors
+///
+/// The number is NaN or beyond 0.5.
+pub fn sine(x: f64) -> Result<f64, TrigError> {
+    let reply = raw::jc_sine(x);
+    TrigError::check(reply.number).map(|()| reply.value)
+}
+
+/// The cosine, likewise.
+///
+/// # Errors
+///
+/// The number is NaN or beyond 0.5.
+pub fn cosine(x: f64) -> Result<f64, TrigError> {
+    let reply = raw::jc_cosine(x);
+    TrigError::check(reply.number).map(|()| reply.value)
+}
+
 impl FxFyCxCy {
     /// From a pixel to the sensor, in focal lengths.
     #[inline]
@@ -96,9 +123,10 @@ impl FxFyCxCy {
 /// The homography of a tilted sensor, from the sine and cosine of each tilt.
 ///
 /// ```
-/// use jinnychair::{ScheimpflugParams, geometry::tilt_projection_matrix};
-/// let level = tilt_projection_matrix(ScheimpflugParams::default().into());
+/// use jinnychair::{ScheimpflugParams, TiltTrig, geometry::tilt_projection_matrix};
+/// let level = tilt_projection_matrix(TiltTrig::try_from(ScheimpflugParams::default())?);
 /// assert_eq!(level, [[1.0, 0.0, 0.0], [0.0, 1.0, 0.0], [0.0, 0.0, 1.0]]);
+/// # Ok::<(), jinnychair::TrigError>(())
 /// ```
 #[must_use]
 pub fn tilt_projection_matrix(trig: TiltTrig) -> Matrix3 {

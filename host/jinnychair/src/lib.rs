@@ -23,7 +23,6 @@
 //!     let error = 100.0 * (seed.sensor.tilt_x + 0.0125).abs();
 //!     Some(Solution {
 //!         camera: PinholeCamera { k, dist: BrownConrady5::default() },
-//!         trig: TiltTrig::from(seed.sensor),
 //!         rows: vec![0.0, 0.0, 640.0 + error, 480.0],
 //!         flags: vec![1],
 //!     })
@@ -56,7 +55,7 @@ mod version;
 
 pub use error::{
     AnswerError, ConicError, NextError, NormalizeError, PlateError, PointMapError, ResultError,
-    RowsError, RunError, StartError, TiltError,
+    RowsError, RunError, StartError, TiltError, TrigError,
 };
 pub use search::{
     Finding, Handed, Inputs, Options, Outcome, Rows, Search, SkipReason, Solution, Tried,

@@ -78,9 +78,9 @@ pub(crate) struct CenterReply {
 
 #[derive(Clone, Copy, Debug, PartialEq)]
 #[repr(C)]
-pub(crate) struct SolvedCamera {
-    pub camera: PinholeCamera,
-    pub trig: TiltTrig,
+pub(crate) struct SumReply {
+    pub number: u8,
+    pub value: f64,
 }
 
 #[derive(Clone, Copy, Debug, PartialEq)]
@@ -134,11 +134,11 @@ laid_out! {
     ScheimpflugParams: 16 { tilt_x: 0, tilt_y: 8 }
     TiltTrig: 32 { sin_x: 0, cos_x: 8, sin_y: 16, cos_y: 24 }
     PinholeCamera: 72 { k: 0, dist: 32 }
-    SolvedCamera: 104 { camera: 0, trig: 72 }
     Conic: 48 { b11: 0, b12: 8, b22: 16, b13: 24, b23: 32, b33: 40 }
     Seed: 48 { reference_k: 0, sensor: 32 }
     Winner: 112 { number: 0, camera: 8, sensor: 80, mean_reproj_error: 96, score: 104 }
     Options: 24 { refine_rounds: 0, refine_step: 8, max_abs_tilt: 16 }
+    SumReply: 16 { number: 0, value: 8 }
     FlatMatrix: 72 { rows: 0 }
     InverseReply: 80 { number: 0, inverse: 8 }
     CameraReply: 40 { number: 0, camera: 8 }
@@ -159,6 +159,8 @@ laid_out! {
 unsafe extern "C" {
     pub(crate) safe fn jc_version() -> u32;
     pub(crate) safe fn jc_sqrt(x: f64) -> f64;
+    pub(crate) safe fn jc_sine(x: f64) -> SumReply;
+    pub(crate) safe fn jc_cosine(x: f64) -> SumReply;
     pub(crate) safe fn jc_pixel_to_sensor(k: FxFyCxCy, pixel: Pt2) -> Pt2;
     pub(crate) safe fn jc_sensor_to_pixel(k: FxFyCxCy, sensor: Pt2) -> Pt2;
     pub(crate) safe fn jc_tilt_projection_matrix(trig: TiltTrig) -> FlatMatrix;
@@ -237,7 +239,7 @@ unsafe extern "C" {
     fn jc_answer(
         run: Run,
         is_solved: u8,
-        solved: SolvedCamera,
+        solved: PinholeCamera,
         rows: *const f64,
         rows_len: usize,
         flags: *const u8,
@@ -354,7 +356,7 @@ pub(crate) fn seed(run: Run, list: &[f64], to: &mut [f64]) -> usize {
 pub(crate) fn answer(run: Run, finding: &Finding, list: &mut [f64]) -> AnswerReply {
     let (is_solved, solved, rows) = match *finding {
         Finding::Failed => (0, NOT_SOLVED, Rows { numbers: &[], flags: &[] }),
-        Finding::Solved { camera, trig, rows } => (1, SolvedCamera { camera, trig }, rows),
+        Finding::Solved { camera, rows } => (1, camera, rows),
     };
     // SAFETY: all three slices are valid for their lengths, and `list` overlaps nothing.
     unsafe {
@@ -373,12 +375,9 @@ pub(crate) fn answer(run: Run, finding: &Finding, list: &mut [f64]) -> AnswerRep
 }
 
 /// What is passed beside Failed; it isn't read.
-const NOT_SOLVED: SolvedCamera = SolvedCamera {
-    camera: PinholeCamera {
-        k: FxFyCxCy { fx: 0.0, fy: 0.0, cx: 0.0, cy: 0.0 },
-        dist: BrownConrady5 { k1: 0.0, k2: 0.0, k3: 0.0, p1: 0.0, p2: 0.0 },
-    },
-    trig: TiltTrig { sin_x: 0.0, cos_x: 0.0, sin_y: 0.0, cos_y: 0.0 },
+const NOT_SOLVED: PinholeCamera = PinholeCamera {
+    k: FxFyCxCy { fx: 0.0, fy: 0.0, cx: 0.0, cy: 0.0 },
+    dist: BrownConrady5 { k1: 0.0, k2: 0.0, k3: 0.0, p1: 0.0, p2: 0.0 },
 };
 
 pub(crate) fn result(run: Run) -> ResultReply {
@@ -398,7 +397,7 @@ mod tests {
         safe fn jc_echo_scheimpflug_params(x: ScheimpflugParams) -> ScheimpflugParams;
         safe fn jc_echo_trig(x: TiltTrig) -> TiltTrig;
         safe fn jc_echo_pinhole_camera(x: PinholeCamera) -> PinholeCamera;
-        safe fn jc_echo_solved_camera(x: SolvedCamera) -> SolvedCamera;
+        safe fn jc_echo_sum_reply(x: SumReply) -> SumReply;
         safe fn jc_echo_conic(x: Conic) -> Conic;
         safe fn jc_echo_candidate_seed(x: Seed) -> Seed;
         safe fn jc_echo_candidate(x: Winner) -> Winner;
@@ -547,8 +546,6 @@ mod tests {
         assert_eq!(jc_echo_trig(x), x);
         let x = n.camera();
         assert_eq!(jc_echo_pinhole_camera(x), x);
-        let x = SolvedCamera { camera: n.camera(), trig: n.trig() };
-        assert_eq!(jc_echo_solved_camera(x), x);
         let x = n.conic();
         assert_eq!(jc_echo_conic(x), x);
         let x = n.matrix();
@@ -577,6 +574,8 @@ mod tests {
     #[test]
     fn replies_come_back_as_they_were() {
         let n = &mut Count(0);
+        let x = SumReply { number: n.byte(), value: n.float() };
+        assert_eq!(jc_echo_sum_reply(x), x);
         let x = InverseReply { number: n.byte(), inverse: n.matrix() };
         assert_eq!(jc_echo_inverse_reply(x), x);
         let x = CameraReply { number: n.byte(), camera: n.k() };

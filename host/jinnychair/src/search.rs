@@ -4,7 +4,7 @@ use crate::error::{numbered, part};
 use crate::record::{self, Run};
 use crate::{
     AnswerError, FxFyCxCy, NextError, PinholeCamera, Pt2, ResultError, RunError, Seed, StartError,
-    TiltTrig, Winner,
+    Winner,
 };
 use std::fmt::{Display, Formatter, Result as FmtResult};
 
@@ -26,7 +26,7 @@ pub struct Options {
     pub refine_rounds: usize,
     /// The first of these rounds' step, in radians; it halves from round to round.
     pub refine_step: f64,
-    /// The bound on either tilt, in radians.
+    /// The bound on either tilt, in radians; at most 0.5, which is 28.6°.
     pub max_abs_tilt: f64,
 }
 
@@ -72,12 +72,10 @@ pub struct Rows<'a> {
 pub enum Finding<'a> {
     /// No camera.
     Failed,
-    /// A camera, with the sines and cosines of the seed's tilts and the rows to score it by.
+    /// A camera and the rows to score it by. The search knows the seed's tilts, and takes their sines and cosines itself.
     Solved {
         /// The solved camera.
         camera: PinholeCamera,
-        /// Sine and cosine of each of the seed's tilts.
-        trig: TiltTrig,
         /// The rows.
         rows: Rows<'a>,
     },
@@ -88,8 +86,6 @@ pub enum Finding<'a> {
 pub struct Solution {
     /// The solved camera.
     pub camera: PinholeCamera,
-    /// Sine and cosine of each of the seed's tilts.
-    pub trig: TiltTrig,
     /// Four numbers a row: the ideal point x, y, then the seen pixel u, v.
     pub rows: Vec<f64>,
     /// A flag a row: 1 where the point is in front of the camera, 0 where it isn't.
@@ -106,7 +102,7 @@ impl Solution {
     /// The solution as it is sent.
     #[must_use]
     pub fn finding(&self) -> Finding<'_> {
-        Finding::Solved { camera: self.camera, trig: self.trig, rows: self.rows() }
+        Finding::Solved { camera: self.camera, rows: self.rows() }
     }
 }
 

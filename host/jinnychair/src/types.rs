@@ -1,5 +1,8 @@
 //! The values that the search and its geometry take and give. Their names are those of calibration-rs.
 
+use crate::TrigError;
+use crate::geometry::{cosine, sine};
+
 /// A point: pixels, or coordinates on the sensor in focal lengths.
 #[derive(Clone, Copy, Debug, Default, PartialEq)]
 #[repr(C)]
@@ -50,8 +53,7 @@ pub struct ScheimpflugParams {
     pub tilt_y: f64,
 }
 
-/// Sine and cosine of both tilts. The search is given them, so that its scores don't depend on the
-/// machine's own sine.
+/// Sine and cosine of both tilts, for [`crate::geometry`]. Those of the proved series come from tilts by `TiltTrig::try_from`.
 #[derive(Clone, Copy, Debug, PartialEq)]
 #[repr(C)]
 pub struct TiltTrig {
@@ -65,11 +67,15 @@ pub struct TiltTrig {
     pub cos_y: f64,
 }
 
-impl From<ScheimpflugParams> for TiltTrig {
-    /// By the machine's sine and cosine.
-    fn from(sensor: ScheimpflugParams) -> Self {
-        let ((sin_x, cos_x), (sin_y, cos_y)) = (sensor.tilt_x.sin_cos(), sensor.tilt_y.sin_cos());
-        Self { sin_x, cos_x, sin_y, cos_y }
+impl TryFrom<ScheimpflugParams> for TiltTrig {
+    type Error = TrigError;
+
+    /// By [`sine`] and [`cosine`], as the search takes them: the same bits on every machine.
+    fn try_from(sensor: ScheimpflugParams) -> Result<Self, TrigError> {
+        let ScheimpflugParams { tilt_x, tilt_y } = sensor;
+        let [sin_x, cos_x] = [sine(tilt_x)?, cosine(tilt_x)?];
+        let [sin_y, cos_y] = [sine(tilt_y)?, cosine(tilt_y)?];
+        Ok(Self { sin_x, cos_x, sin_y, cos_y })
     }
 }
 

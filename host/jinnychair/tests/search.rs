@@ -16,7 +16,6 @@ fn solution(seed: &Seed) -> Solution {
     let error = 1000.0 * (tilt_x + 0.05).hypot(tilt_y - 0.01);
     Solution {
         camera: PinholeCamera { k: K, dist: BrownConrady5::default() },
-        trig: seed.sensor.into(),
         rows: vec![0.0, 0.0, K.cx + error, K.cy],
         flags: vec![1],
     }
@@ -85,7 +84,7 @@ fn a_run_with_nothing_scored_says_so() {
 
 #[test]
 fn points_are_mapped_in_place_of_their_numbers() {
-    let trig = TiltTrig::from(ScheimpflugParams { tilt_x: 0.02, tilt_y: -0.01 });
+    let trig = TiltTrig::try_from(ScheimpflugParams { tilt_x: 0.02, tilt_y: -0.01 }).unwrap();
     let pixels: Vec<Pt2> = (0..5).map(|i| Pt2 { x: 100.0 * f64::from(i), y: 77.0 }).collect();
     let mut mapped = [Pt2::default(); 7];
     geometry::untilt_points(K, trig, &pixels, &mut mapped).unwrap();
@@ -103,6 +102,22 @@ fn points_are_mapped_in_place_of_their_numbers() {
         Err(PointMapError::BadPoints)
     );
     assert_eq!(geometry::observed_pixel_center(&pixels), Pt2 { x: 200.0, y: 38.5 });
+}
+
+#[test]
+fn degrees_for_radians_are_refused_and_told() {
+    let mut options = Options::default();
+    options.max_abs_tilt = 3.0;
+    let center = Pt2 { x: K.cx, y: K.cy };
+    let inputs = Inputs { views: 3, options: &options, decomposition: &[], base: K, center };
+    let error = Search::start(&inputs).unwrap_err();
+    assert_eq!((error, error.number()), (StartError::TiltTooLarge, 27));
+    let text = error.to_string();
+    assert!(text.contains("28.6 degrees") && text.contains("degrees typed for radians"), "{text}");
+    options.max_abs_tilt = 0.5;
+    let _ = search(&options);
+    let beyond = ScheimpflugParams { tilt_x: 0.1, tilt_y: -3.0 };
+    assert_eq!(TiltTrig::try_from(beyond), Err(TrigError::TiltTooLarge));
 }
 
 #[test]

@@ -1,7 +1,8 @@
 //! Runs the search to its end and keeps every tried tilt.
 
 use jinnychair::{
-    Inputs, Options, Outcome, PinholeCamera, RunError, Search, Seed, Solution, Winner, geometry,
+    Inputs, Options, Outcome, PinholeCamera, RunError, Search, Seed, Solution, TiltTrig, Winner,
+    geometry,
 };
 
 /// A tried tilt.
@@ -51,11 +52,12 @@ pub fn run(
     let mut tried = Vec::new();
     let winner = search.run_watched(solve, |one| {
         let solution = one.solution.filter(|_| one.outcome.score().is_some());
-        let scored = solution.map(|solution| {
+        let scored = solution.and_then(|solution| {
+            let trig = TiltTrig::try_from(one.seed.sensor).ok()?;
             let dist = solution.camera.dist.damped();
             let camera = PinholeCamera { dist, ..solution.camera };
-            let mean = geometry::mean_reproj_error(camera, solution.trig, solution.rows());
-            Scored { camera, mean }
+            let mean = geometry::mean_reproj_error(camera, trig, solution.rows());
+            Some(Scored { camera, mean })
         });
         let (number, round, seed, outcome) = (one.number, one.round, one.seed, one.outcome);
         let one = Tried { number, round, seed, outcome, scored };

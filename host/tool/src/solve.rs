@@ -92,7 +92,7 @@ impl Host {
 
     /// The best camera with a seed's tilts, or nothing where the equations have no camera.
     pub fn solve(&self, seed: &Seed) -> Option<Solution> {
-        let trig = TiltTrig::from(seed.sensor);
+        let trig = TiltTrig::try_from(seed.sensor).ok()?;
         let [cx, cy] = self.held;
         let mut k = FxFyCxCy { cx, cy, ..seed.reference_k };
         for _ in 0..UNTILT_ITERATIONS {
@@ -109,7 +109,7 @@ impl Host {
         for (view, h) in self.plate.views.iter().zip(&ideal) {
             push_rows(view, &Pose::from_homography(&k, h)?, &mut rows, &mut flags);
         }
-        Some(Solution { camera, trig, rows, flags })
+        Some(Solution { camera, rows, flags })
     }
 
     /// Each view's homography to its pixels as `map` changes them.

@@ -55,7 +55,8 @@ impl Truth {
 
     fn view(&self, &[about_x, about_y, x, y, distance]: &[f64; 5], noise: &mut Noise) -> View {
         let turn = rotation(about_x.to_radians(), about_y.to_radians());
-        let tilt = geometry::tilt_projection_matrix(TiltTrig::from(self.sensor));
+        let trig = TiltTrig::try_from(self.sensor).expect("a planted tilt is small");
+        let tilt = geometry::tilt_projection_matrix(trig);
         let mut view = View::default();
         for i in 0..DOTS[0] * DOTS[1] {
             let place = [i % DOTS[0], i / DOTS[0]].map(|index| index as f64 * PITCH);

@@ -28,10 +28,9 @@ fn search(options: &Options, solve: impl FnMut(&Seed) -> Option<Solution>) -> Fi
 }
 
 /// One row, which is off by a number of pixels.
-fn off_by(seed: &Seed, k: FxFyCxCy, error: f64) -> Solution {
+fn off_by(k: FxFyCxCy, error: f64) -> Solution {
     Solution {
         camera: PinholeCamera { k, dist: BrownConrady5::default() },
-        trig: seed.sensor.into(),
         rows: vec![0.0, 0.0, k.cx + error, k.cy],
         flags: vec![1],
     }
@@ -51,7 +50,7 @@ fn moody(seed: &Seed) -> Option<Solution> {
         // A centre so far out that its penalty isn't a number.
         k.cx = 1e200;
     }
-    let mut solution = off_by(seed, k, 100.0 * (tilt_x + 0.03).hypot(tilt_y + 0.01) + 0.05);
+    let mut solution = off_by(k, 100.0 * (tilt_x + 0.03).hypot(tilt_y + 0.01) + 0.05);
     solution.flags[0] = u8::from(tilt_y > -0.03);
     Some(solution)
 }
@@ -141,15 +140,15 @@ fn doubts_are_told() {
     let told = |finished: &Finished, stated: bool| doubts(finished, stated).join("; ");
     let options = options(2);
     let near = |seed: &Seed, x: f64| 100.0 * (seed.sensor.tilt_x - x).hypot(seed.sensor.tilt_y);
-    let good = search(&options, |seed| Some(off_by(seed, K, near(seed, 0.03))));
+    let good = search(&options, |seed| Some(off_by(K, near(seed, 0.03))));
     assert_eq!(told(&good, true), "");
     assert!(told(&good, false).contains("the optical centre isn't stated"));
-    let outside = search(&options, |seed| Some(off_by(seed, K, near(seed, -0.4))));
+    let outside = search(&options, |seed| Some(off_by(K, near(seed, -0.4))));
     assert!(told(&outside, true).contains("tilt x is the outermost that was tried, -10.886°"));
-    let flat = search(&options, |seed| Some(off_by(seed, K, 0.5)));
+    let flat = search(&options, |_| Some(off_by(K, 0.5)));
     assert!(told(&flat, true).contains("these views don't tell tilts apart"));
     let few = search(&options, |seed| {
-        (seed.sensor.tilt_x.abs() < 0.01).then(|| off_by(seed, K, near(seed, 0.0) + 0.1))
+        (seed.sensor.tilt_x.abs() < 0.01).then(|| off_by(K, near(seed, 0.0) + 0.1))
     });
     assert!(told(&few, true).contains("tilts were skipped"));
 }

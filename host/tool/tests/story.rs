@@ -47,7 +47,6 @@ fn scripted(seed: &Seed, planted: ScheimpflugParams) -> Solution {
     let dy = seed.sensor.tilt_y - planted.tilt_y;
     Solution {
         camera: PinholeCamera { k: SCRIPTED, dist: BrownConrady5::default() },
-        trig: seed.sensor.into(),
         rows: vec![0.0, 0.0, SCRIPTED.cx + 1000.0 * dx.hypot(dy), SCRIPTED.cy],
         flags: vec![1],
     }

@@ -1,11 +1,12 @@
 //! Writes the stored cases of every refusal of every call: `refusals [FOLDER]`, by default the
-//! data folder of the crate `vectors`. Each reply is written down here from 01's paragraphs (a plate's
-//! from 02's), none is computed by the code that it judges; no published file is needed. Each run
+//! data folder of the crate `vectors`. Each reply is written down here from the paragraphs of 01
+//! and 02, none is computed by the code that it judges; no published file is needed. Each run
 //! writes the same bytes.
 
 mod plates;
 mod points;
 mod runs;
+mod series;
 
 use std::path::PathBuf;
 use words::{case, file, float_words};
@@ -53,11 +54,10 @@ fn beside() -> PathBuf {
 
 /// Each file's name and text.
 fn files() -> Vec<(String, String)> {
+    let made_by = "oracle/refusals: the replies as the paragraphs of 01 and 02 give them";
     let text = |(name, operation, cases): &(&str, &str, Vec<Case>)| {
-        let paper = if *operation == "known_plate" { "02" } else { "01" };
-        let made_by = format!("oracle/refusals: the replies as {paper}'s paragraphs give them");
         let lines: Vec<String> = cases.iter().map(Case::line).collect();
-        (format!("{name}.txt"), file(operation, &made_by, &lines))
+        (format!("{name}.txt"), file(operation, made_by, &lines))
     };
     cases().iter().map(text).collect()
 }
@@ -74,6 +74,8 @@ fn cases() -> Vec<(&'static str, &'static str, Vec<Case>)> {
         ("observed_pixel_center_refused", "observed_pixel_center", points::odd_lists()),
         ("conic_to_camera_refused", "conic_to_camera", points::conic()),
         ("known_plate", "known_plate", plates::plates()),
+        ("sine_refused", "sine", series::sine()),
+        ("cosine_refused", "cosine", series::cosine()),
     ]
 }
 

@@ -109,13 +109,18 @@ fn start_ways() -> Vec<(u64, Change)> {
         (8, |s| s.room = 0),
         (8, |s| (s.tilt_x, s.tilt_y, s.room) = (vec![0.0; 5], vec![0.0; 2], 59)),
         (8, |s| (s.decomposition, s.tilt_x, s.room) = (seed(0.0, 0.0).repeat(5), vec![0.0; 5], 59)),
+        (27, |s| s.bound = BEYOND),
+        (27, |s| s.bound = 1.0),
+        (27, |s| (s.bound, s.tilt_x) = (30.0, vec![0.5])),
+        (27, |s| s.bound = f64::MAX),
     ]
 }
 
 /// For each number a way that leaves room for every other: pairs are made of these. 5 is the rounds
-/// alone, so that 4 may set the step; 2 is the x tilts, 7 the y tilts.
+/// alone, so that 4 may set the step; 2 is the x tilts, 7 the y tilts; a bound of infinity is 3's
+/// and 27's.
 fn start_pairs() -> Vec<Case> {
-    let ways: [(u64, Change); 8] = [
+    let ways: [(u64, Change); 9] = [
         (1, |s| s.views = 2),
         (2, |s| s.tilt_x = vec![]),
         (3, |s| s.bound = f64::NAN),
@@ -124,6 +129,7 @@ fn start_pairs() -> Vec<Case> {
         (6, |s| s.decomposition = vec![0.0; 6]),
         (7, |s| s.tilt_y = vec![f64::NAN]),
         (8, |s| s.room = 53),
+        (27, |s| s.bound = if s.bound.is_nan() { f64::INFINITY } else { 1.0 }),
     ];
     let mut cases = vec![];
     for (i, (number, first)) in ways.iter().enumerate() {
@@ -186,7 +192,6 @@ fn seed_is(room: u64, numbers: &[f64]) -> Call {
 #[derive(Clone)]
 struct Finding {
     camera: [f64; 4],
-    tilt: [f64; 4],
     rows: Vec<([f64; 4], u64)>,
     /// How many of the rows' numbers are lent.
     lent: u64,
@@ -195,21 +200,11 @@ struct Finding {
 
 /// One row, whose error is the root of 3 × 3 + 4 × 4.
 fn solved() -> Finding {
-    Finding {
-        camera: BASE,
-        tilt: [0.0, 1.0, 0.0, 1.0],
-        rows: vec![([0.0, 0.0, 323.0, 244.0], 1)],
-        lent: 4,
-        failed: false,
-    }
+    Finding { camera: BASE, rows: vec![([0.0, 0.0, 323.0, 244.0], 1)], lent: 4, failed: false }
 }
 
 fn failed() -> Finding {
     Finding { failed: true, lent: 0, ..solved() }
-}
-
-fn singular(finding: Finding) -> Finding {
-    Finding { tilt: [1.0, 0.0, 0.0, 1.0], ..finding }
 }
 
 fn too_many_points() -> Finding {
@@ -244,7 +239,6 @@ fn answer(room: u64, finding: &Finding, output: &[u64]) -> Call {
         input.push(1);
         input.extend(floats(&finding.camera));
         input.extend([0; 5]);
-        input.extend(floats(&finding.tilt));
         input.push(finding.rows.len() as u64);
         for (numbers, flag) in &finding.rows {
             input.extend(floats(numbers));
@@ -287,25 +281,18 @@ fn no_seed_waits() -> Vec<Call> {
         answer_refuses(54, &failed(), 12),
         answer_refuses(53, &solved(), 12),
         answer_refuses(0, &failed(), 12),
-        answer_refuses(54, &singular(solved()), 12),
     ];
     calls.extend(bad_rows()[1..].iter().map(|finding| answer_refuses(54, finding, 12)));
     calls
 }
 
-/// 10, 13 and 15 while a seed waits, each with what would be refused after it.
+/// 10 and 13 while a seed waits, 10 also with what would be refused after it.
 fn findings_refused() -> Vec<Call> {
-    let mut calls = vec![
-        answer_refuses(53, &solved(), 10),
-        answer_refuses(0, &failed(), 10),
-        answer_refuses(53, &singular(solved()), 10),
-    ];
+    let mut calls = vec![answer_refuses(53, &solved(), 10), answer_refuses(0, &failed(), 10)];
     for finding in &bad_rows()[1..] {
         calls.push(answer_refuses(53, finding, 10));
         calls.push(answer_refuses(54, finding, 13));
-        calls.push(answer_refuses(54, &singular(finding.clone()), 13));
     }
-    calls.push(answer_refuses(54, &singular(solved()), 15));
     calls
 }
 
@@ -352,7 +339,6 @@ fn many_points() -> Vec<Case> {
     vec![
         one(54, &too_many_points(), 13),
         one(53, &too_many_points(), 10),
-        one(54, &singular(too_many_points()), 13),
         start.followed(&only, &[answer_refuses(54, &too_many_points(), 12)]),
     ]
 }
@@ -385,7 +371,6 @@ fn two_rounds() -> Case {
         calls.push(next_hands_out(60, number));
         calls.push(next_refuses(60, 9));
         calls.push(seed_is(60, &seed(x, y)));
-        calls.push(answer_refuses(60, &singular(solved()), 15));
         calls.push(answer_skips(60, &failed(), 1));
     }
     calls.extend([
@@ -404,6 +389,85 @@ fn no_seeds() -> Case {
     start.followed(&[], &calls)
 }
 
+/// The number after 0.5.
+const BEYOND: f64 = 0.5000000000000001;
+
+/// Between two calls the host changes a number of the list.
+fn list_changes(place: u64, number: f64) -> Call {
+    Call { input: vec![5, place, word(number)], output: vec![] }
+}
+
+/// No valid camera, and no row in front of it: reasons 2 and 3.
+fn skipped_findings() -> [Finding; 2] {
+    [
+        Finding { camera: [0.0, 790.0, 320.0, 240.0], ..solved() },
+        Finding { rows: vec![([0.0; 4], 0)], ..solved() },
+    ]
+}
+
+/// A tilt of the list that the host changed before Next: 27 comes after 12, 10 and 13 and before the
+/// reasons of a skip, and the seed goes on waiting; of a failed answer the tilts aren't read.
+fn changed_tilt(place: usize, tilt: f64) -> Case {
+    let mut changed = seed(0.0, 0.0);
+    changed[place] = tilt;
+    let mut calls = vec![list_changes(place as u64, tilt), answer_refuses(54, &solved(), 12)];
+    calls.extend([next_hands_out(54, 0), seed_is(54, &changed)]);
+    calls.push(answer_refuses(53, &solved(), 10));
+    calls.extend(bad_rows()[1..].iter().map(|finding| answer_refuses(54, finding, 13)));
+    calls.push(answer_refuses(54, &solved(), 27));
+    calls.extend(skipped_findings().iter().map(|finding| answer_refuses(54, finding, 27)));
+    calls.extend([next_refuses(54, 9), seed_is(54, &changed)]);
+    calls.push(answer_skips(54, &failed(), 1));
+    calls.extend(ended_unscored());
+    accepted().followed(&seed(0.0, 0.0), &calls)
+}
+
+/// 0.5 itself is no refusal, though beyond the bound of 0.25. The mean is 5, the penalty 0.25 × 0.25.
+fn half_tilt(place: usize, tilt: f64) -> Case {
+    let mut changed = seed(0.0, 0.0);
+    changed[place] = tilt;
+    let calls = [
+        list_changes(place as u64, tilt),
+        next_hands_out(54, 0),
+        answer_scores(54, &solved(), 5.0625),
+        next_says_over(54),
+        result_is(0, [changed[4], changed[5], 5.0, 5.0625]),
+    ];
+    accepted().followed(&seed(0.0, 0.0), &calls)
+}
+
+/// A change after Next doesn't reach the seed that the run keeps; the seed call gives what stands
+/// there.
+fn changed_after_next() -> Case {
+    let calls = [
+        next_hands_out(54, 0),
+        list_changes(4, f64::NAN),
+        seed_is(54, &seed(f64::NAN, 0.0)),
+        answer_scores(54, &solved(), 5.0),
+        result_is(0, [0.0, 0.0, 5.0, 5.0]),
+    ];
+    accepted().followed(&seed(0.0, 0.0), &calls)
+}
+
+/// The largest bound, and a seed at it.
+fn largest_bound() -> Case {
+    let start = Start { tilt_x: vec![0.5], tilt_y: vec![BEYOND, 0.0], bound: 0.5, ..accepted() };
+    let calls = [next_hands_out(54, 0), answer_scores(54, &solved(), 5.0625)];
+    start.followed(&seed(0.5, 0.0), &calls)
+}
+
+/// What comes of tilts up to 0.5 and beyond.
+fn tilts() -> Vec<Case> {
+    let beyond = [f64::NAN, f64::INFINITY, f64::NEG_INFINITY, BEYOND, -BEYOND];
+    let mut cases = vec![];
+    for place in [4, 5] {
+        cases.extend(beyond.map(|tilt| changed_tilt(place, tilt)));
+        cases.extend([0.5, -0.5].map(|tilt| half_tilt(place, tilt)));
+    }
+    cases.extend([changed_after_next(), largest_bound()]);
+    cases
+}
+
 pub fn calls() -> Vec<Case> {
     let over = || {
         vec![
@@ -414,8 +478,7 @@ pub fn calls() -> Vec<Case> {
             result_is(0, [0.0, 0.0, 5.0, 5.0]),
         ]
     };
-    let not_a_camera = Finding { camera: [0.0, 790.0, 320.0, 240.0], ..solved() };
-    let behind = Finding { rows: vec![([0.0; 4], 0)], ..solved() };
+    let [not_a_camera, behind] = skipped_findings();
     // of a failed answer the rows aren't read
     let failed_with_rows = Finding { lent: 3, ..failed() };
     let mut cases = starts();
@@ -429,5 +492,6 @@ pub fn calls() -> Vec<Case> {
         no_seeds(),
     ]);
     cases.extend(many_points());
+    cases.extend(tilts());
     cases
 }

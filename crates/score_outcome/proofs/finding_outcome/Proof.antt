@@ -14,13 +14,16 @@ returns : tie.Need-returns
 unfolding outcomeOf
 returns c = search needs
 
+trig-of-requires : tie.Need-trig-of-requires
+trig-of-requires c κs = search needs
+
 evaluate-candidate-requires : tie.Need-evaluate-candidate-requires
 evaluate-candidate-requires c κs = search needs
 
 returns-2 : tie.Need-returns-2
 unfolding outcomeOf
-returns-2 c = rw (c .before .before .finding .given .1) (c .evaluate-candidate .ensures)
+returns-2 c = rw (c .before .before .before .finding .given .1, ← c .before .trig-of .ensures) (c .evaluate-candidate .ensures)
 
 pub finding-outcome-spec : {M : Type 1} → statement M
 finding-outcome-spec =
-    tie.close (tie.spec enum-known-finding enum-told returns evaluate-candidate-requires returns-2)
+    tie.close (tie.spec enum-known-finding enum-told returns trig-of-requires evaluate-candidate-requires returns-2)

@@ -4,11 +4,11 @@ use Rattle.score_outcome.specs.Evaluation.{findingRefusal}
 use Rattle.score_outcome.proofs.finding_refusal.Statement.{statement}
 use Rattle.score_outcome.proofs.finding_refusal.Tie as tie
 
-enum-known-finding : tie.Need-enum-known-finding
-enum-known-finding c = search needs
-
 enum-told : tie.Need-enum-told
 enum-told c = search needs
+
+enum-told-2 : tie.Need-enum-told-2
+enum-told-2 c = search needs
 
 returns : tie.Need-returns
 unfolding findingRefusal
@@ -19,8 +19,8 @@ solved-refusal-requires c κs = search needs
 
 returns-2 : tie.Need-returns-2
 unfolding findingRefusal
-returns-2 c = rw (c .before .before .finding .given .1) (c .solved-refusal .ensures)
+returns-2 c = cc
 
 pub finding-refusal-spec : {M : Type 1} → statement M
 finding-refusal-spec =
-    tie.close (tie.spec enum-known-finding enum-told returns solved-refusal-requires returns-2)
+    tie.close (tie.spec enum-told enum-told-2 returns solved-refusal-requires returns-2)

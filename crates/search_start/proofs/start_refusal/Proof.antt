@@ -57,16 +57,32 @@ returns-4 c =
 
 returns-5 : tie.Need-returns-5
 returns-5 c =
-    let a = c .before .before .before .before .before .before .before .before .before .before .before .before .args in
+    let a = c .before .before .before .before .before .before .before .before .before .before .before .before .before .before .args in
     sym
-    (options-passed (a .views) (a .options) (a .tilt-x-seeds .now) (a .tilt-y-seeds .now) (a .decomposition .now) (a .list-len) _ (c .before .before .before .before .before .before .before .before .options-refusal .ensures) (c .before .before .before .before .before .before .before .if1 .left)
+    (options-passed (a .views) (a .options) (a .tilt-x-seeds .now) (a .tilt-y-seeds .now) (a .decomposition .now) (a .list-len) _ (c .before .before .before .before .before .before .before .before .before .before .options-refusal .ensures) (c .before .before .before .before .before .before .before .before .before .if1 .left)
     ∙ rw (
-      sym (c .before .before .before .before .before .before .all-good-seeds .ensures) ∙ not-false _ (c .before .before .before .before .before .if2 .left),
-      sym (c .before .before .before .before .all-finite .ensures),
-      sym (c .before .before .before .all-finite2 .ensures),
-      c .before .before .if3 .left,
-      sym (c .before .demand-of .ensures),
-      le-ltb _ _ (c .if4 .left),
+      sym (c .before .before .before .before .before .before .before .before .all-good-seeds .ensures) ∙ not-false _ (c .before .before .before .before .before .before .before .if2 .left),
+      sym (c .before .before .before .before .before .before .all-finite .ensures),
+      sym (c .before .before .before .before .before .all-finite2 .ensures),
+      c .before .before .before .before .if3 .left,
+      sym (c .before .before .before .demand-of .ensures),
+      le-ltb _ _ (c .before .before .if4 .left),
+      c .if5 .taken,
+    ))
+
+returns-6 : tie.Need-returns-6
+returns-6 c =
+    let a = c .before .before .before .before .before .before .before .before .before .before .before .before .before .before .args in
+    sym
+    (options-passed (a .views) (a .options) (a .tilt-x-seeds .now) (a .tilt-y-seeds .now) (a .decomposition .now) (a .list-len) _ (c .before .before .before .before .before .before .before .before .before .before .options-refusal .ensures) (c .before .before .before .before .before .before .before .before .before .if1 .left)
+    ∙ rw (
+      sym (c .before .before .before .before .before .before .before .before .all-good-seeds .ensures) ∙ not-false _ (c .before .before .before .before .before .before .before .if2 .left),
+      sym (c .before .before .before .before .before .before .all-finite .ensures),
+      sym (c .before .before .before .before .before .all-finite2 .ensures),
+      c .before .before .before .before .if3 .left,
+      sym (c .before .before .before .demand-of .ensures),
+      le-ltb _ _ (c .before .before .if4 .left),
+      c .if5 .left,
     ))
 
 pub start-refusal-spec : {M : Type 1} → statement M
@@ -82,4 +98,5 @@ start-refusal-spec =
     returns-3
     demand-of-requires
     returns-4
-    returns-5)
+    returns-5
+    returns-6)

@@ -5,7 +5,7 @@
 use jinnychair::record::{self, answer, next, seed, start};
 use jinnychair::{
     BrownConrady5, Finding as LibraryFinding, FxFyCxCy, Handed, PinholeCamera, Pt2, Rows,
-    ScheimpflugParams, TiltTrig, geometry,
+    ScheimpflugParams, TiltTrig, TrigError, geometry,
 };
 use oracle::operations::search::{Inputs, run};
 use random::Random;
@@ -105,6 +105,7 @@ fn main() {
     println!("| what | library | Rust | ratio |\n|---|---|---|---|");
     let mut random = Random::named("bench");
     roots(&mut random);
+    sines(&mut random);
     distortions(&mut random);
     scoring(&mut random);
     first_list("building a round-0 list of 512 seeds", &most_seeds(), 512);
@@ -135,6 +136,29 @@ fn roots(random: &mut Random) {
         || in_turn(&numbers, f64::sqrt),
     );
     report("root, each waiting for the last", times);
+}
+
+fn sines(random: &mut Random) {
+    let tilts: Vec<f64> = (0..4096).map(|_| random.within(0.5)).collect();
+    beside("sine", &tilts, geometry::sine, [series::sine, f64::sin]);
+    beside("cosine", &tilts, geometry::cosine, [series::cosine, f64::cos]);
+}
+
+/// Beside the same loop in Rust, with its test for 27, and beside the machine's maths library.
+fn beside(
+    name: &str,
+    tilts: &[f64],
+    library: fn(f64) -> Result<f64, TrigError>,
+    [same, maths]: [fn(f64) -> f64; 2],
+) {
+    fn each<T>(tilts: &[f64], answer: impl Fn(f64) -> T) {
+        tilts.iter().for_each(|&x| keep(answer(black_box(x))));
+    }
+    let checked = |x: f64| if series::is_beyond(x) { None } else { Some(same(x)) };
+    let times = medians(tilts.len(), || each(tilts, library), || each(tilts, checked));
+    report(&format!("{name} (the same loop in Rust)"), times);
+    let times = medians(tilts.len(), || each(tilts, library), || each(tilts, maths));
+    report(&format!("{name} (the maths library)"), times);
 }
 
 fn distortions(random: &mut Random) {
@@ -186,7 +210,8 @@ fn given(trig: TiltTrig) -> GivenTilt {
 fn scoring(random: &mut Random) {
     let rows = rows(random);
     let (numbers, flags) = flat(&rows);
-    let trig = TiltTrig::from(ScheimpflugParams { tilt_x: 0.05, tilt_y: -0.02 });
+    let tilts = ScheimpflugParams { tilt_x: 0.05, tilt_y: -0.02 };
+    let trig = TiltTrig::try_from(tilts).expect("small tilts");
     let camera = library_camera();
     let library = || {
         let rows = Rows { numbers: black_box(&numbers), flags: &flags };
@@ -262,11 +287,10 @@ fn whole_run(name: &str, rows: &[Row]) {
         let mut list = vec![0.0; 6 * 512];
         let for_library = compare::library::library_inputs(&inputs);
         let mut run = start(&for_library, &mut list).expect("good inputs");
-        while let Ok(Handed::Candidate(_)) = next(&mut run, &list) {
-            let [.., tilt_x, tilt_y] = seed(&run, &list).expect("a seed waits");
-            let trig = TiltTrig::from(ScheimpflugParams { tilt_x, tilt_y });
+        while let Ok(Handed::Candidate { .. }) = next(&mut run, &list) {
+            black_box(seed(&run, &list)).expect("a seed waits");
             let rows = Rows { numbers: &numbers, flags: &flags };
-            let finding = LibraryFinding::Solved { camera, trig, rows };
+            let finding = LibraryFinding::Solved { camera, rows };
             answer(&mut run, &finding, &mut list).expect("a good answer");
         }
         assert_eq!(run.place.number, 656);
@@ -274,11 +298,7 @@ fn whole_run(name: &str, rows: &[Row]) {
     };
     let scripted = || {
         let rows = rows.to_vec();
-        let host = move |seed: &SeedNumbers| {
-            let [.., tilt_x, tilt_y] = *seed;
-            let trig = TiltTrig::from(ScheimpflugParams { tilt_x, tilt_y });
-            Finding::Solved { camera: CAMERA, tilt: given(trig), rows: rows.clone() }
-        };
+        let host = move |_: &SeedNumbers| Finding::Solved { camera: CAMERA, rows: rows.clone() };
         black_box(run(&inputs, host)).expect("a winner");
     };
     let [library, scripted] = medians(1, library, scripted);

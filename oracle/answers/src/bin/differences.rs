@@ -15,6 +15,7 @@ fn main() {
     hypotenuse();
     zeros_of_two_signs();
     nan_first();
+    maths_library();
 }
 
 /// The answers by 01's lines and by the published ones.
@@ -133,7 +134,6 @@ fn nan_first() {
         let row = Row { ideal: [0.0, 0.0], seen: [cx, 50.0], in_front: true };
         finding_words(&Finding::Solved {
             camera: [100.0, 100.0, cx, 50.0, 0.0, 0.0, 0.0, 0.0, 0.0],
-            tilt: GivenTilt::NONE,
             rows: vec![row],
         })
     };
@@ -141,4 +141,33 @@ fn nan_first() {
     let [request, published] = both("search", &input);
     println!("search, centres 1e200 and 50\n  input     {}", line(&input));
     println!("  02        {}\n  published {}", line(&request), line(&published));
+}
+
+/// The published search calls the machine's maths library: the first tilt in thousandths at which
+/// it gives other bits than the series, and how many of the tilts that are drawn have another one.
+fn maths_library() {
+    print_first_tilt("sine", series::sine, f64::sin);
+    print_first_tilt("cosine", series::cosine, f64::cos);
+    let mut random = Random::named("maths library");
+    const DRAWS: usize = 100_000;
+    let differs = |x: f64| {
+        let (x, sine, cosine) = (black_box(x), series::sine(x), series::cosine(x));
+        sine.to_bits() != x.sin().to_bits() || cosine.to_bits() != x.cos().to_bits()
+    };
+    let count = (0..DRAWS).filter(|_| differs(random.within(series::MOST))).count();
+    println!("of {DRAWS} tilts {count} have another sine or cosine in the maths library");
+}
+
+fn print_first_tilt(name: &str, own: fn(f64) -> f64, library: fn(f64) -> f64) {
+    let tilts = (1..=500).map(|thousandths| f64::from(thousandths) / 1000.0);
+    let differs = |x: &f64| own(*x).to_bits() != library(black_box(*x)).to_bits();
+    let Some(x) = tilts.into_iter().find(differs) else {
+        return println!("{name}: no tilt in thousandths differs");
+    };
+    println!("{name} {x:?}\n  input     {}", line(&float_words(&[x])));
+    println!(
+        "  02        {}\n  library   {}",
+        line(&float_words(&[own(x)])),
+        line(&float_words(&[library(x)]))
+    );
 }

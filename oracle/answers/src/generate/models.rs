@@ -1,6 +1,6 @@
 //! Cases of the intrinsics, the tilted sensor, the distortion model and the closed form.
 
-use super::values::{Draw, Style, edge, near};
+use super::values::{Draw, Style, after, before, edge, near};
 use super::{Family, RANDOM_CASES};
 use random::Random;
 use vision_calibration_core::given_tilt::GivenTilt;
@@ -9,6 +9,8 @@ use words::float_words;
 pub fn families() -> Vec<Family> {
     let family = |operation, fixed, draw| Family { operation, fixed, random: RANDOM_CASES, draw };
     vec![
+        family("sine", fixed_arguments, argument),
+        family("cosine", fixed_arguments, argument),
         family("pixel_to_sensor", Vec::new, pixel_to_sensor),
         family("sensor_to_pixel", Vec::new, sensor_to_pixel),
         family("tilt_projection_matrix", fixed_tilts, tilt_projection_matrix),
@@ -20,6 +22,22 @@ pub fn families() -> Vec<Family> {
         family("undistort", Vec::new, undistort),
         family("conic_to_camera", fixed_conics, conic_to_camera),
     ]
+}
+
+/// The ends and their neighbours, zeros, the smallest numbers, and where another order of operations
+/// gives other bits: (sum · x) · x at 0.409, 0.464 and 0.258, a fused step at 0.1, 0.114 and 0.258.
+fn fixed_arguments() -> Vec<Vec<u64>> {
+    let (smallest, normal) = (f64::from_bits(1), f64::MIN_POSITIVE);
+    let sizes =
+        [0.0, smallest, before(normal), normal, 1e-160, 2.0_f64.powi(-27), 2.0_f64.powi(-26)];
+    let tilts =
+        [0.1, 0.114, 0.25, 0.258, 0.409, 0.464, before(0.5), 0.5, after(0.5), f64::INFINITY];
+    let signed = sizes.iter().chain(&tilts).flat_map(|&size| [size, -size]);
+    signed.chain([f64::NAN]).map(|x| float_words(&[x])).collect()
+}
+
+fn argument(random: &mut Random) -> Vec<u64> {
+    float_words(&[Draw::new(random).value(0.5)])
 }
 
 fn pixel_to_sensor(random: &mut Random) -> Vec<u64> {

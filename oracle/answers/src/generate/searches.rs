@@ -2,13 +2,12 @@
 
 use super::Family;
 use super::seeds::{CAMERA, most_seeds, plain_inputs, start_inputs};
-use super::values::{edge, tilt_of};
+use super::values::{after, before, edge};
 use crate::operations::search::{Inputs, finding_words, run};
 use random::Random;
 use std::cell::RefCell;
 use std::ops::Range;
 use std::rc::Rc;
-use vision_calibration_core::given_tilt::GivenTilt;
 use vision_calibration_linear::script::{Finding, Row, SeedNumbers};
 
 const RANDOM_SEARCHES: usize = 260;
@@ -104,7 +103,7 @@ impl Host {
         let away = [tilt_x - self.habits.truth[0], tilt_y - self.habits.truth[1]];
         let error = 40.0 * (away[0].abs() + away[1].abs()) + 0.25;
         let rows = (0..1 + random.below(self.habits.rows)).map(|_| row(k, error, random)).collect();
-        Finding::Solved { camera, tilt: tilt_of(tilt_x, tilt_y), rows }
+        Finding::Solved { camera, rows }
     }
 }
 
@@ -117,17 +116,13 @@ fn row([fx, fy, cx, cy]: [f64; 4], error: f64, random: &mut Random) -> Row {
     }
 }
 
-/// No tilt and exact numbers: each row's error is 5 or 10.
+/// The point that no tilt moves, and exact numbers: each row's error is 5 or 10.
 fn tied(random: &mut Random) -> Finding {
     let times = random.pick(&[1.0, 1.0, 1.0, 2.0]);
-    let row = Row {
-        ideal: [0.25, -0.5],
-        seen: [256.0 + 128.0 + 3.0 * times, 192.0 - 256.0 - 4.0 * times],
-        in_front: true,
-    };
+    let row =
+        Row { ideal: [0.0, 0.0], seen: [256.0 + 3.0 * times, 192.0 - 4.0 * times], in_front: true };
     Finding::Solved {
         camera: [512.0, 512.0, 256.0, 192.0, 0.0, 0.0, 0.0, 0.0, 0.0],
-        tilt: GivenTilt::NONE,
         rows: vec![row; 1 + random.below(2)],
     }
 }
@@ -259,9 +254,12 @@ fn refused_starts() -> Vec<Inputs> {
     starts.extend([seed(0, 0.0), seed(1, -0.0), seed(1, -800.0)]);
     starts.extend([seed(4, 0.2500000001), seed(5, -0.2500000001)]);
     starts
+        .extend([after(0.5), 1.0, 30.0, f64::MAX].map(|bound| plain_inputs(&[0.0], &[0.0], bound)));
+    starts.push(plain_inputs(&[0.0, f64::NAN], &[0.0], 1.0));
+    starts
 }
 
-/// Refused Starts; rounds 0 with any step; no seed; one list of each limit.
+/// Refused Starts; rounds 0 with any step; no seed; the largest tilts; one list of each limit.
 fn fixed_searches() -> Vec<Vec<u64>> {
     let mut random = Random::named("fixed searches");
     let failed = |_: &SeedNumbers| Finding::Failed;
@@ -272,6 +270,9 @@ fn fixed_searches() -> Vec<Vec<u64>> {
     let no_step = Inputs { refine_step: f64::NAN, ..plain_inputs(&[0.0], &[0.1], 0.25) };
     cases.extend([case(&no_seed, failed), case(&nothing_scored, failed)]);
     cases.push(hosted(&no_step, STEADY, &mut random));
+    let largest = [0.5, -0.5, before(0.5), 0.464, -0.409, 0.258, 0.1, -0.0];
+    let largest = Inputs { rounds: 2, ..plain_inputs(&largest, &[0.5, -0.464, 0.0], 0.5) };
+    cases.push(hosted(&largest, STEADY, &mut random));
     cases.extend(tiny_steps(&mut random));
     cases.extend(nan_scores());
     cases.push(most_answers(&mut random));
@@ -310,7 +311,6 @@ fn nan_at_one(inputs: &Inputs, nan_at: u32) -> Vec<u64> {
         let row = Row { ideal: [0.0, 0.0], seen: [cx, cy + f64::from(number)], in_front: true };
         Finding::Solved {
             camera: [fx, fy, cx, cy, 0.0, 0.0, 0.0, 0.0, 0.0],
-            tilt: GivenTilt::NONE,
             rows: vec![row],
         }
     })
@@ -335,7 +335,6 @@ fn most_rows(random: &mut Random) -> Vec<Vec<u64>> {
     let of_rows = |rows: Vec<Row>| {
         let finding = Finding::Solved {
             camera: [800.0, 790.0, 320.5, 239.25, 0.1, 0.1, 0.1, 0.01, -0.02],
-            tilt: tilt_of(0.0, 0.125),
             rows,
         };
         case(&inputs, move |_| finding.clone())

@@ -75,7 +75,7 @@ fn fixed_lists() -> Vec<Vec<u64>> {
 
 /// A few tilts and seeds that often meet, or nearly meet, within an accepted Start.
 pub fn start_inputs(random: &mut Random) -> Inputs {
-    let max_abs_tilt = random.pick(&[0.25, 0.3, 0.16, 0.04, 1.0]);
+    let max_abs_tilt = random.pick(&[0.25, 0.3, 0.16, 0.04, 0.5]);
     let base = camera(random);
     let tilts = |random: &mut Random, most: usize| -> Vec<f64> {
         (0..1 + random.below(most)).map(|_| tilt(random)).collect()

@@ -1,7 +1,6 @@
 //! Values of the kinds that the operations take, in several styles.
 
 use random::Random;
-use vision_calibration_core::given_tilt::GivenTilt;
 
 /// Values at the edges of the format and of the thresholds that 01 names.
 const EDGES: &[f64] = &[
@@ -179,42 +178,5 @@ impl<'a> Draw<'a> {
 
 /// Sine and cosine of both tilts.
 fn given_tilt(tilt_x: f64, tilt_y: f64) -> [f64; 4] {
-    let ((sin_x, cos_x), (sin_y, cos_y)) = (sine_and_cosine(tilt_x), sine_and_cosine(tilt_y));
-    [sin_x, cos_x, sin_y, cos_y]
-}
-
-/// The same, as the script of a search takes it.
-pub fn tilt_of(tilt_x: f64, tilt_y: f64) -> GivenTilt {
-    let [sin_x, cos_x, sin_y, cos_y] = given_tilt(tilt_x, tilt_y);
-    GivenTilt { sin_x, cos_x, sin_y, cos_y }
-}
-
-/// Near enough to sine and cosine for tilts up to 2, by their series: the machine's own functions
-/// may differ from one machine to another, and the files may not.
-fn sine_and_cosine(tilt: f64) -> (f64, f64) {
-    let (mut sine, mut cosine, mut term) = (0.0, 0.0, 1.0);
-    for power in 0..24 {
-        let signed = if power % 4 < 2 { term } else { -term };
-        if power % 2 == 0 {
-            cosine += signed;
-        } else {
-            sine += signed;
-        }
-        term = term * tilt / (power + 1) as f64;
-    }
-    (sine, cosine)
-}
-
-#[cfg(test)]
-mod tests {
-    use super::sine_and_cosine;
-
-    #[test]
-    fn the_series_are_near_sine_and_cosine() {
-        for tilt in [-1.5, -0.3, 0.0, 1e-9, 0.02, 0.16, 1.0, 1.6] {
-            let (sine, cosine) = sine_and_cosine(tilt);
-            assert!((sine - f64::sin(tilt)).abs() < 1e-15);
-            assert!((cosine - f64::cos(tilt)).abs() < 1e-15);
-        }
-    }
+    [series::sine(tilt_x), series::cosine(tilt_x), series::sine(tilt_y), series::cosine(tilt_y)]
 }

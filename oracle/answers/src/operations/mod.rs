@@ -18,6 +18,8 @@ pub type Operation = fn(&mut Reader) -> Result<Vec<u64>, String>;
 /// gives others for the distortion, or 02 another rule for the search.
 pub const OPERATIONS: &[(&str, Operation)] = &[
     ("sqrt", models::sqrt),
+    ("sine", models::sine),
+    ("cosine", models::cosine),
     ("pixel_to_sensor", models::pixel_to_sensor),
     ("sensor_to_pixel", models::sensor_to_pixel),
     ("tilt_projection_matrix", models::tilt_projection_matrix),

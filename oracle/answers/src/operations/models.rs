@@ -51,6 +51,20 @@ pub fn sqrt(input: &mut Reader) -> Result<Vec<u64>, String> {
     Ok(float_words(&[input.float()?.sqrt()]))
 }
 
+/// 27 is 02's: the series are those that the search is given its numbers by.
+fn series_answer(input: &mut Reader, answer: fn(f64) -> f64) -> Result<Vec<u64>, String> {
+    let x = input.float()?;
+    Ok(if series::is_beyond(x) { vec![series::BEYOND] } else { vec![0, word(answer(x))] })
+}
+
+pub fn sine(input: &mut Reader) -> Result<Vec<u64>, String> {
+    series_answer(input, series::sine)
+}
+
+pub fn cosine(input: &mut Reader) -> Result<Vec<u64>, String> {
+    series_answer(input, series::cosine)
+}
+
 pub fn pixel_to_sensor(input: &mut Reader) -> Result<Vec<u64>, String> {
     let intrinsics = read_intrinsics(input)?;
     Ok(point_words(intrinsics.pixel_to_sensor(&read_point(input)?)))

@@ -1,7 +1,6 @@
 //! Whole searches: the published `estimate_scheimpflug_intrinsics_iterative`, with the host's
 //! part scripted by the case.
 
-use super::models::{is_singular, read_tilt};
 use super::score::read_rows;
 use vision_calibration_core::{CorrespondenceView, PlanarDataset, Pt2, Pt3, View};
 use vision_calibration_linear::Error;
@@ -77,7 +76,7 @@ impl Inputs {
     }
 
     /// The number with which Start refuses, 8 apart: no buffer is lent here. 1 to 4 and 7 are
-    /// the published search's; 5 and 6 are 01's.
+    /// the published search's; 5 and 6 are 01's, 27 is 02's.
     ///
     /// # Errors
     ///
@@ -93,7 +92,10 @@ impl Inputs {
             return Ok(Some(6));
         }
         let mut tilts = self.tilt_x_seeds.iter().chain(&self.tilt_y_seeds);
-        Ok(tilts.any(|tilt| !tilt.is_finite()).then_some(7))
+        if tilts.any(|tilt| !tilt.is_finite()) {
+            return Ok(Some(7));
+        }
+        Ok((self.max_abs_tilt > series::MOST).then_some(series::BEYOND))
     }
 
     fn is_beyond_limits(&self) -> bool {
@@ -171,10 +173,9 @@ fn option_refusal(error: &Error) -> Result<u64, String> {
 pub fn finding_words(finding: &Finding) -> Vec<u64> {
     match finding {
         Finding::Failed => vec![0],
-        Finding::Solved { camera, tilt, rows } => {
+        Finding::Solved { camera, rows } => {
             let mut words = vec![1];
             words.extend(float_words(camera));
-            words.extend(float_words(&[tilt.sin_x, tilt.cos_x, tilt.sin_y, tilt.cos_y]));
             words.push(rows.len() as u64);
             for row in rows {
                 words.extend(float_words(&row.ideal));
@@ -189,13 +190,7 @@ pub fn finding_words(finding: &Finding) -> Vec<u64> {
 fn read_finding(input: &mut Reader) -> Result<Finding, String> {
     match input.number()? {
         0 => Ok(Finding::Failed),
-        1 => {
-            let (camera, tilt) = (input.floats()?, read_tilt(input)?);
-            if is_singular(tilt) {
-                return Err("an answer's tilt is singular".to_owned());
-            }
-            Ok(Finding::Solved { camera, tilt, rows: read_rows(input)? })
-        }
+        1 => Ok(Finding::Solved { camera: input.floats()?, rows: read_rows(input)? }),
         other => Err(format!("{other} is no kind of answer")),
     }
 }

@@ -39,7 +39,7 @@ pub struct Row {
 #[derive(Clone, Debug)]
 pub enum Finding {
     Failed,
-    Solved { camera: CameraNumbers, tilt: GivenTilt, rows: Vec<Row> },
+    Solved { camera: CameraNumbers, rows: Vec<Row> },
 }
 
 /// What the search makes of a finding.
@@ -145,14 +145,17 @@ pub(crate) fn observed_center() -> Pt2 {
     with(|play| Pt2::new(play.given.center[0], play.given.center[1]))
 }
 
-/// The seed gets its finding, whose tilt `compile` will use. Failed brings no tilt.
+/// The seed gets its finding, and `compile` the sines and cosines of the seed's tilts.
 pub(crate) fn hand_out(seed: SeedNumbers) {
+    let [.., tilt_x, tilt_y] = seed;
     with(|play| {
         play.finding = (play.host)(&seed);
         play.waiting = Some(seed);
-        given_tilt::give(match &play.finding {
-            Finding::Failed => GivenTilt::NONE,
-            Finding::Solved { tilt, .. } => *tilt,
+        given_tilt::give(GivenTilt {
+            sin_x: series::sine(tilt_x),
+            cos_x: series::cosine(tilt_x),
+            sin_y: series::sine(tilt_y),
+            cos_y: series::cosine(tilt_y),
         });
     });
 }
