@@ -182,14 +182,14 @@ module _ (b : Book) where
   skip-there l f = no-front (demand (b .inputs)) (b .list) l f
 
 -- k further rounds are asked for
-abbrev Closing : ℕ → Type 0
-Closing k = (b : Book) (l : List Float) → b .waits ≡ false → There b l → 54 ≤ demand (b .inputs) → Ends (ans.closeRound k (runOf b) l) (closeRound k b)
+abbrev CloseAgrees : ℕ → Type 0
+CloseAgrees k = (b : Book) (l : List Float) → b .waits ≡ false → There b l → 54 ≤ demand (b .inputs) → Ends (ans.closeRound k (runOf b) l) (closeRound k b)
 
-close-last : Closing 0
+close-last : CloseAgrees 0
 unfolding ans.closeRound closeRound
 close-last b l w f d = end-ends b l w f
 
-close-more : (k : ℕ) → Closing k → Closing (suc k)
+close-more : (k : ℕ) → CloseAgrees k → CloseAgrees (suc k)
 unfolding ans.closeRound closeRound noBest
 close-more k ih b l v f d =
     case-chosen (orElse (roundBest b) (runBest b))
@@ -201,7 +201,7 @@ close-more k ih b l v f d =
     let n : length (s ∷ ss) ≤ 9 = rw t at (nine (b .inputs) (suc (b .round)) w) in
     simp (ans.closeRound, closeRound, run-else b, q, run-seeds, t) (open-ends b l s ss v f d n)))
 
-close-agrees : (k : ℕ) → Closing k
+close-agrees : (k : ℕ) → CloseAgrees k
 close-agrees zero = close-last
 close-agrees (suc k) = close-more k (close-agrees k)
 
