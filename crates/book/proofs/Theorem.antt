@@ -27,8 +27,7 @@ use Rattle.book.specs.Named.{outcomesIn, handings}
 use Rattle.book.specs.Theorem.{startedList, NoNan, Over, Follows, SearchIsBook}
 use Rattle.book.proofs.Cases.{case-chosen}
 use Rattle.book.proofs.Planned.{handingOf, done}
-use Rattle.book.proofs.Moves.{after-by}
-use Rattle.book.proofs.Good.{Proper, Good, waits-going, current-within, steps}
+use Rattle.book.proofs.Good.{Proper, Good, waits-going, current-within}
 use Rattle.book.proofs.RunOf.{runOf, State, run-fields, run-bests, sound-run, count-bound}
 use Rattle.book.proofs.Growth.{handedIn}
 use Rattle.book.proofs.Winner.{numbers, winner}
@@ -88,7 +87,7 @@ unfolding NoNan
 follows i l cs t =
     let b = after (opened i) cs in
     let w = walks i (opened i) l cs t in
-    let g = after-by (steps i) (opened i) cs (t .good) in
+    let g = w .state .good in
     let p : All (Proper i) (entries b) = rw (g .inputs-are) at (g .core .proper) in
     let same : answers (runOf (opened i)) l cs ≡ entries b = unfold opened in w .same-entries in
     let out : handed (runOf (opened i)) l cs ≡ handedIn b = unfold opened handedIn in w .same-handed in

@@ -5,7 +5,7 @@ use lib.Ieee.{Float}
 use Rattle.book.specs.Calls.{Call, Reply}
 use Rattle.book.specs.Book.{Inputs, Entry, Book, entries, bookCall, replies, after}
 use Rattle.book.specs.Walk.{runCall, walk}
-use Rattle.book.specs.Trace.{Handing, handedBy, handed, answers, runAfter}
+use Rattle.book.specs.Trace.{Handing, handedBy, handed, answers, runAfter, listAfter}
 use Rattle.book.proofs.Moves.{enteredBy, grows, call-by}
 use Rattle.book.proofs.Good.{steps}
 use Rattle.book.proofs.RunOf.{runOf, State}
@@ -17,11 +17,12 @@ pub record Walks (i : Inputs) (b : Book) (l : List Float) (cs : List Call) : Typ
   pub same-entries : entries b ++ answers (runOf b) l cs ≡ entries (after b cs)
   pub same-handed : handedIn b ++ handed (runOf b) l cs ≡ handedIn (after b cs)
   pub run-is : runAfter (runOf b) l cs ≡ runOf (after b cs)
+  pub state : State i (after b cs) (listAfter (runOf b) l cs)
 
 -- one call, and then the others
 walks-more : (i : Inputs) (b : Book) (l : List Float) (c : Call) (cs : List Call) → State i b l
     → ((k : List Float) → State i (bookCall b c .book) k → Walks i (bookCall b c .book) k cs) → Walks i b l (c ∷ cs)
-unfolding walk replies answers handed runAfter after
+unfolding walk replies answers handed runAfter listAfter after
 walks-more i b l c cs t ih =
     let x = runCall (runOf b) l c in
     let k = bookCall b c in
@@ -36,9 +37,10 @@ walks-more i b l c cs t ih =
       same-entries = rw (answers-agree i b l c t, a .run) e;
       same-handed = rw (a .run) g;
       run-is = rw (a .run) (w .run-is);
+      state = rw (a .run) (w .state);
     }
 
 pub walks : (i : Inputs) (b : Book) (l : List Float) (cs : List Call) → State i b l → Walks i b l cs
-unfolding walk replies answers handed runAfter after
-walks i b l [] t = record { same-replies = refl; same-entries = append-nil (entries b); same-handed = append-nil (handedIn b); run-is = refl }
+unfolding walk replies answers handed runAfter listAfter after
+walks i b l [] t = record { same-replies = refl; same-entries = append-nil (entries b); same-handed = append-nil (handedIn b); run-is = refl; state = t }
 walks i b l (c ∷ cs) t = walks-more i b l c cs t (λ k u. walks i (bookCall b c .book) k cs u)

@@ -1,4 +1,4 @@
-//! The search of 01 as a plain book, written from 01 alone: vectors, no lent memory but the list,
+//! The search as a plain book, written from 01 and 02 alone: vectors, no lent memory but the list,
 //! and every best looked up among the entries. It is slow and easy to check, and the differential
 //! runs hold the proved library to it, calls in wrong orders and changed lists included.
 

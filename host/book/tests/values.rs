@@ -144,3 +144,19 @@ fn earliest_of_equal_scores_wins_and_rounds_end_the_run() {
     assert_eq!(book.next(&lent), Handed::Over);
     assert_eq!(book.result().unwrap().number, 2);
 }
+
+#[test]
+fn score_that_is_not_a_number_loses() {
+    let mut lent = [0.0; 54];
+    let mut book =
+        Book::start(Inputs { rounds: 0, ..inputs(&[0.0, 0.125], &[0.0]) }, &mut lent).unwrap();
+    book.next(&lent);
+    // A centre so far out that its penalty isn't a number; the row is seen there.
+    let far = Camera { k: [2.0, 2.0, 1e200, 0.0], tangential: [0.0; 2], ..camera() };
+    let rows = Rows { numbers: &[0.0, 0.0, 1e200, 0.0], flags: &[1] };
+    let lost = book.answer(&Finding::Solved(far, LEVEL), rows, &mut lent);
+    assert!(matches!(lost, Answered::Entered(Outcome::Skipped(4))));
+    book.next(&lent);
+    answer(&mut book, &mut lent, 1.0);
+    assert_eq!(book.result().unwrap().number, 1);
+}

@@ -278,8 +278,7 @@ fn search_by(input: &mut Reader, nan_loses: bool) -> Result<Vec<u64>, String> {
     }
     let given = findings.len() as u64;
     findings.reverse();
-    let output =
-        run_by(&inputs, nan_loses, move |_| findings.pop().unwrap_or(Finding::Failed))?;
+    let output = run_by(&inputs, nan_loses, move |_| findings.pop().unwrap_or(Finding::Failed))?;
     let handed_out = output[1];
     if handed_out != given {
         return Err(format!("{given} answers for {handed_out} seeds"));
