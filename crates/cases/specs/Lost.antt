@@ -9,7 +9,7 @@ use Rattle.search_start.specs.Start.{openingOf}
 use Rattle.book.specs.Calls.{Call, next, ask, Reply, candidate, over, scored, skipped, result, refused}
 use Rattle.book.specs.Book.{Inputs}
 use Rattle.book.specs.Theorem.{optionsOf}
-use Rattle.cases.specs.Words.{bits, f0, quarter, f1, f50, f100, pinhole, centre, solvedWith, untilted, seenAt, inFront, turn}
+use Rattle.cases.specs.Words.{bits, f0, quarter, f1, f50, f100, pinhole, centre, solvedWith, seenAt, inFront, turn}
 
 -- three typed tilts, 0, 0.25 and −0.25, and no further round
 abbrev pub lostInputs : Inputs
@@ -31,16 +31,16 @@ far = bits 0x6570_0000_0000_0000
 
 abbrev lost : List Call
 lost = turn 54 (Solved (record {
-  camera = record { k = record { fx = f100; fy = f100; cx = far; cy = f50 }; dist = record { k1 = f0; k2 = f0; k3 = f0; p1 = f0; p2 = f0 } };
-  trig = untilted;
+  k = record { fx = f100; fy = f100; cx = far; cy = f50 };
+  dist = record { k1 = f0; k2 = f0; k3 = f0; p1 = f0; p2 = f0 };
 })) (f0 ∷ f0 ∷ far ∷ f50 ∷ []) inFront
 
 -- a point seen one pixel from where it is projected, and one seen two pixels from it
 abbrev near : List Call
-near = turn 54 (solvedWith f100 f0 untilted) (seenAt (bits 0x4049_8000_0000_0000)) inFront
+near = turn 54 (solvedWith f100 f0) (seenAt (bits 0x4049_8000_0000_0000)) inFront
 
 abbrev farther : List Call
-farther = turn 54 (solvedWith f100 f0 untilted) (seenAt (bits 0x404a_0000_0000_0000)) inFront
+farther = turn 54 (solvedWith f100 f0) (seenAt (bits 0x404a_0000_0000_0000)) inFront
 
 abbrev winner : ℕ → Float → Float → Float → Candidate
 winner n x mean score = record {
