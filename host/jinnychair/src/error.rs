@@ -108,6 +108,7 @@ macro_rules! refusals {
 
         impl $name {
             /// The refusal of a number, or nothing for 0.
+            #[inline]
             pub(crate) fn check(number: u8) -> Result<(), Self> {
                 if number == 0 { Ok(()) } else { Err(Self::of_number(number)) }
             }

@@ -89,6 +89,7 @@ pub fn sqrt(x: f64) -> f64 {
 /// # Errors
 ///
 /// The number is NaN or beyond 0.5.
+#[inline]
 pub fn sine(x: f64) -> Result<f64, TrigError> {
     let reply = raw::jc_sine(x);
     TrigError::check(reply.number).map(|()| reply.value)
@@ -99,6 +100,7 @@ pub fn sine(x: f64) -> Result<f64, TrigError> {
 /// # Errors
 ///
 /// The number is NaN or beyond 0.5.
+#[inline]
 pub fn cosine(x: f64) -> Result<f64, TrigError> {
     let reply = raw::jc_cosine(x);
     TrigError::check(reply.number).map(|()| reply.value)

@@ -5,7 +5,7 @@
 use jinnychair::record::{self, answer, next, seed, start};
 use jinnychair::{
     BrownConrady5, Finding as LibraryFinding, FxFyCxCy, Handed, PinholeCamera, Pt2, Rows,
-    ScheimpflugParams, TiltTrig, TrigError, geometry,
+    ScheimpflugParams, TiltTrig, geometry,
 };
 use oracle::operations::search::{Inputs, run};
 use random::Random;
@@ -138,27 +138,60 @@ fn roots(random: &mut Random) {
     report("root, each waiting for the last", times);
 }
 
-fn sines(random: &mut Random) {
-    let tilts: Vec<f64> = (0..4096).map(|_| random.within(0.5)).collect();
-    beside("sine", &tilts, geometry::sine, [series::sine, f64::sin]);
-    beside("cosine", &tilts, geometry::cosine, [series::cosine, f64::cos]);
+/// ±1/n! with the signs + + − −.
+const COEFFICIENTS: [f64; 16] = {
+    let (mut table, mut n, mut factorial) = ([1.0; 16], 1, 1.0);
+    while n < 16 {
+        factorial *= n as f64;
+        table[n] = if n % 4 < 2 { 1.0 / factorial } else { -1.0 / factorial };
+        n += 1;
+    }
+    table
+};
+
+/// The library's loop and its test for 27, in Rust.
+#[inline(always)]
+fn series(first: usize, x: f64) -> Option<f64> {
+    if x.is_nan() || x < -0.5 || 0.5 < x {
+        return None;
+    }
+    let mut n = first + 14;
+    let mut sum = COEFFICIENTS[n];
+    while n > 1 {
+        n -= 2;
+        sum = sum * (x * x) + COEFFICIENTS[n];
+    }
+    Some(sum)
 }
 
-/// Beside the same loop in Rust, with its test for 27, and beside the machine's maths library.
-fn beside(
-    name: &str,
-    tilts: &[f64],
-    library: fn(f64) -> Result<f64, TrigError>,
-    [same, maths]: [fn(f64) -> f64; 2],
-) {
+// Called, as the library's are.
+
+#[inline(never)]
+fn sine_in_rust(x: f64) -> Option<f64> {
+    series(1, x).map(|sum| sum * x)
+}
+
+#[inline(never)]
+fn cosine_in_rust(x: f64) -> Option<f64> {
+    series(0, x)
+}
+
+/// Sine and cosine beside the same loop in Rust, and beside the machine's maths library.
+fn sines(random: &mut Random) {
+    let tilts: Vec<f64> = (0..4096).map(|_| random.within(0.5)).collect();
     fn each<T>(tilts: &[f64], answer: impl Fn(f64) -> T) {
         tilts.iter().for_each(|&x| keep(answer(black_box(x))));
     }
-    let checked = |x: f64| if series::is_beyond(x) { None } else { Some(same(x)) };
-    let times = medians(tilts.len(), || each(tilts, library), || each(tilts, checked));
-    report(&format!("{name} (the same loop in Rust)"), times);
-    let times = medians(tilts.len(), || each(tilts, library), || each(tilts, maths));
-    report(&format!("{name} (the maths library)"), times);
+    let sine = || each(&tilts, geometry::sine);
+    let same = || each(&tilts, sine_in_rust);
+    report("sine (the same loop in Rust)", medians(tilts.len(), sine, same));
+    let maths = || each(&tilts, f64::sin);
+    report("sine (the maths library)", medians(tilts.len(), sine, maths));
+    let cosine = || each(&tilts, geometry::cosine);
+    let same = || each(&tilts, cosine_in_rust);
+    report("cosine (the same loop in Rust)", medians(tilts.len(), cosine, same));
+    let maths = || each(&tilts, f64::cos);
+    report("cosine (the maths library)", medians(tilts.len(), cosine, maths));
 }
 
 fn distortions(random: &mut Random) {
