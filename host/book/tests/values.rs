@@ -154,7 +154,7 @@ fn score_that_is_not_a_number_loses() {
     // A centre so far out that its penalty isn't a number; the row is seen there.
     let far = Camera { k: [2.0, 2.0, 1e200, 0.0], tangential: [0.0; 2], ..camera() };
     let rows = Rows { numbers: &[0.0, 0.0, 1e200, 0.0], flags: &[1] };
-    let lost = book.answer(&Finding::Solved(far, LEVEL), rows, &mut lent);
+    let lost = book.answer(&Finding::Solved(far), rows, &mut lent);
     assert!(matches!(lost, Answered::Entered(Outcome::Skipped(4))));
     book.next(&lent);
     answer(&mut book, &mut lent, 1.0);
