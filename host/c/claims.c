@@ -130,7 +130,7 @@ static void limits(void) {
           "JC_MOST_SEEDS + 1");
 
     jc_run_record run = jc_next(s.run, list, JC_MOST_LIST).run;
-    jc_solved_camera solved = {{K, {0, 0, 0, 0, 0}}, LEVEL};
+    jc_pinhole_camera solved = {K, {0, 0, 0, 0, 0}};
     claim(jc_answer(run, 1, solved, numbers, JC_ROW_NUMBERS * JC_MOST_ROWS, flags, JC_MOST_ROWS, list, JC_MOST_LIST).number == 0,
           "JC_MOST_ROWS");
     claim(jc_answer(run, 1, solved, numbers, JC_ROW_NUMBERS * (JC_MOST_ROWS + 1), flags, JC_MOST_ROWS + 1, list, JC_MOST_LIST).number ==
