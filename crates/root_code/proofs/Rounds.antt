@@ -1,17 +1,17 @@
 -- From the whole root of a number of 105 or 106 digits to the value that `rootOf` names and its bits. Assumes nothing.
 use mathlib.Core.Path.{_≡_, sym, ap, _∙_, subst}
-use Prim.Native.Nat.{ℕ, zero, suc, _+_, _-_, _*_, _/_, _%_, _^_, _≤_, _<_, compare, Ordering}
+use Prim.Native.Nat.{ℕ, zero, suc, _+_, _-_, _*_, _/_, _^_, _≤_, _<_, compare, Ordering}
 use native.Mathlib.Nat.{le-trans, le-of-eq, le-antisymm, lt-of-lt-of-le, lt-of-not-le, lt-irrefl, le-of-suc-le-suc, le-div-iff-mul-le, div-lt-iff-lt-mul, mul-assoc, mul-mul-mul-comm, mul-le-mul-right, mul-lt-mul-of-pos-right, mul-pos, mul-div-cancel}
 use native.Mathlib.Numerals.{add-one}
 use native.Mathlib.Omega.{arith}
 use mathlib.Core.Bool.{Bool, true, false, not, cond}
-use lib.Dec.{T, ltb, ltb→lt, lt→ltb, nltb→le, not-T}
+use lib.Dec.{T, ltb, ltb→lt, lt→ltb, nltb→le}
 use lib.Pow.{pow-add, pow-pos, pow-mono, shl-lt}
-use lib.Ieee.{inf, Format, prec, emax, low, size, nearest, odd, units, fits, toBits, ofBits, nanBits, binary64}
+use lib.Ieee.{inf, Format, prec, emax, low, size, nearest, odd, units, fits, toBits, ofBits, binary64}
 use lib.Ieee.Digits.{size-lt, size-le}
 use lib.Ieee.Fits.{odd-fits}
 use lib.Ieee.Exact.{units-val}
-use lib.Ieee.Bits.{ofBits-toBits, nanBits-above}
+use lib.Ieee.Bits.{ofBits-toBits}
 use Rattle.root.specs.Root.{isqrt, rootOf}
 use Rattle.root_code.specs.NearestRoot.{NearestRoot}
 use Rattle.root.specs.ByValue.{toBits-is}
@@ -107,10 +107,6 @@ bits-of q k lo hi K =
     ∙ ap (λ (j : ℕ). j * 2 ^ 52 + a / 2 ^ j) z
     ∙ ap (λ (x : ℕ). k * 2 ^ 52 + x) (mul-div-cancel q (pow-pos k)) in
     ap (ofBits binary64) (sym b) ∙ ofBits-toBits binary64 (units binary64 false q k) (units-fit binary64 q k hi fine)
-
--- a pattern below the infinity's is no NaN's
-pub no-nan : (b : ℕ) → b < 0x7ff0_0000_0000_0000 → T (not (nanBits binary64 b))
-no-nan b h = subst (λ (z : Bool). T (not z)) (sym (nanBits-above binary64 b)) (not-T (ltb (0x7ff * 2 ^ 52) (b % 2 ^ 63)) (λ y. omega (arith, ltb→lt (0x7ff * 2 ^ 52) (b % 2 ^ 63) y)))
 
 -- what `rounded` needs of its pattern b
 abbrev pub Answer : ℕ → ℕ → ℕ → Type 0

@@ -1,3 +1,5 @@
+pub mod Bits
+pub mod Quick
 pub mod NearestRoot
 pub mod Exponent
 pub mod Operand

@@ -6,6 +6,7 @@ mod digits;
 pub mod estimate;
 pub mod from_guess;
 pub mod operand;
+pub mod quick;
 
 ghost use mathlib.Core.Path.{_≡_};
 ghost use Prim.Native.Nat.{_*_, _^_, _<_};

@@ -1,9 +1,9 @@
 // A float taken apart for the root: a root that is known at once, or a significand and an exponent, the latter even.
 
 ghost use mathlib.Core.Path.{_≡_};
-ghost use Prim.Native.Nat.{_+_, _*_, _^_, _<_, _≤_};
+ghost use Prim.Native.Nat.{_+_, _*_, _%_, _^_, _<_, _≤_};
 ghost use lib.Ieee.{nan, binary64, ofBits};
-ghost use Rattle.root_code.specs.Operand.{Bounded, Decomposed};
+ghost use Rattle.root_code.specs.Operand.{Bounded, Decomposed, AsNormal};
 ghost use Rattle.root_code.specs.Exponent.{shifted};
 
 // The value significand * 4^(half - 1074).
@@ -63,6 +63,28 @@ fn normal(b: u64) -> Scaled
 {
     let m = b % 0x10_0000_0000_0000 + 0x10_0000_0000_0000;
     with_even_exponent(m, exponent((b >> 52) + 52))
+}
+
+// m where e is odd, else 0.
+fn if_odd(e: u64, m: u64) -> u64
+    ensures { λ r. ⌜ r ≡ m * (e % 2) ⌝ }
+{
+    if e % 2 == 0 {
+        return 0;
+    }
+    m
+}
+
+// The same for any bits, without a branch: right where they are a normal number's.
+pub fn as_normal(b: u64) -> Scaled
+    ensures { λ r. ⌜ AsNormal b r ⌝ }
+{
+    let e = (b >> 52) + 1073;
+    let m = b % 0x10_0000_0000_0000 + 0x10_0000_0000_0000;
+    Scaled {
+        significand: m + if_odd(e, m),
+        half: e / 2,
+    }
 }
 
 // The root of a NaN and of a negative number.

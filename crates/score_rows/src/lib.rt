@@ -1,11 +1,13 @@
 // The reprojection errors of the rows that the host sends, and their mean.
 // Each function equals its rule, rounded operation by operation, for every input.
+mod blocks;
 
 ghost use mathlib.Core.Path.{_≡_};
 ghost use Prim.Native.Nat.{_+_, _*_, _≤_, _<_};
 ghost use lib.ListN.{length};
-ghost use Rattle.score_rows.specs.Rows.{rowsOf, tiltMatrix, projected, distanceOf, rowError, noErrors, errorSum, meanOf};
-ghost use Rattle.score_rows.specs.Steps.{addRow, pointAt, rowAt};
+ghost use Rattle.score_rows.specs.Rows.{rowsOf, tiltMatrix, projected, noErrors, errorSum, meanOf};
+ghost use Rattle.score_rows.specs.Steps.{addError, squaredDistance, pointAt, squareAt, addRow, addRows};
+use crate::blocks::add_blocks;
 use camera_models::distortion::distort;
 use camera_models::intrinsics::sensor_to_pixel;
 use camera_models::math::Pt2;
@@ -52,29 +54,27 @@ fn project_point(camera: PinholeCamera, h: [[f64; 3]; 3], ideal: Pt2) -> Pt2
     sensor_to_pixel(camera.k, apply_homography(h, distort(camera.dist, ideal)))
 }
 
-fn distance(p: Pt2, q: Pt2) -> f64
-    ensures { λ r. ⌜ r ≡ distanceOf p q ⌝ }
+// The square of the distance of two points.
+fn squared_distance(p: Pt2, q: Pt2) -> f64
+    ensures { λ r. ⌜ r ≡ squaredDistance p q ⌝ }
 {
     let dx = p.x - q.x;
     let dy = p.y - q.y;
-    root_code::sqrt(dx * dx + dy * dy)
+    dx * dx + dy * dy
 }
 
-fn reproj_error(camera: PinholeCamera, h: [[f64; 3]; 3], row: Row) -> f64
-    ensures { λ r. ⌜ r ≡ rowError camera h row ⌝ }
+// The square of a row's error.
+fn squared_error(camera: PinholeCamera, h: [[f64; 3]; 3], ideal: Pt2, seen: Pt2) -> f64
+    ensures { λ r. ⌜ r ≡ squaredDistance (projected camera h ideal) seen ⌝ }
 {
-    distance(project_point(camera, h, row.ideal), row.seen)
+    squared_distance(project_point(camera, h, ideal), seen)
 }
 
-// One more row: a point in front of the camera with a finite error is counted.
-fn add_row(total: ErrorSum, camera: PinholeCamera, h: [[f64; 3]; 3], row: Row) -> ErrorSum
-    ensures { λ r. ⌜ r ≡ addRow total camera h row ⌝ }
+// One more error, counted or not.
+fn add_error(total: ErrorSum, counted: bool, err: f64) -> ErrorSum
+    ensures { λ r. ⌜ r ≡ addError total counted err ⌝ }
 {
-    if row.flag != 1 {
-        return total;
-    }
-    let err = reproj_error(camera, h, row);
-    if float::is_finite(err) {
+    if counted {
         return ErrorSum {
             sum: total.sum + err,
             count: std::num::wrapping_add_u64(total.count, 1),
@@ -83,19 +83,19 @@ fn add_row(total: ErrorSum, camera: PinholeCamera, h: [[f64; 3]; 3], row: Row) -
     total
 }
 
-// The step for one row: the running sum and count are lent to it, and it changes them.
-fn count_row(total: &mut ErrorSum, camera: PinholeCamera, h: [[f64; 3]; 3], row: Row)
-    ensures { λ _. ⌜ now (total .exit) ≡ addRow (now (total .entry)) camera h row ⌝ }
+// The step for one row, once it is known whether it counts: the running sum and count are lent to it, and it changes them.
+fn add_if_counted(total: &mut ErrorSum, counted: bool, err: f64)
+    ensures { λ _. ⌜ now (total .exit) ≡ addError (now (total .entry)) counted err ⌝ }
 {
-    *total = add_row(*total, camera, h, row);
+    *total = add_error(*total, counted, err);
 }
 
 // The same by value: its callers lend nothing.
-fn with_row(total: ErrorSum, camera: PinholeCamera, h: [[f64; 3]; 3], row: Row) -> ErrorSum
-    ensures { λ r. ⌜ r ≡ addRow total camera h row ⌝ }
+fn with_error(total: ErrorSum, counted: bool, err: f64) -> ErrorSum
+    ensures { λ r. ⌜ r ≡ addError total counted err ⌝ }
 {
     let mut lent = total;
-    count_row(&mut lent, camera, h, row);
+    add_if_counted(&mut lent, counted, err);
     lent
 }
 
@@ -109,17 +109,58 @@ fn point_at(numbers: &[f64], at: usize) -> Pt2
     }
 }
 
-fn read_row(rows: &[f64], flags: &[u8], i: usize) -> Row
-    requires { ⌜ (4 * i + 4 ≤ length (now rows)) × (i < length (now flags)) ⌝ }
-    ensures { λ r. ⌜ r ≡ rowAt (now (rows .entry)) (now (flags .entry)) i ⌝ }
+// The square of the error of row k.
+fn square_at(camera: PinholeCamera, h: [[f64; 3]; 3], rows: &[f64], k: usize) -> f64
+    requires { ⌜ 4 * k + 4 ≤ length (now rows) ⌝ }
+    ensures { λ r. ⌜ r ≡ squareAt camera h (now (rows .entry)) k ⌝ }
 {
-    let ideal = point_at(rows, 4 * i);
-    let seen = point_at(rows, 4 * i + 2);
-    Row {
-        ideal,
-        seen,
-        flag: flags[i],
+    let ideal = point_at(rows, 4 * k);
+    let seen = point_at(rows, 4 * k + 2);
+    squared_error(camera, h, ideal, seen)
+}
+
+// One more row: row k. It is counted if it lies in front of the camera and has a finite error, and not projected if it lies behind.
+fn add_row(
+    total: ErrorSum,
+    camera: PinholeCamera,
+    h: [[f64; 3]; 3],
+    rows: &[f64],
+    flags: &[u8],
+    k: usize,
+) -> ErrorSum
+    requires { ⌜ (4 * k + 4 ≤ length (now rows)) × (k < length (now flags)) ⌝ }
+    ensures { λ r. ⌜ r ≡ addRow total camera h (now (rows .entry)) (now (flags .entry)) k ⌝ }
+{
+    if flags[k] != 1 {
+        return total;
     }
+    let err = root_code::sqrt(square_at(camera, h, rows, k));
+    if float::is_finite(err) {
+        return with_error(total, true, err);
+    }
+    total
+}
+
+// The n rows from row i on, one by one.
+fn add_rows(
+    total: ErrorSum,
+    camera: PinholeCamera,
+    h: [[f64; 3]; 3],
+    rows: &[f64],
+    flags: &[u8],
+    i: usize,
+    n: usize,
+) -> ErrorSum
+    requires { ⌜ (4 * (i + n) ≤ length (now rows)) × (i + n ≤ length (now flags)) ⌝ }
+    ensures { λ r. ⌜ r ≡ addRows total camera h (now (rows .entry)) (now (flags .entry)) i n ⌝ }
+{
+    let mut sum = total;
+    let mut j = 0;
+    while j < n {
+        sum = add_row(sum, camera, h, rows, flags, i + j);
+        j += 1;
+    }
+    sum
 }
 
 // How many rows there are: four numbers and a flag each.
@@ -140,7 +181,7 @@ fn no_errors() -> ErrorSum
     ErrorSum { sum: 0.0, count: 0 }
 }
 
-// Sum and count of the errors of all rows.
+// Sum and count of the errors of all rows. Few rows have a loop of their own, in which nothing is made ready for blocks.
 pub fn reproj_error_sum(
     camera: PinholeCamera,
     h: [[f64; 3]; 3],
@@ -150,11 +191,13 @@ pub fn reproj_error_sum(
     ensures { λ r. ⌜ r ≡ errorSum camera h (rowsOf (now (rows .entry)) (now (flags .entry))) ⌝ }
 {
     let n = row_count(rows, flags);
+    if 8 <= n {
+        return add_blocks(no_errors(), camera, h, rows, flags, n);
+    }
     let mut total = no_errors();
     let mut i = 0;
     while i < n {
-        let row = read_row(rows, flags, i);
-        total = with_row(total, camera, h, row);
+        total = add_row(total, camera, h, rows, flags, i);
         i += 1;
     }
     total

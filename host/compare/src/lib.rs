@@ -1,4 +1,7 @@
-//! The proved library beside the oracle, which is the published Rust text, for each operation and for searches in order. The crate
-//! `beside` has the lists of calls that it and the plain book are given.
+//! The proved library beside the oracle, which is the published Rust text, for each operation and for searches in order, and beside
+//! the plain loop in C, for the rows that the library takes in blocks. The crate `beside` has the lists of calls that it and the plain
+//! book are given.
 
+pub mod blocks;
 pub mod library;
+pub mod plain;

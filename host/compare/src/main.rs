@@ -1,8 +1,9 @@
-//! Compares the library with the oracle and with the book, and prints what was compared and every difference with its input.
+//! Compares the library with the oracle, with the book and, for rows in blocks, with the plain loop, and prints what was compared and every difference with its input.
 //!
 //!     compare [LEAF CASES] [SEARCHES] [SEED]
 
 use beside::calls::{Tally, play};
+use compare::blocks;
 use compare::library::answer_words;
 use oracle::generate::{Endless, endless};
 use oracle::operations::search::Inputs;
@@ -44,6 +45,7 @@ fn main() -> ExitCode {
         let count = if family.operation == "search" { searches } else { each };
         compare_with_oracle(family, count, &mut differences);
     }
+    compare_blocks(each, seed, &mut differences);
     compare_with_book(searches, seed, &mut differences);
     println!("{} differences", differences.count);
     if differences.count == 0 { ExitCode::SUCCESS } else { ExitCode::FAILURE }
@@ -60,6 +62,15 @@ fn compare_roots(count: usize, seed: &str, differences: &mut Differences) {
         }
     }
     println!("{:28}{count} cases", "sqrt (the machine's)");
+}
+
+/// Rows in blocks beside the plain loop.
+fn compare_blocks(count: usize, seed: &str, differences: &mut Differences) {
+    let mut random = Random::named(&format!("blocks, {seed}"));
+    let (placed, faults) = blocks::in_each_place(&mut random);
+    let others = blocks::at_random(count, &mut random);
+    faults.iter().chain(&others).for_each(|fault| differences.add(fault));
+    println!("{:28}{placed} and {count} cases", "rows in blocks (plain C)");
 }
 
 fn compare_with_oracle(family: Endless, count: usize, differences: &mut Differences) {

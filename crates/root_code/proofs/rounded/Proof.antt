@@ -1,7 +1,8 @@
 -- `root_code::rounded` meets its contract. Assumes nothing.
 use Prim.Native.Nat.{_+_, _-_, _*_, _^_}
 use native.Mathlib.Omega.{arith}
-use Rattle.root_code.proofs.Rounds.{Answer, answer, no-nan}
+use Rattle.root_code.proofs.Rounds.{Answer, answer}
+use Rattle.root_code.specs.Bits.{no-nan}
 use borrow.Author.Needs.{needs}
 use Rattle.root_code.proofs.rounded.Statement.{statement}
 use Rattle.root_code.proofs.rounded.Tie as tie

@@ -1,43 +1,53 @@
--- `score_rows::add_row` meets its contract: a row is left out where its flag is not 1 or its error not finite. Assumes nothing.
-use mathlib.Core.Path.{sym, ap, _∙_}
+-- `score_rows::add_row` meets its contract: its tests are the definition's. Assumes nothing.
+use mathlib.Core.Path.{sym}
+use borrow.Author.Tests.{ne-eqb, eq-eqb}
 use borrow.Author.Needs.{needs}
-use borrow.Author.Tests.{eq-eqb, ne-eqb}
-use Rattle.float.specs.Float.{isFinite}
-use Rattle.score_rows.specs.Steps.{row-behind, row-infinite, row-counted}
+use Rattle.score_rows.specs.Steps.{addError, addRow}
 use Rattle.score_rows.proofs.add_row.Statement.{statement}
 use Rattle.score_rows.proofs.add_row.Tie as tie
 
-returns : tie.Need-returns
-returns c = row-behind _ _ _ _ (ne-eqb _ _ (c .if1 .taken))
+shared-slice-read-if1 : tie.Need-shared-slice-read-if1
+shared-slice-read-if1 c = search needs
 
-reproj-error-requires : tie.Need-reproj-error-requires
-reproj-error-requires c κs = search needs
+returns : tie.Need-returns
+unfolding addRow addError
+returns c = simp (ne-eqb _ _ (c .if1 .taken))
+
+square-at-requires : tie.Need-square-at-requires
+square-at-requires c κs = search needs
+
+sqrt-requires : tie.Need-sqrt-requires
+sqrt-requires c κs = search needs
 
 is-finite-requires : tie.Need-is-finite-requires
 is-finite-requires c κs = search needs
 
-wrapping-add-u64-requires : tie.Need-wrapping-add-u64-requires
-wrapping-add-u64-requires c κs = search needs
+with-error-requires : tie.Need-with-error-requires
+with-error-requires c κs = search needs
 
 returns-2 : tie.Need-returns-2
+unfolding addRow
 returns-2 c =
-    let a = c .before .before .before .before .before .before .before .args in
-    let e = eq-eqb _ _ (c .before .before .before .before .before .if1 .left) in
-    let finite = ap isFinite (sym (c .before .before .before .before .reproj-error .ensures)) ∙ sym (c .before .before .before .is-finite .ensures) ∙ c .before .before .if2 .taken in
-    rw (c .wrapping-add-u64 .ensures, c .before .before .before .before .reproj-error .ensures) (row-counted (a .total) (a .camera) (a .h) (a .row) e finite)
+    let f = c .before .before .is-finite in
+    let q = c .before .before .before .sqrt in
+    rw (c .with-error .ensures, c .before .before .before .before .before .if1 .left, sym (c .before .before .before .before .square-at .ensures), sym (q .ensures), sym (f .ensures), c .before .if2 .taken)
 
 returns-3 : tie.Need-returns-3
+unfolding addRow addError
 returns-3 c =
-    let infinite = ap isFinite (sym (c .before .before .reproj-error .ensures)) ∙ sym (c .before .is-finite .ensures) ∙ c .if2 .left in
-    row-infinite _ _ _ _ (eq-eqb _ _ (c .before .before .before .if1 .left)) infinite
+    let f = c .before .is-finite in
+    let q = c .before .before .sqrt in
+    rw (c .before .before .before .before .if1 .left, sym (c .before .before .before .square-at .ensures), sym (q .ensures), sym (f .ensures), c .if2 .left)
 
 pub add-row-spec : {M : Type 1} → statement M
 add-row-spec =
     tie.close
     (tie.spec
+    shared-slice-read-if1
     returns
-    reproj-error-requires
+    square-at-requires
+    sqrt-requires
     is-finite-requires
-    wrapping-add-u64-requires
+    with-error-requires
     returns-2
     returns-3)

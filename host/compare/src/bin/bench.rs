@@ -1,7 +1,9 @@
-//! Times the library beside the published Rust (the oracle's build of it): same inputs, same process, release builds.
-//! Prints a table of medians of many short turns, which the two sides take in turn. No buffer is cleared between two turns; both
-//! sides run on warm memory. Linux only, for its clock of a thread's time.
+//! Times the library beside the published Rust (the oracle's build of it) and, for scoring, beside plain C (`plain.c`): same inputs,
+//! same process, release builds. Prints a table of medians of many short turns, which the sides take in turn. No buffer is cleared
+//! between two turns; all sides run on warm memory, and none copies rows. Linux only, for its clock of a thread's time.
+//! An argument asks for one part: roots, sines, distortions, scorings, lists or runs.
 
+use compare::plain::plain_c;
 use jinnychair::record::{self, answer, next, seed, start};
 use jinnychair::{
     BrownConrady5, Finding as LibraryFinding, FxFyCxCy, Handed, PinholeCamera, Pt2, Rows,
@@ -10,6 +12,7 @@ use jinnychair::{
 use oracle::operations::search::{Inputs, run};
 use random::Random;
 use std::hint::black_box;
+use std::rc::Rc;
 use vision_calibration_core::given_tilt::{self, GivenTilt};
 use vision_calibration_core::{
     BrownConrady5 as PublishedDistortion, DistortionModel, Pt2 as PublishedPoint,
@@ -76,15 +79,27 @@ impl<F: FnMut()> Side<F> {
 /// Median nanoseconds for one of `count` operations on each side. The sides take turns, so that a change of the processor's clock
 /// meets both.
 fn medians(count: usize, library: impl FnMut(), rust: impl FnMut()) -> [f64; 2] {
-    let (mut library, mut rust) = (Side::new(library), Side::new(rust));
+    let [library, rust, _] = all_medians(count, library, rust, || ());
+    [library, rust]
+}
+
+/// The same with plain C as a third side.
+fn all_medians(
+    count: usize,
+    library: impl FnMut(),
+    rust: impl FnMut(),
+    c: impl FnMut(),
+) -> [f64; 3] {
+    let (mut library, mut rust, mut c) = (Side::new(library), Side::new(rust), Side::new(c));
     let mut spent = 0.0;
     while spent < BUDGET || library.times.len() < FEWEST_TURNS {
         let start = time_on_processor();
         library.go();
         rust.go();
+        c.go();
         spent += time_on_processor() - start;
     }
-    [library.median(), rust.median()].map(|time| time / count as f64)
+    [library.median(), rust.median(), c.median()].map(|time| time / count as f64)
 }
 
 /// Uses a value as far as the compiler can tell.
@@ -92,27 +107,42 @@ fn keep<T>(value: T) {
     black_box(value);
 }
 
-fn report(name: &str, [library, rust]: [f64; 2]) {
+fn report(name: &str, [library, rust]: [f64; 2], c: Option<f64>) {
     let time = |ns: f64| match ns {
         ns if ns < 1e4 => format!("{ns:.1} ns"),
         ns if ns < 1e7 => format!("{:.1} µs", ns / 1e3),
         ns => format!("{:.1} ms", ns / 1e6),
     };
-    println!("| {name} | {} | {} | {:.2} |", time(library), time(rust), library / rust);
+    let beside = c.map_or(" | ".to_owned(), |c| format!("{} | {:.2}", time(c), library / c));
+    println!("| {name} | {} | {} | {:.2} | {beside} |", time(library), time(rust), library / rust);
 }
 
 fn main() {
-    println!("| what | library | Rust | ratio |\n|---|---|---|---|");
+    println!("| what | library | Rust | ratio | C | ratio |\n|---|---|---|---|---|---|");
+    let asked = std::env::args().nth(1);
+    let goes = |part: &str| asked.as_deref().is_none_or(|asked| asked == part);
     let mut random = Random::named("bench");
-    roots(&mut random);
-    sines(&mut random);
-    distortions(&mut random);
-    scoring(&mut random);
-    first_list("building a round-0 list of 512 seeds", &most_seeds(), 512);
-    first_list("the same of 256 seeds near their predecessors", &close_seeds(), 65);
     let rows = rows(&mut random);
-    whole_run("a whole run of 656 answers with 900 rows", &rows);
-    whole_run("the same with one row: all but the scoring", &rows[..1]);
+    if goes("roots") {
+        roots(&mut random);
+    }
+    if goes("sines") {
+        sines(&mut random);
+    }
+    if goes("distortions") {
+        distortions(&mut random);
+    }
+    if goes("scorings") {
+        scorings(&rows, &mut random);
+    }
+    if goes("lists") {
+        first_list("building a round-0 list of 512 seeds", &most_seeds(), 512);
+        first_list("the same of 256 seeds near their predecessors", &close_seeds(), 65);
+    }
+    if goes("runs") {
+        whole_run("a whole run of 656 answers with 900 rows", &rows);
+        whole_run("the same with one row: all but the scoring", &rows[..1]);
+    }
 }
 
 fn roots(random: &mut Random) {
@@ -125,7 +155,7 @@ fn roots(random: &mut Random) {
         || independent(&numbers, geometry::sqrt),
         || independent(&numbers, f64::sqrt),
     );
-    report("root (the Rust's is one instruction)", times);
+    report("root (the Rust's is one instruction)", times, None);
     // Each root waits for the one before.
     fn in_turn(numbers: &[f64], root: impl Fn(f64) -> f64) {
         keep(numbers.iter().fold(1.5, |last, x| x + 1e-3 * root(last)));
@@ -135,7 +165,7 @@ fn roots(random: &mut Random) {
         || in_turn(&numbers, geometry::sqrt),
         || in_turn(&numbers, f64::sqrt),
     );
-    report("root, each waiting for the last", times);
+    report("root, each waiting for the last", times, None);
 }
 
 /// ±1/n! with the signs + + − −.
@@ -184,14 +214,14 @@ fn sines(random: &mut Random) {
     }
     let sine = || each(&tilts, geometry::sine);
     let same = || each(&tilts, sine_in_rust);
-    report("sine (the same loop in Rust)", medians(tilts.len(), sine, same));
+    report("sine (the same loop in Rust)", medians(tilts.len(), sine, same), None);
     let maths = || each(&tilts, f64::sin);
-    report("sine (the maths library)", medians(tilts.len(), sine, maths));
+    report("sine (the maths library)", medians(tilts.len(), sine, maths), None);
     let cosine = || each(&tilts, geometry::cosine);
     let same = || each(&tilts, cosine_in_rust);
-    report("cosine (the same loop in Rust)", medians(tilts.len(), cosine, same));
+    report("cosine (the same loop in Rust)", medians(tilts.len(), cosine, same), None);
     let maths = || each(&tilts, f64::cos);
-    report("cosine (the maths library)", medians(tilts.len(), cosine, maths));
+    report("cosine (the maths library)", medians(tilts.len(), cosine, maths), None);
 }
 
 fn distortions(random: &mut Random) {
@@ -205,13 +235,13 @@ fn distortions(random: &mut Random) {
         || each(&|[x, y]| keep(b.distort(black_box(Pt2 { x, y })))),
         || each(&|[x, y]| keep(p.distort(&black_box(PublishedPoint::new(x, y))))),
     );
-    report("distort", times);
+    report("distort", times, None);
     let times = medians(
         points.len(),
         || each(&|[x, y]| keep(b.undistort(0, black_box(Pt2 { x, y })))),
         || each(&|[x, y]| keep(p.undistort(&black_box(PublishedPoint::new(x, y))))),
     );
-    report("undistort", times);
+    report("undistort", times, None);
 }
 
 const CAMERA: [f64; 9] = [800.0, 790.0, 320.5, 239.25, 0.0, 0.0, 0.0, 0.01, -0.02];
@@ -240,24 +270,41 @@ fn given(trig: TiltTrig) -> GivenTilt {
     GivenTilt { sin_x: trig.sin_x, cos_x: trig.cos_x, sin_y: trig.sin_y, cos_y: trig.cos_y }
 }
 
-fn scoring(random: &mut Random) {
-    let rows = rows(random);
-    let (numbers, flags) = flat(&rows);
+fn scoring(name: &str, rows: &[Row]) {
+    let (numbers, flags) = flat(rows);
     let tilts = ScheimpflugParams { tilt_x: 0.05, tilt_y: -0.02 };
     let trig = TiltTrig::try_from(tilts).expect("small tilts");
     let camera = library_camera();
-    let library = || {
+    let of_library = || {
         let rows = Rows { numbers: black_box(&numbers), flags: &flags };
-        black_box(geometry::mean_reproj_error(camera, trig, rows));
+        geometry::mean_reproj_error(camera, trig, rows)
     };
+    let of_c = || plain_c(&CAMERA, &trig, black_box(&numbers), &flags);
+    assert_eq!(of_library().to_bits(), of_c().to_bits());
     let (dataset, poses, camera) =
-        (dataset_of_rows(&rows), identity_poses(), pinhole_camera(CAMERA));
+        (dataset_of_rows(rows), identity_poses(), pinhole_camera(CAMERA));
     let rust = || {
         given_tilt::give(given(trig));
         let tilts = PublishedTilts::default();
         black_box(published::mean_reproj_error(black_box(&dataset), &camera, tilts, &poses));
     };
-    report("projecting and scoring 900 rows", medians(1, library, rust));
+    let times = all_medians(1, || keep(of_library()), rust, || keep(of_c()));
+    report(name, [times[0], times[1]], Some(times[2]));
+}
+
+/// Times the scoring of different numbers of rows, and of rows that lie behind the camera.
+fn scorings(rows: &[Row], random: &mut Random) {
+    for count in [1, 10, 100, ROWS] {
+        scoring(&format!("projecting and scoring {count} rows"), &rows[..count]);
+    }
+    let mut with_flags = |name: &str, mut in_front: Box<dyn FnMut(&mut Random) -> bool>| {
+        let mut rows = rows.to_vec();
+        rows.iter_mut().for_each(|row| row.in_front = in_front(random));
+        scoring(&format!("{ROWS} rows, {name}"), &rows);
+    };
+    with_flags("half of them at random behind the camera", Box::new(|random| random.once_in(2)));
+    with_flags("three of four at random behind the camera", Box::new(|random| random.once_in(4)));
+    with_flags("all behind the camera", Box::new(|_| false));
 }
 
 /// 256 decomposition seeds and a grid of 16 by 16, none of them near another.
@@ -303,13 +350,13 @@ fn first_list(name: &str, inputs: &Inputs, kept: usize) {
     let base = pinhole_camera(CAMERA).k;
     let never_asked = |_: &SeedNumbers| Finding::Failed;
     let rust = || {
-        let (seeds, _) = play(inputs.given(), never_asked, || {
+        let (seeds, _) = play(inputs.given(false), never_asked, || {
             published::validate_options(&dataset, &options)?;
             published::initial_seed_grid(&dataset, &base, &options)
         });
         assert_eq!(black_box(seeds).expect("good inputs").len(), kept);
     };
-    report(name, medians(1, library, rust));
+    report(name, medians(1, library, rust), None);
 }
 
 fn whole_run(name: &str, rows: &[Row]) {
@@ -329,18 +376,12 @@ fn whole_run(name: &str, rows: &[Row]) {
         assert_eq!(run.place.number, 656);
         black_box(record::result(&run)).expect("a winner");
     };
-    let scripted = || {
-        let rows = rows.to_vec();
-        let host = move |_: &SeedNumbers| Finding::Solved { camera: CAMERA, rows: rows.clone() };
+    let shared = Rc::new(dataset_of_rows(rows));
+    let rust = || {
+        let shared = shared.clone();
+        let host =
+            move |_: &SeedNumbers| Finding::Shared { camera: CAMERA, rows: shared.clone() };
         black_box(run(&inputs, host)).expect("a winner");
     };
-    let [library, scripted] = medians(1, library, scripted);
-    // The script of the oracle copies each answer's rows into a dataset; that copying is timed alone and taken off.
-    let copying = || {
-        for _ in 0..656 {
-            black_box(dataset_of_rows(&black_box(rows.to_vec())));
-        }
-    };
-    let [copying, _] = medians(1, copying, || ());
-    report(name, [library, scripted - copying]);
+    report(name, medians(1, library, rust), None);
 }

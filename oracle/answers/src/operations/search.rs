@@ -173,6 +173,7 @@ fn option_refusal(error: &Error) -> Result<u64, String> {
 pub fn finding_words(finding: &Finding) -> Vec<u64> {
     match finding {
         Finding::Failed => vec![0],
+        Finding::Shared { .. } => unreachable!("no case has shared rows"),
         Finding::Solved { camera, rows } => {
             let mut words = vec![1];
             words.extend(float_words(camera));

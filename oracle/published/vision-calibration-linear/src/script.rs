@@ -6,6 +6,7 @@
 
 use crate::Error;
 use std::cell::RefCell;
+use std::rc::Rc;
 use vision_calibration_core::given_tilt::{self, GivenTilt};
 use vision_calibration_core::{
     BrownConrady5, CorrespondenceView, FxFyCxCy, Iso3, PinholeCamera, PlanarDataset, Pt2, Pt3,
@@ -40,6 +41,8 @@ pub struct Row {
 pub enum Finding {
     Failed,
     Solved { camera: CameraNumbers, rows: Vec<Row> },
+    /// The same with rows that many findings share, so that nothing is copied: for timing.
+    Shared { camera: CameraNumbers, rows: Rc<PlanarDataset> },
 }
 
 /// What the search makes of a finding.
@@ -162,15 +165,20 @@ pub(crate) fn hand_out(seed: SeedNumbers) {
 
 /// The base camera while no seed waits, else the finding's camera.
 pub(crate) fn camera() -> Result<PinholeCamera, Error> {
-    let (base, waiting, finding) =
-        with(|play| (play.given.base, play.waiting, play.finding.clone()));
-    match (waiting, finding) {
+    let (base, waiting, found) = with(|play| {
+        let found = match &play.finding {
+            Finding::Solved { camera, .. } | Finding::Shared { camera, .. } => Some(*camera),
+            Finding::Failed => None,
+        };
+        (play.given.base, play.waiting, found)
+    });
+    match (waiting, found) {
         (None, _) => {
             let [fx, fy, cx, cy] = base;
             Ok(pinhole_camera([fx, fy, cx, cy, 0.0, 0.0, 0.0, 0.0, 0.0]))
         }
-        (Some(_), Finding::Solved { camera, .. }) => Ok(pinhole_camera(camera)),
-        (Some(_), Finding::Failed) => {
+        (Some(_), Some(camera)) => Ok(pinhole_camera(camera)),
+        (Some(_), None) => {
             enter(Outcome::HostFailed);
             Err(Error::numerical("the host failed"))
         }
@@ -181,9 +189,10 @@ pub(crate) fn poses() -> Vec<Iso3> {
     identity_poses()
 }
 
-pub(crate) fn rows() -> PlanarDataset {
+pub(crate) fn rows() -> Rc<PlanarDataset> {
     with(|play| match &play.finding {
-        Finding::Solved { rows, .. } => dataset_of_rows(rows),
+        Finding::Solved { rows, .. } => Rc::new(dataset_of_rows(rows)),
+        Finding::Shared { rows, .. } => rows.clone(),
         Finding::Failed => unreachable!("a failed finding ends its candidate before the rows"),
     })
 }
