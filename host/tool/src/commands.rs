@@ -4,7 +4,10 @@ mod chart;
 mod known_camera;
 mod search;
 
+use crate::screen::{Screen, aside};
 use std::collections::VecDeque;
+use std::ffi::OsString;
+use std::os::unix::ffi::{OsStrExt, OsStringExt};
 use std::process::ExitCode;
 
 /// How a command ends when it does its work.
@@ -37,34 +40,59 @@ struct Command {
     /// One line, for the list of commands.
     does: &'static str,
     help: &'static str,
-    run: fn(Words) -> Result<End, Fault>,
+    run: fn(Words, &mut Screen) -> Result<End, Fault>,
 }
 
 const COMMANDS: &[Command] = &[search::COMMAND, chart::COMMAND, known_camera::COMMAND];
 
-const EXIT_CODES: &str = "Exit codes: 0 good, 1 failed, 2 wrong words, 3 doubtful: a result, with a reason why it may be wrong.";
+const EXIT_CODES: &str = "Exit codes: 0 good, 1 failed, 2 wrong words, 3 doubtful: a result, with a reason why it may \
+                          be wrong.";
 
 /// The words after the program's name, or after a command's.
 pub struct Words {
-    left: VecDeque<String>,
+    left: VecDeque<OsString>,
+    /// An option that was written with `=` and its value, until that is taken.
+    attached: Option<(String, OsString)>,
+}
+
+/// A word: an option, or the name of a file.
+enum Word {
+    Option(String),
+    File(OsString),
 }
 
 impl Words {
-    /// The next word.
-    fn next(&mut self) -> Option<String> {
-        self.left.pop_front()
+    fn new(words: Vec<OsString>) -> Self {
+        Self { left: words.into(), attached: None }
     }
 
-    /// The next word, which an option needs.
+    /// The next option or file.
+    fn next(&mut self) -> Result<Option<Word>, Fault> {
+        if let Some((option, _)) = &self.attached {
+            return Err(Fault::Usage(format!("{option} takes no value")));
+        }
+        let Some(word) = self.left.pop_front() else { return Ok(None) };
+        let bytes = word.as_bytes();
+        if !bytes.starts_with(b"-") {
+            return Ok(Some(Word::File(word)));
+        }
+        let split = bytes.iter().position(|byte| *byte == b'=').unwrap_or(bytes.len());
+        let option = utf8(OsString::from_vec(bytes[..split].to_vec()))?;
+        if split < bytes.len() {
+            self.attached = Some((option.clone(), OsString::from_vec(bytes[split + 1..].to_vec())));
+        }
+        Ok(Some(Word::Option(option)))
+    }
+
+    /// The value of an option, as a file's name.
+    fn file(&mut self, option: &str) -> Result<OsString, Fault> {
+        let value = self.attached.take().map(|(_, value)| value).or_else(|| self.left.pop_front());
+        value.ok_or_else(|| Fault::Usage(format!("{option} lacks a value")))
+    }
+
+    /// The value of an option.
     fn value(&mut self, option: &str) -> Result<String, Fault> {
-        self.next().ok_or_else(|| Fault::Usage(format!("{option} lacks a value")))
-    }
-
-    /// The next word as a finite number.
-    fn number(&mut self, option: &str) -> Result<f64, Fault> {
-        let word = self.value(option)?;
-        let number = word.parse().ok().filter(|x: &f64| x.is_finite());
-        number.ok_or(Fault::Usage(format!("{option}: `{word}` isn't a finite number")))
+        utf8(self.file(option)?)
     }
 
     fn ask_for_help(&self) -> bool {
@@ -72,53 +100,61 @@ impl Words {
     }
 }
 
+fn utf8(word: OsString) -> Result<String, Fault> {
+    word.into_string()
+        .map_err(|word| Fault::Usage(format!("`{}` isn't text in UTF-8", word.display())))
+}
+
 /// A word that no option and no file is.
 fn unknown(word: &str) -> Fault {
-    Fault::Usage(format!("what is `{word}`?"))
+    let file = if word.starts_with('-') {
+        "; a file's name that begins so is written ./-NAME"
+    } else {
+        ""
+    };
+    Fault::Usage(format!("what is `{word}`?{file}"))
 }
 
 fn help() -> String {
     let list: String =
         COMMANDS.iter().map(|c| format!("    jinnychair {:14}{}\n", c.name, c.does)).collect();
     format!(
-        "The proved sensor-tilt search.\n\n{list}\n`jinnychair COMMAND --help` explains a command; `jinnychair --version` names \
-         the version.\n\n{EXIT_CODES}"
+        "The proved sensor-tilt search.\n\n{list}\n`jinnychair COMMAND --help` explains a command; \
+         `jinnychair --version` names the version.\n\n{EXIT_CODES}"
     )
 }
 
 /// Performs what the words ask for.
 #[must_use]
-pub fn run(words: Vec<String>) -> ExitCode {
-    match perform(Words { left: words.into() }) {
-        Ok(End::Good) => ExitCode::SUCCESS,
-        Ok(End::Doubtful) => ExitCode::from(3),
-        Err(Fault::Failed(fault)) => {
-            eprintln!("jinnychair: {fault}");
-            ExitCode::from(1)
-        }
-        Err(Fault::Usage(fault)) => {
-            eprintln!("jinnychair: {fault} (see `jinnychair --help`)");
-            ExitCode::from(2)
-        }
-    }
+pub fn run(words: Vec<OsString>) -> ExitCode {
+    let mut screen = Screen::default();
+    let ended = perform(Words::new(words), &mut screen);
+    let (code, fault) = match (ended, screen.fault()) {
+        (Err(Fault::Usage(fault)), _) => (2, format!("{fault} (see `jinnychair --help`)")),
+        (Err(Fault::Failed(fault)), _) | (Ok(_), Some(fault)) => (1, fault),
+        (Ok(End::Good), None) => return ExitCode::SUCCESS,
+        (Ok(End::Doubtful), None) => return ExitCode::from(3),
+    };
+    aside(&format!("jinnychair: {fault}\n"));
+    ExitCode::from(code)
 }
 
-fn perform(mut words: Words) -> Result<End, Fault> {
+fn perform(mut words: Words, screen: &mut Screen) -> Result<End, Fault> {
     jinnychair::check_version().map_err(|e| e.to_string())?;
-    let Some(name) = words.next() else {
+    let Some(name) = words.left.pop_front() else {
         return Err(Fault::Usage("no command is named".into()));
     };
-    if let Some(command) = COMMANDS.iter().find(|command| command.name == name) {
+    if let Some(command) = COMMANDS.iter().find(|command| name == command.name) {
         if !words.ask_for_help() {
-            return (command.run)(words);
+            return (command.run)(words, screen);
         }
-        println!("{}\n\n{EXIT_CODES}", command.help);
+        screen.say(format!("{}\n\n{EXIT_CODES}", command.help));
         return Ok(End::Good);
     }
-    match name.as_str() {
-        "--help" | "-h" | "help" => println!("{}", help()),
-        "--version" | "-V" => println!("jinnychair {}", env!("CARGO_PKG_VERSION")),
-        word => return Err(unknown(word)),
+    match utf8(name)?.as_str() {
+        "--help" | "-h" | "help" => screen.say(help()),
+        "--version" | "-V" => screen.say(format!("jinnychair {}", env!("CARGO_PKG_VERSION"))),
+        word => return Err(Fault::Usage(format!("what is `{word}`?"))),
     }
     Ok(End::Good)
 }

@@ -1,8 +1,8 @@
 //! Runs the search to its end and keeps every tried tilt.
 
+use crate::residuals::{rms, row_errors};
 use jinnychair::{
-    Inputs, Options, Outcome, PinholeCamera, RunError, Search, Seed, Solution, TiltTrig, Winner,
-    geometry,
+    Inputs, Options, Outcome, PinholeCamera, RunError, Search, Seed, Solution, Winner, geometry,
 };
 
 /// A tried tilt.
@@ -12,12 +12,29 @@ pub struct Tried {
     pub number: usize,
     /// The round that it was tried in.
     pub round: usize,
+    /// Where its seed comes from.
+    pub source: Source,
     /// What the host started from.
     pub seed: Seed,
     /// What became of it.
     pub outcome: Outcome,
     /// More about it, if it was scored.
     pub scored: Option<Scored>,
+    /// How many dots its error rests on; nothing where the host found no camera.
+    pub dots: Option<Dots>,
+}
+
+/// Where a seed comes from.
+#[derive(Clone, Copy, Debug, PartialEq, Eq)]
+pub enum Source {
+    /// The host's decomposition.
+    Decomposition,
+    /// A file of the lab's own seeds.
+    SeedFile,
+    /// The grid of typed tilts.
+    Grid,
+    /// A round around the candidate of this number.
+    Around(usize),
 }
 
 /// The camera of a scored candidate, and how well it fits.
@@ -27,6 +44,17 @@ pub struct Scored {
     pub camera: PinholeCamera,
     /// The mean error of its counted rows, in pixels.
     pub mean: f64,
+    /// The root of their mean square, in pixels.
+    pub rms: f64,
+}
+
+/// Counted dots.
+#[derive(Clone, Copy, Debug, PartialEq, Eq)]
+pub struct Dots {
+    /// Those in front of the camera with a finite error.
+    pub counted: usize,
+    /// All of them.
+    pub all: usize,
 }
 
 /// A search that came to its end.
@@ -38,39 +66,69 @@ pub struct Finished {
     pub winner: Result<Winner, RunError>,
 }
 
-/// Runs the search; `progress` sees each tried tilt.
+/// Runs the search; `sources` says where each decomposition seed of the inputs comes from, and `progress` sees each
+/// tried tilt.
 ///
 /// # Errors
 ///
 /// Says why the search can't start.
 pub fn run(
     inputs: &Inputs,
+    sources: &[Source],
     solve: impl FnMut(&Seed) -> Option<Solution>,
     mut progress: impl FnMut(&Tried),
 ) -> Result<Finished, String> {
     let mut search = Search::start(inputs).map_err(|e| format!("the search can't start: {e}"))?;
-    let mut tried = Vec::new();
+    let mut tried: Vec<Tried> = Vec::new();
     let winner = search.run_watched(solve, |one| {
-        let solution = one.solution.filter(|_| one.outcome.score().is_some());
-        let scored = solution.and_then(|solution| {
-            let trig = TiltTrig::try_from(one.seed.sensor).ok()?;
-            let dist = solution.camera.dist.damped();
-            let camera = PinholeCamera { dist, ..solution.camera };
-            let mean = geometry::mean_reproj_error(camera, trig, solution.rows());
-            Some(Scored { camera, mean })
-        });
+        let source = source(&tried, one.round, &one.seed, inputs.decomposition, sources);
         let (number, round, seed, outcome) = (one.number, one.round, one.seed, one.outcome);
-        let one = Tried { number, round, seed, outcome, scored };
+        let scored = one.solution.filter(|_| outcome.score().is_some());
+        let scored = scored.map(|solution| fit_of(&seed, solution));
+        let dots = one.solution.map(|solution| dots_of(&seed, solution));
+        let one = Tried { number, round, source, seed, outcome, scored, dots };
         progress(&one);
         tried.push(one);
     });
     Ok(Finished { tried, winner })
 }
 
+/// Where a seed comes from: a later round lies around the best of the round before, or where that has none, of all.
+fn source(
+    tried: &[Tried],
+    round: usize,
+    seed: &Seed,
+    given: &[Seed],
+    sources: &[Source],
+) -> Source {
+    if round > 0 {
+        let before = tried.iter().filter(|one| one.round + 1 == round);
+        let centre = best(before).or(best(tried.iter().filter(|one| one.round < round)));
+        return Source::Around(centre.map_or(0, |one| one.number));
+    }
+    let same = |other: &Seed| other.numbers().map(f64::to_bits) == seed.numbers().map(f64::to_bits);
+    let place = given.iter().position(same);
+    place.and_then(|place| sources.get(place)).copied().unwrap_or(Source::Grid)
+}
+
+fn fit_of(seed: &Seed, solution: &Solution) -> Scored {
+    let camera = PinholeCamera { dist: solution.camera.dist.damped(), ..solution.camera };
+    let mean =
+        geometry::mean_reproj_error(camera, crate::residuals::trig(seed.sensor), solution.rows());
+    let errors = row_errors(camera, seed.sensor, solution.rows());
+    Scored { camera, mean, rms: rms(errors.iter().flatten()) }
+}
+
+fn dots_of(seed: &Seed, solution: &Solution) -> Dots {
+    let camera = PinholeCamera { dist: solution.camera.dist.damped(), ..solution.camera };
+    let errors = row_errors(camera, seed.sensor, solution.rows());
+    Dots { counted: errors.iter().flatten().count(), all: solution.flags.len() }
+}
+
 /// The earliest of the lowest-scored ones, as the search chooses it.
 #[must_use]
-pub fn best(tried: &[Tried]) -> Option<&Tried> {
-    let scored = tried.iter().filter_map(|one| one.outcome.score().map(|score| (one, score)));
+pub fn best<'a>(tried: impl IntoIterator<Item = &'a Tried>) -> Option<&'a Tried> {
+    let scored = tried.into_iter().filter_map(|one| one.outcome.score().map(|score| (one, score)));
     scored.reduce(|best, new| if new.1 < best.1 { new } else { best }).map(|(one, _)| one)
 }
 
@@ -79,4 +137,10 @@ pub fn best(tried: &[Tried]) -> Option<&Tried> {
 pub fn last_step(options: &Options) -> f64 {
     let halvings = options.refine_rounds.saturating_sub(1);
     options.refine_step * 0.5f64.powi(i32::try_from(halvings).unwrap_or(i32::MAX))
+}
+
+/// How far the rounds together move from a seed, in each tilt, in radians.
+#[must_use]
+pub fn reach(options: &Options) -> f64 {
+    if options.refine_rounds == 0 { 0.0 } else { 2.0 * options.refine_step - last_step(options) }
 }

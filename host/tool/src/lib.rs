@@ -3,6 +3,8 @@
 //! | module | does |
 //! |---|---|
 //! | [`commands`] | the sub-commands, their words and what they end with |
+//! | [`choices`] | what a lab chooses: tilts, bound, step, rounds, seeds, limits |
+//! | [`plan`] | what will be tried and what can be missed, told before the search |
 //! | [`views`] | reads the views of a plate from a text file |
 //! | [`synthetic`] | makes views of a plate seen by a known camera |
 //! | [`linear`] | eigenvectors and least squares, as far as needed here |
@@ -11,20 +13,31 @@
 //! | [`pose`] | where the plate was |
 //! | [`solve`] | base camera, decomposition seed, and the solved camera of each tilt |
 //! | [`drive`] | runs the search and keeps every tried tilt |
-//! | [`doubts`] | why a winner may not be the sensor's tilt |
-//! | [`chart`], [`table`] | what was tried, as a picture and as text |
-//! | [`files`] | files that are written whole or not at all |
+//! | [`residuals`] | the errors, dot by dot and view by view |
+//! | [`open`] | how far the winner's tilts are left open |
+//! | [`verdict`] | what speaks against the winner, and what to do |
+//! | [`report`] | the winner in words |
+//! | [`table`], [`chart`] | the search as text, and as a picture drawn from that |
+//! | [`files`], [`screen`], [`date`], [`angle`] | files, standard output, the date, angles with their unit |
 
+pub mod angle;
 pub mod chart;
+pub mod choices;
 pub mod commands;
-pub mod doubts;
+pub mod date;
 pub mod drive;
 pub mod files;
 pub mod homography;
 pub mod linear;
+pub mod open;
+pub mod plan;
 pub mod pose;
+pub mod report;
+pub mod residuals;
+pub mod screen;
 pub mod solve;
 pub mod synthetic;
 pub mod table;
+pub mod verdict;
 pub mod views;
 pub mod zhang;

@@ -22,6 +22,11 @@ pub fn dot(a: &[f64; 3], b: &[f64; 3]) -> f64 {
     a[0] * b[0] + a[1] * b[1] + a[2] * b[2]
 }
 
+/// The vector product.
+pub fn cross(a: &[f64; 3], b: &[f64; 3]) -> [f64; 3] {
+    [a[1] * b[2] - a[2] * b[1], a[2] * b[0] - a[0] * b[2], a[0] * b[1] - a[1] * b[0]]
+}
+
 /// a + t × b.
 pub fn add_scaled(a: &[f64; 3], t: f64, b: &[f64; 3]) -> [f64; 3] {
     std::array::from_fn(|i| a[i] + t * b[i])

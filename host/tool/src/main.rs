@@ -3,5 +3,5 @@
 use std::process::ExitCode;
 
 fn main() -> ExitCode {
-    tool::commands::run(std::env::args().skip(1).collect())
+    tool::commands::run(std::env::args_os().skip(1).collect())
 }

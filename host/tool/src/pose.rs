@@ -1,6 +1,6 @@
 //! Where the plate stood in front of the camera, from the homography of a view.
 
-use crate::linear::{Matrix3, add_scaled, column, dot, unit};
+use crate::linear::{Matrix3, add_scaled, column, cross, dot, unit};
 use jinnychair::FxFyCxCy;
 
 /// The plate's axes and origin, seen from the camera.
@@ -39,6 +39,11 @@ impl Pose {
 
     fn is_finite(&self) -> bool {
         [self.x_axis, self.y_axis, self.origin].as_flattened().iter().all(|entry| entry.is_finite())
+    }
+
+    /// The direction in which the plate faces: its x axis × its y axis.
+    pub fn normal(&self) -> [f64; 3] {
+        cross(&self.x_axis, &self.y_axis)
     }
 
     /// Where a place on the plate is, seen from the camera.

@@ -15,11 +15,11 @@
 use crate::homography::homography;
 use crate::linear::Matrix3;
 use crate::pose::Pose;
+use crate::residuals::{Fit, own_spread, row_errors, trig};
 use crate::views::{Plate, View};
 use crate::zhang::{Frame, camera, camera_with_held_centre};
 use jinnychair::{
-    BrownConrady5, FxFyCxCy, PinholeCamera, Pt2, ScheimpflugParams, Seed, Solution, TiltTrig,
-    geometry,
+    BrownConrady5, FxFyCxCy, PinholeCamera, Pt2, ScheimpflugParams, Seed, Solution, geometry,
 };
 
 /// How often the focal lengths are solved again with the tilt taken off by the last ones.
@@ -45,7 +45,13 @@ impl Host {
         let held = plate.centre.unwrap_or([observed.x, observed.y]);
         let homographies = plate.views.iter().enumerate().map(|(i, view)| {
             homography(&view.board, &view.pixels)
-                .ok_or_else(|| format!("the dots of view {} determine no homography", i + 1))
+                .ok_or_else(|| {
+                    format!(
+                        "the dots of view {} determine no map from plate to pixels: they lie on a line, or in \
+                         one place. Leave the view out",
+                        i + 1
+                    )
+                })
         });
         let homographies = homographies.collect::<Result<_, _>>()?;
         Ok(Self { plate, held, observed, homographies })
@@ -66,6 +72,18 @@ impl Host {
         self.observed
     }
 
+    /// The middle of what is seen, and half its size, in pixels.
+    pub fn seen(&self) -> [[f64; 2]; 2] {
+        let pixels = self.plate.pixels();
+        let range = |of: fn(&Pt2) -> f64| {
+            let least = pixels.iter().map(of).fold(f64::INFINITY, f64::min);
+            let most = pixels.iter().map(of).fold(f64::NEG_INFINITY, f64::max);
+            [0.5 * (least + most), 0.5 * (most - least)]
+        };
+        let [x, y] = [range(|pixel| pixel.x), range(|pixel| pixel.y)];
+        [[x[0], y[0]], [x[1], y[1]]]
+    }
+
     fn frame(&self) -> Frame {
         Frame::new(self.held, self.observed.x.abs().max(self.observed.y.abs()).max(1.0))
     }
@@ -75,24 +93,41 @@ impl Host {
         camera_with_held_centre(&self.homographies, self.frame())
     }
 
-    /// The tilts that explain why a camera with a free centre isn't centred where it should be;
-    /// nothing where no camera is found or a tilt is beyond the bound.
-    pub fn decomposition(&self, max_abs_tilt: f64) -> Option<Seed> {
+    /// The tilts that explain why a camera with a free centre isn't centred where it should be; nothing where no
+    /// camera is found. They may lie beyond any bound.
+    pub fn decomposition(&self) -> Option<Seed> {
         let seen = camera(&self.homographies, self.frame())?;
         let [cx, cy] = self.held;
         let tilt_y = ((seen.cx - cx) / seen.fx).atan();
         let tilt_x = ((cy - seen.cy) / seen.fy * tilt_y.cos()).atan();
         let shortening = tilt_x.cos() * tilt_y.cos();
-        let is_within = tilt_x.abs() <= max_abs_tilt && tilt_y.abs() <= max_abs_tilt;
-        is_within.then_some(Seed {
+        let seed = Seed {
             reference_k: FxFyCxCy { fx: seen.fx / shortening, fy: seen.fy / shortening, cx, cy },
             sensor: ScheimpflugParams { tilt_x, tilt_y },
-        })
+        };
+        let is_seed = seed.numbers().iter().all(|number| number.is_finite());
+        (is_seed && seed.reference_k.fx > 0.0 && seed.reference_k.fy > 0.0).then_some(seed)
     }
 
     /// The best camera with a seed's tilts, or nothing where the equations have no camera.
     pub fn solve(&self, seed: &Seed) -> Option<Solution> {
-        let trig = TiltTrig::try_from(seed.sensor).ok()?;
+        self.solve_with_poses(seed).map(|(solution, _)| solution)
+    }
+
+    /// How the camera of a seed fits the views.
+    pub fn fit(&self, seed: &Seed) -> Option<Fit> {
+        let (solution, poses) = self.solve_with_poses(seed)?;
+        let errors = row_errors(solution.camera, seed.sensor, solution.rows());
+        Some(Fit::new(&self.plate, &errors, &poses))
+    }
+
+    /// What the views' own maps from plate to pixels leave, in pixels.
+    pub fn own_spread(&self) -> Option<f64> {
+        own_spread(&self.plate, &self.homographies)
+    }
+
+    fn solve_with_poses(&self, seed: &Seed) -> Option<(Solution, Vec<Pose>)> {
+        let trig = trig(seed.sensor);
         let [cx, cy] = self.held;
         let mut k = FxFyCxCy { cx, cy, ..seed.reference_k };
         for _ in 0..UNTILT_ITERATIONS {
@@ -106,10 +141,12 @@ impl Host {
             geometry::ideal_points(camera, 0, trig, pixels, out).is_ok()
         })?;
         let (mut rows, mut flags) = (Vec::new(), Vec::new());
-        for (view, h) in self.plate.views.iter().zip(&ideal) {
-            push_rows(view, &Pose::from_homography(&k, h)?, &mut rows, &mut flags);
+        let poses =
+            ideal.iter().map(|h| Pose::from_homography(&k, h)).collect::<Option<Vec<_>>>()?;
+        for (view, pose) in self.plate.views.iter().zip(&poses) {
+            push_rows(view, pose, &mut rows, &mut flags);
         }
-        Some(Solution { camera, rows, flags })
+        Some((Solution { camera, rows, flags }, poses))
     }
 
     /// Each view's homography to its pixels as `map` changes them.

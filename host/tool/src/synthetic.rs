@@ -1,8 +1,9 @@
 //! Views of a plate as a known camera with a known tilt sees them.
 
 use crate::linear::{Matrix3, add_scaled, column, product};
+use crate::residuals::trig;
 use crate::views::{Plate, View};
-use jinnychair::{FxFyCxCy, Pt2, ScheimpflugParams, TiltTrig, geometry};
+use jinnychair::{FxFyCxCy, Pt2, ScheimpflugParams, geometry};
 
 /// A camera to make views with.
 #[derive(Clone, Copy, Debug, PartialEq)]
@@ -46,17 +47,21 @@ const HELD: [[f64; 5]; 14] = [
 ];
 
 impl Truth {
-    /// The views, the same ones each time.
+    /// The views of the built-in plate as this camera sees them, the same ones each time.
     pub fn plate(&self) -> Plate {
+        self.plate_held(&HELD)
+    }
+
+    /// Views of a plate that is turned about x, then y, in degrees, and shifted by three millimetres' numbers.
+    pub fn plate_held(&self, held: &[[f64; 5]]) -> Plate {
         let mut noise = Noise { state: 1 };
-        let views = HELD.iter().map(|held| self.view(held, &mut noise)).collect();
+        let views = held.iter().map(|held| self.view(held, &mut noise)).collect();
         Plate { centre: Some([self.k.cx, self.k.cy]), views }
     }
 
     fn view(&self, &[about_x, about_y, x, y, distance]: &[f64; 5], noise: &mut Noise) -> View {
         let turn = rotation(about_x.to_radians(), about_y.to_radians());
-        let trig = TiltTrig::try_from(self.sensor).expect("a planted tilt is small");
-        let tilt = geometry::tilt_projection_matrix(trig);
+        let tilt = geometry::tilt_projection_matrix(trig(self.sensor));
         let mut view = View::default();
         for i in 0..DOTS[0] * DOTS[1] {
             let place = [i % DOTS[0], i / DOTS[0]].map(|index| index as f64 * PITCH);

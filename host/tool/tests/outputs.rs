@@ -1,4 +1,4 @@
-//! The chart, the table, the doubts, and the program as a user meets it.
+//! The chart, the table, and what speaks against a winner, with scripted hosts.
 #![allow(missing_docs)]
 
 use jinnychair::{
@@ -6,12 +6,10 @@ use jinnychair::{
     ScheimpflugParams, Seed, SkipReason, Solution,
 };
 use std::collections::BTreeSet;
-use std::path::{Path, PathBuf};
-use std::process::{Command, Output};
-use tool::doubts::doubts;
-use tool::drive::{Finished, best, run};
-use tool::synthetic::BUILT_IN;
-use tool::{chart, table};
+use tool::chart::chart;
+use tool::drive::{Finished, Source, best, last_step, run};
+use tool::table::{self, Record};
+use tool::verdict::of_search;
 
 const K: FxFyCxCy = FxFyCxCy { fx: 1000.0, fy: 1000.0, cx: 640.0, cy: 480.0 };
 
@@ -24,7 +22,16 @@ fn options(rounds: usize) -> Options {
 fn search(options: &Options, solve: impl FnMut(&Seed) -> Option<Solution>) -> Finished {
     let center = Pt2 { x: K.cx, y: K.cy };
     let inputs = Inputs { views: 3, options, decomposition: &[], base: K, center };
-    run(&inputs, solve, |_| ()).unwrap()
+    run(&inputs, &[], solve, |_| ()).unwrap()
+}
+
+/// The record of a search whose input has a name that XML and a table would take for their own.
+fn record(finished: &Finished) -> Record {
+    let mut record = Record { tried: finished.tried.clone(), ..Record::default() };
+    record.add("input", "a<b>&\n# verdict: good, 3 views");
+    record.add("bound_rad", "0.2");
+    record.add("verdict", "doubtful: one point speaks against the winner");
+    record
 }
 
 /// One row, which is off by a number of pixels.
@@ -63,8 +70,9 @@ fn finished(rounds: usize) -> Finished {
 fn chart_shows_every_tilt_and_counts_the_skipped() {
     for rounds in [0, 3, 16] {
         let finished = finished(rounds);
-        let svg = chart::chart(&finished.tried, Some(0.2));
-        std::fs::write(temporary(&format!("moody-{rounds}.svg")), &svg).unwrap();
+        let svg = chart(&record(&finished));
+        std::fs::write(format!("{}/moody-{rounds}.svg", env!("CARGO_TARGET_TMPDIR")), &svg)
+            .unwrap();
         for (_, letter, words) in table::SKIPS {
             let skipped = finished.tried.iter().filter(|t| table::letter(&t.outcome) == *letter);
             let count = skipped.count();
@@ -73,9 +81,46 @@ fn chart_shows_every_tilt_and_counts_the_skipped() {
         }
         assert!(svg.contains(&format!("{} tilts tried", finished.tried.len())));
         assert!(!svg.contains("NaN") && !svg.contains("inf"), "a coordinate isn't a number");
-        assert_eq!(svg.matches("<svg").count(), svg.matches("</svg>").count());
+        for element in ["svg", "g", "title", "text"] {
+            let begun = [' ', '>'].map(|next| svg.matches(&format!("<{element}{next}")).count());
+            assert_eq!(
+                begun[0] + begun[1],
+                svg.matches(&format!("</{element}>")).count(),
+                "{element}"
+            );
+        }
+        // Every tried tilt tells its number when it is pointed at, in the whole search at least.
+        for one in &finished.tried {
+            assert!(svg.contains(&format!("<title>no. {}, round {} (", one.number, one.round)));
+        }
+        assert!(svg.contains("a&lt;b&gt;&amp; # verdict: good, 3 views"));
+        assert!(svg.contains("Verdict: doubtful: one point") && svg.contains("Score along tilt x"));
         assert_eq!(best(&finished.tried).unwrap().number, finished.winner.unwrap().number);
     }
+}
+
+#[test]
+fn chart_marks_seeds_and_tells_where_the_bound_is() {
+    let seed = |x: f64, fx: f64| Seed::from_numbers([fx, 1000.0, 640.0, 480.0, x, 0.01]);
+    let given = [seed(-0.03, 1000.0), seed(0.05, 900.0)];
+    let center = Pt2 { x: K.cx, y: K.cy };
+    let options = options(2);
+    let inputs = Inputs { views: 3, options: &options, decomposition: &given, base: K, center };
+    let sources = [Source::Decomposition, Source::SeedFile];
+    let finished =
+        run(&inputs, &sources, |seed| Some(off_by(K, near(seed, -0.03))), |_| ()).unwrap();
+    let found: Vec<_> = finished.tried.iter().map(|one| one.source).collect();
+    assert_eq!(found[..3], [Source::Decomposition, Source::SeedFile, Source::Grid]);
+    let number = best(finished.tried.iter().filter(|one| one.round == 1)).unwrap().number;
+    assert_eq!(found.last(), Some(&Source::Around(number)));
+    let svg = chart(&record(&finished));
+    assert!(svg.contains("seed by decomposition") && svg.contains("seed of a file"));
+    assert!(svg.contains("bound ±11.5°, outside"));
+    let mut near_bound = record(&finished);
+    near_bound.about.retain(|(name, _)| name != "bound_rad");
+    assert!(!chart(&near_bound).contains("bound"));
+    near_bound.add("bound_rad", "0.17");
+    assert!(chart(&near_bound).contains("bound ±9.74°<"));
 }
 
 #[test]
@@ -90,163 +135,105 @@ fn every_skip_reason_has_a_letter_of_its_own() {
 fn chart_has_no_winner_where_nothing_is_scored() {
     let finished = search(&options(2), |_| None);
     assert_eq!(finished.winner.map_err(RunError::number), Err(11));
-    let svg = chart::chart(&finished.tried, None);
+    let svg = chart(&Record { tried: finished.tried, ..Record::default() });
     assert!(svg.contains("No winner.") && !svg.contains("the bound"));
     assert!(svg.contains("the host found no camera: 45<"));
+    assert!(chart(&Record::default()).contains("0 tilts tried"));
 }
 
 #[test]
 fn table_has_a_line_for_each_tilt_in_its_field_order_and_is_read_back() {
     let finished = finished(2);
-    let text = table::table(&finished.tried);
-    let mut lines = text.lines();
+    let record = record(&finished);
+    let text = record.table();
+    let mut lines = text.lines().skip(4);
     assert_eq!(lines.next(), Some(table::FIELDS));
     for (line, tried) in lines.by_ref().zip(&finished.tried) {
         let fields: Vec<_> = line.split(',').collect();
+        let field =
+            |name: &str| fields[table::FIELDS.split(',').position(|other| other == name).unwrap()];
         assert_eq!(fields.len(), table::FIELDS.split(',').count());
-        assert_eq!(fields[0], tried.number.to_string());
-        assert_eq!(fields[1], tried.round.to_string());
-        assert_eq!(fields[6].parse(), Ok(tried.seed.sensor.tilt_x));
+        assert_eq!(field("number"), tried.number.to_string());
+        assert_eq!(field("round"), tried.round.to_string());
+        assert_eq!(field("tilt_x_rad").parse(), Ok(tried.seed.sensor.tilt_x));
+        let degrees: f64 = field("tilt_y_deg").parse().unwrap();
+        assert!((degrees - tried.seed.sensor.tilt_y.to_degrees()).abs() < 1e-6);
+        let rows = ["counted_rows", "rows"].map(field);
         match tried.outcome {
             Outcome::Scored(score) => {
-                assert_eq!(fields[8], "S");
-                assert_eq!(fields[9], score.to_string());
-                assert_eq!(fields[10].parse(), Ok(tried.scored.unwrap().mean));
+                assert_eq!((field("outcome"), rows), ("S", ["1", "1"]));
+                assert_eq!(field("score"), score.to_string());
+                assert_eq!(field("mean_px").parse(), Ok(tried.scored.unwrap().mean));
+                // One row: its error is the mean and the root of the mean square.
+                assert!(
+                    (field("rms_px").parse::<f64>().unwrap() - tried.scored.unwrap().mean).abs()
+                        < 1e-9
+                );
             }
-            Outcome::Skipped(_) => assert!(fields[9..].iter().all(|field| *field == "-")),
+            Outcome::Skipped(_) => {
+                assert!(
+                    ["score", "mean_px", "rms_px", "fx_px", "p2"]
+                        .iter()
+                        .all(|name| field(name) == "-")
+                );
+            }
         }
     }
     assert_eq!(lines.next(), None);
-    assert_eq!(table::table(&table::parse(&text).unwrap()), text);
+    let read = Record::parse(&text).unwrap();
+    assert_eq!((read.table(), chart(&read)), (text, chart(&record)));
 }
 
 #[test]
 fn what_is_no_table_is_named_with_its_line() {
-    let good = table::table(&finished(0).tried);
+    let good = record(&finished(0)).table();
     for (old, new, fault) in [
-        ("number,", "", "line 1: not the names of a table's fields"),
-        ("\n0,0,", "\n0,", "line 2: 16 fields"),
+        ("# Every", "Every", "line 1: read `Every tilt"),
+        ("\nnumber,", "\n", "line 5: read `round,source"),
+        ("\n0,0,", "\n0,", "line 6: 22 fields, not 23"),
         (",H,-", ",H,1", "a skipped tilt has minus signs"),
         (",H,", ",Q,", "`Q` is no outcome"),
         (",S,", ",S,x", "isn't a number"),
+        (",grid,", ",grit,", "`grit` is no source of a seed"),
     ] {
-        let fault_of = table::parse(&good.replacen(old, new, 1)).unwrap_err();
-        assert!(fault_of.contains(fault), "{fault_of}");
+        let told = Record::parse(&good.replacen(old, new, 1)).unwrap_err();
+        assert!(told.contains(fault), "{told}");
     }
 }
 
+fn near(seed: &Seed, x: f64) -> f64 {
+    100.0 * (seed.sensor.tilt_x - x).hypot(seed.sensor.tilt_y)
+}
+
 #[test]
-fn doubts_are_told() {
-    let told = |finished: &Finished, stated: bool| doubts(finished, stated).join("; ");
+fn what_the_search_itself_has_against_a_winner_is_told() {
+    let told = |options: &Options, solve: &dyn Fn(&Seed) -> Option<Solution>| {
+        let finished = search(options, solve);
+        let winner = finished.winner.unwrap();
+        let points = of_search(&finished, &winner, options, [4.0 * last_step(options); 2]);
+        points.iter().map(|point| format!("{point}\n")).collect::<String>()
+    };
     let options = options(2);
-    let near = |seed: &Seed, x: f64| 100.0 * (seed.sensor.tilt_x - x).hypot(seed.sensor.tilt_y);
-    let good = search(&options, |seed| Some(off_by(K, near(seed, 0.03))));
-    assert_eq!(told(&good, true), "");
-    assert!(told(&good, false).contains("the optical centre isn't stated"));
-    let outside = search(&options, |seed| Some(off_by(K, near(seed, -0.4))));
-    assert!(told(&outside, true).contains("tilt x is the outermost that was tried, -10.886°"));
-    let flat = search(&options, |_| Some(off_by(K, 0.5)));
-    assert!(told(&flat, true).contains("these views don't tell tilts apart"));
-    let few = search(&options, |seed| {
+    assert_eq!(told(&options, &|seed| Some(off_by(K, near(seed, 0.03) + 0.1))), "");
+    let mut wide = options.clone();
+    wide.max_abs_tilt = 0.3;
+    let outside = told(&wide, &|seed| Some(off_by(K, near(seed, -0.4))));
+    assert!(outside.contains("tilt x is the outermost that was tried, -10.886°"), "{outside}");
+    let mut narrow = options.clone();
+    narrow.max_abs_tilt = 0.17;
+    let at_bound = told(&narrow, &|seed| Some(off_by(K, near(seed, -0.4))));
+    assert!(at_bound.contains("is at the bound, 9.740°"), "{at_bound}");
+    // The best tilt is 0.11, but the grid's 0.12 has no camera: the rounds go from 0.08 as far as they can.
+    let reached =
+        told(&options, &|seed| (seed.sensor.tilt_x < 0.115).then(|| off_by(K, near(seed, 0.113))));
+    assert!(reached.contains("as far from its seed as the rounds reach, 1.719°"), "{reached}");
+    let flat = told(&options, &|_| Some(off_by(K, 0.5)));
+    assert!(
+        flat.contains("other tilts score alike") && flat.contains("don't tell them apart"),
+        "{flat}"
+    );
+    let few = told(&options, &|seed| {
         (seed.sensor.tilt_x.abs() < 0.01).then(|| off_by(K, near(seed, 0.0) + 0.1))
     });
-    assert!(told(&few, true).contains("tilts were skipped"));
-}
-
-/// A name below the folder that cargo gives to tests.
-fn temporary(name: &str) -> PathBuf {
-    Path::new(env!("CARGO_TARGET_TMPDIR")).join(name)
-}
-
-fn jinnychair(words: &[&str]) -> Output {
-    Command::new(env!("CARGO_BIN_EXE_jinnychair")).args(words).output().unwrap()
-}
-
-#[track_caller]
-fn assert_ends(words: &[&str], code: i32, said: &str) {
-    let output = jinnychair(words);
-    let texts = [output.stdout, output.stderr].map(|text| String::from_utf8(text).unwrap());
-    let text = texts.concat();
-    assert!(
-        output.status.code() == Some(code) && text.contains(said),
-        "{:?} {text}",
-        output.status
-    );
-}
-
-#[test]
-fn words_are_explained_and_wrong_ones_end_with_2() {
-    assert_ends(&["--version"], 0, concat!("jinnychair ", env!("CARGO_PKG_VERSION"), "\n"));
-    for words in [&["--help"], &["-h"], &["help"]] {
-        assert_ends(words, 0, "jinnychair search");
-        assert_ends(words, 0, "0 good, 1 failed, 2 wrong words, 3 doubtful");
-    }
-    assert_ends(&["search", "--help"], 0, "--centre X Y");
-    assert_ends(&["chart", "--help"], 0, "--bound RADIANS");
-    assert_ends(&[], 2, "no command is named");
-    assert_ends(&["plate"], 2, "what is `plate`?");
-    assert_ends(&["search", "--centre", "1"], 2, "--centre lacks a value");
-    assert_ends(&["search", "--centre", "1", "NaN"], 2, "`NaN` isn't a finite number");
-    assert_ends(&["search", "--speed"], 2, "what is `--speed`?");
-    assert_ends(&["search", "a", "b"], 2, "what is `b`?");
-    assert_ends(&["chart"], 2, "no table is named");
-    assert_ends(&["chart", "a", "--bound", "0"], 2, "--bound isn't above 0");
-}
-
-#[test]
-fn bad_input_ends_with_1_and_leaves_no_file() {
-    let views = temporary("views.txt");
-    let out = temporary("refused");
-    let (views_text, out_text) = (views.to_str().unwrap(), out.to_str().unwrap());
-    let good = BUILT_IN.plate();
-    let mut few = good.clone();
-    few.views.truncate(2);
-    let mut flat = good.clone();
-    flat.views[6].board.iter_mut().for_each(|place| place.y = 0.0);
-    for (text, fault) in [
-        ("view\n0 0 1\n".into(), "line 2: 3 numbers, not 4"),
-        ("view\n0 0 1 NaN\n".into(), "line 2: `NaN` isn't a finite number"),
-        (few.text(), "2 views, at least 3 are needed"),
-        (flat.text(), "the dots of view 7 determine no homography"),
-    ] {
-        std::fs::write(&views, text).unwrap();
-        assert_ends(&["search", views_text, "--out", out_text], 1, fault);
-        assert!(!out.with_extension("svg").exists() && !out.with_extension("csv").exists());
-    }
-    assert_ends(&["search", "no-such-file"], 1, "jinnychair: no-such-file: ");
-    assert_ends(&["chart", views_text, "--out", out_text], 1, "line 1: not the names");
-    assert!(!out.exists());
-}
-
-#[test]
-fn built_in_plate_is_searched_read_back_from_its_file_and_charted_from_its_table() {
-    let views = temporary("built-in.txt");
-    let (built_in, read, drawn) =
-        (temporary("built-in"), temporary("read"), temporary("drawn.svg"));
-    let [views_text, built_in_text, read_text, drawn_text] =
-        [&views, &built_in, &read, &drawn].map(|path| path.to_str().unwrap());
-    assert_ends(&["search", "--write-views", views_text], 0, "");
-    assert_ends(&["search", "--out", built_in_text], 0, "winner          candidate");
-    assert_ends(&["search", views_text, "--out", read_text], 0, "winner");
-    let file = |path: &Path| std::fs::read_to_string(path).unwrap();
-    for kind in ["svg", "csv"] {
-        assert!(
-            file(&built_in.with_extension(kind)) == file(&read.with_extension(kind)),
-            "{kind} differs"
-        );
-    }
-    let table = built_in.with_extension("csv");
-    let words = ["chart", table.to_str().unwrap(), "--bound", "0.3", "--out", drawn_text];
-    assert_ends(&words, 0, "written: ");
-    assert!(file(&drawn) == file(&built_in.with_extension("svg")), "the chart differs");
-
-    // Without its centre the same plate is doubtful, and has a chart all the same.
-    let without: String = file(&views).lines().skip(1).map(|line| format!("{line}\n")).collect();
-    std::fs::write(&views, without).unwrap();
-    std::fs::remove_file(read.with_extension("svg")).unwrap();
-    let words = ["search", views_text, "--out", read_text];
-    assert_ends(&words, 3, "doubtful: the optical centre isn't stated");
-    assert!(read.with_extension("svg").exists());
-    // Stated in the words, it is good again.
-    assert_ends(&["search", views_text, "--out", read_text, "--centre", "655", "470"], 0, "winner");
+    assert!(few.contains("tilts were skipped"), "{few}");
 }

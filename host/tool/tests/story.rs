@@ -7,6 +7,7 @@ use jinnychair::{
     Solution, Winner,
 };
 use tool::drive::{last_step, run};
+use tool::open::Open;
 use tool::solve::Host;
 use tool::synthetic::{BUILT_IN, Truth};
 
@@ -40,8 +41,8 @@ fn assert_found(winner: &Winner, planted: ScheimpflugParams, options: &Options) 
 
 const SCRIPTED: FxFyCxCy = FxFyCxCy { fx: 1000.0, fy: 1000.0, cx: 640.0, cy: 480.0 };
 
-/// A host whose error is the distance from the planted tilts, in units of 0.001 radians: one row, the ideal point 0, 0, which the
-/// tilt matrix maps to the centre.
+/// A host whose error is the distance from the planted tilts, in units of 0.001 radians: one row, the ideal point 0, 0,
+/// which the tilt matrix maps to the centre.
 fn scripted(seed: &Seed, planted: ScheimpflugParams) -> Solution {
     let dx = seed.sensor.tilt_x - planted.tilt_x;
     let dy = seed.sensor.tilt_y - planted.tilt_y;
@@ -56,7 +57,7 @@ fn search_with(host: &Host, options: &Options, decomposition: &[Seed]) -> Winner
     let base = host.base().unwrap();
     let (views, center) = (host.plate().views.len(), host.observed_centre());
     let inputs = Inputs { views, options, decomposition, base, center };
-    run(&inputs, |seed| host.solve(seed), |_| ()).unwrap().winner.unwrap()
+    run(&inputs, &[], |seed| host.solve(seed), |_| ()).unwrap().winner.unwrap()
 }
 
 fn each_axis() -> impl Iterator<Item = ScheimpflugParams> {
@@ -70,7 +71,7 @@ fn scripted_host_finds_small_negative_tilts() {
         let center = Pt2 { x: SCRIPTED.cx, y: SCRIPTED.cy };
         let inputs =
             Inputs { views: 3, options: &options, decomposition: &[], base: SCRIPTED, center };
-        let finished = run(&inputs, |seed| Some(scripted(seed, planted)), |_| ()).unwrap();
+        let finished = run(&inputs, &[], |seed| Some(scripted(seed, planted)), |_| ()).unwrap();
         assert_found(&finished.winner.unwrap(), planted, &options);
     }
 }
@@ -98,10 +99,56 @@ fn example_host_finds_small_negative_tilts_in_noise() {
 fn decomposition_seed_is_the_planted_tilt_without_noise() {
     let truth = Truth { noise: 0.0, ..BUILT_IN };
     let host = Host::new(truth.plate()).unwrap();
-    let seed = host.decomposition(0.3).unwrap();
+    let seed = host.decomposition().unwrap();
     assert!((seed.sensor.tilt_x - truth.sensor.tilt_x).abs() < 1e-9);
     assert!((seed.sensor.tilt_y - truth.sensor.tilt_y).abs() < 1e-9);
     assert!(search_with(&host, &options(6), &[seed]).mean_reproj_error < 1e-6);
+}
+
+/// What the program says of the centre: a stated centre that is off by some pixels moves the tilts by so much.
+#[test]
+fn a_centre_that_is_off_moves_the_tilts_as_told() {
+    let truth = Truth { noise: 0.0, ..BUILT_IN };
+    let found = |centre: [f64; 2]| {
+        let mut plate = truth.plate();
+        plate.centre = Some(centre);
+        let host = Host::new(plate).unwrap();
+        let winner = search_with(&host, &options(6), &[host.decomposition().unwrap()]);
+        let seed = Seed { reference_k: winner.camera.k, sensor: winner.sensor };
+        (winner.sensor, Open::new(&host, &winner, &seed, [0.0; 2], Some(10.0)).by_centre().unwrap())
+    };
+    let [cx, cy] = [truth.k.cx, truth.k.cy];
+    let (here, told) = found([cx, cy]);
+    let (moved, _) = found([cx + 10.0, cy + 10.0]);
+    assert!((moved.tilt_x - here.tilt_x - told[0]).abs() < 0.02 * told[0]);
+    assert!((here.tilt_y - moved.tilt_y - told[1]).abs() < 0.02 * told[1]);
+}
+
+/// What the program says of noise: the winners of many plates spread by about as much.
+#[test]
+fn noise_leaves_the_tilts_open_as_told() {
+    const PLATES: usize = 12;
+    let (mut told, mut squares) = (0.0, 0.0);
+    for i in 0..PLATES {
+        // The same noise each time, at other pixels: the plate is held elsewhere.
+        let held = |j: usize| {
+            let (sine, cosine) = (45.0 * j as f64).to_radians().sin_cos();
+            [35.0 * sine, 35.0 * cosine, i as f64, 0.0, 440.0 + i as f64]
+        };
+        let held: Vec<_> = (0..8).map(held).collect();
+        let host = Host::new(Truth { noise: 0.3, ..BUILT_IN }.plate_held(&held)).unwrap();
+        let winner = search_with(&host, &options(6), &[]);
+        let seed = Seed { reference_k: winner.camera.k, sensor: winner.sensor };
+        let [x, y] = Open::new(&host, &winner, &seed, [0.0; 2], None).noise.unwrap();
+        told += 0.5 * (x + y) / PLATES as f64;
+        let [x, y] = [
+            winner.sensor.tilt_x - BUILT_IN.sensor.tilt_x,
+            winner.sensor.tilt_y - BUILT_IN.sensor.tilt_y,
+        ];
+        squares += 0.5 * (x * x + y * y) / PLATES as f64;
+    }
+    let seen = 2.0 * squares.sqrt();
+    assert!((0.4..2.5).contains(&(seen / told)), "seen {seen}, told {told}");
 }
 
 /// Why the centre is held: with the centre of an untilted camera's solution, tilt 0 fits exactly.

@@ -129,7 +129,8 @@ mod tests {
     fn the_stored_files_are_the_generated_ones() {
         let folder = concat!(env!("CARGO_MANIFEST_DIR"), "/../../crates/vectors/data/");
         for (name, text) in [("sqrt.txt", text()), ("sqrt_from.txt", text_from_guesses())] {
-            let stored = std::fs::read_to_string(folder.to_owned() + name).expect("the stored file");
+            let stored =
+                std::fs::read_to_string(folder.to_owned() + name).expect("the stored file");
             assert!(stored == text, "{name} isn't what `roots` writes");
         }
     }

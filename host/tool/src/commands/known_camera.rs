@@ -1,6 +1,7 @@
 //! `known-camera FX FY CX CY`: the camera formula checked against a camera that service chooses.
 
 use super::{Command, End, Fault, Words};
+use crate::screen::Screen;
 use jinnychair::FxFyCxCy;
 use jinnychair::geometry::{Conic, conic_to_camera, known_plate};
 
@@ -17,18 +18,19 @@ comes back, which is the same camera. The four are whole numbers times one power
     run,
 };
 
-fn run(words: Words) -> Result<End, Fault> {
+fn run(words: Words, screen: &mut Screen) -> Result<End, Fault> {
     let chosen = camera(words)?;
     let conic = known_plate(chosen).map_err(|refusal| refusal.to_string())?;
     let back = conic_to_camera(conic).map_err(|refusal| different(&refusal.to_string()))?;
-    println!("{}", report(chosen, conic, back));
+    screen.say(report(chosen, conic, back));
     verdict(chosen, back)?;
-    println!("the same camera");
+    screen.say("the same camera");
     Ok(End::Good)
 }
 
-fn camera(mut words: Words) -> Result<FxFyCxCy, Fault> {
-    let four: Option<Vec<f64>> = std::iter::from_fn(|| words.next()).map(|word| word.parse().ok()).collect();
+fn camera(words: Words) -> Result<FxFyCxCy, Fault> {
+    let four: Option<Vec<f64>> =
+        words.left.iter().map(|word| word.to_str().and_then(|word| word.parse().ok())).collect();
     match four.as_deref() {
         Some(&[fx, fy, cx, cy]) => Ok(FxFyCxCy { fx, fy, cx, cy }),
         _ => Err(Fault::Usage("known-camera takes four numbers".into())),
@@ -54,8 +56,8 @@ fn verdict(chosen: FxFyCxCy, back: FxFyCxCy) -> Result<(), String> {
 /// What it means that the chosen camera doesn't come back: it is proved that it does.
 fn different(what: &str) -> String {
     format!(
-        "{what}. It is proved that the same camera comes back wherever the arithmetic is IEEE 754's, so this library or \
-         this machine is at fault: don't use its results. Build the library again, and run its tests."
+        "{what}. It is proved that the same camera comes back wherever the arithmetic is IEEE 754's, so this library \
+         or this machine is at fault: don't use its results. Build the library again, and run its tests."
     )
 }
 

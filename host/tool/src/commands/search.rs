@@ -1,119 +1,337 @@
-//! `search`: reads the views, runs the search, prints the winner, writes a chart and a table.
+//! `search`: reads the views, says what will be tried, runs the search, shows the winner and the verdict, writes a
+//! table and a chart.
 
-use super::{Command, End, Fault, Words, unknown};
-use crate::chart::chart;
-use crate::doubts::doubts;
-use crate::drive::{self, Finished, Tried};
-use crate::files::write_all;
+use super::{Command, End, Fault, Word, Words, unknown};
+use crate::angle::degrees;
+use crate::chart::{self, chart};
+use crate::choices::{Choices, parse_seeds};
+use crate::date::now;
+use crate::drive::{self, Finished, Source, Tried};
+use crate::files::{check_free, read, with_ending, write};
+use crate::open::Open;
+use crate::plan::Plan;
+use crate::report;
+use crate::screen::{Screen, aside};
 use crate::solve::Host;
 use crate::synthetic::BUILT_IN;
-use crate::table::table;
-use crate::views::Plate;
-use jinnychair::{Inputs, Options};
-use std::io::{IsTerminal, Write};
+use crate::table::{self, Record};
+use crate::verdict::{self, Point};
+use crate::views::{self, Plate};
+use jinnychair::{FxFyCxCy, Inputs, Options, Seed, Winner};
+use std::io::IsTerminal;
 use std::path::{Path, PathBuf};
 
 pub(super) const COMMAND: Command = Command {
     name: "search",
     does: "finds the tilt of a sensor from views of a plate",
-    help: "\
-jinnychair search [VIEWS] [--centre X Y] [--out NAME]
-jinnychair search --write-views FILE
-
-Finds the tilt of a sensor from views of a plate, and writes NAME.svg, a chart of every tried tilt, and
-NAME.csv, the same as a table. NAME is `tilts` if not given. Without VIEWS a built-in plate is used.
-
-VIEWS is a text file: a line `view` begins a view, and each line below has four numbers, the place of
-a dot on the plate and the pixel where it is seen. The optical centre is held while the tilt is sought,
-since a free centre takes up any tilt. It is --centre's, else that of the file's line `centre X Y`, else the
-centre of what is seen, which makes the result doubtful. `--write-views` writes the built-in plate's views
-as such a file.",
+    help: include_str!("search.txt"),
     run,
 };
 
-fn run(mut words: Words) -> Result<End, Fault> {
-    let (mut views, mut centre, mut out) = (None, None, PathBuf::from("tilts"));
-    while let Some(word) = words.next() {
-        match word.as_str() {
-            "--write-views" => {
-                let path = PathBuf::from(words.value(&word)?);
-                write_all(&[(&path, &BUILT_IN.plate().text())])?;
-                return Ok(End::Good);
+/// What the words ask for.
+#[derive(Default)]
+struct Asked {
+    views: Option<PathBuf>,
+    out: Option<PathBuf>,
+    write_views: Option<PathBuf>,
+    choices: Choices,
+    choices_file: Option<PathBuf>,
+}
+
+impl Asked {
+    fn read(mut words: Words) -> Result<Self, Fault> {
+        let mut asked = Self::default();
+        while let Some(word) = words.next()? {
+            match word {
+                Word::File(path) if asked.views.is_some() => {
+                    return Err(unknown(&path.display().to_string()));
+                }
+                Word::File(path) => asked.views = Some(path.into()),
+                Word::Option(option) => asked.take(&option, &mut words)?,
             }
-            "--centre" => centre = Some([words.number(&word)?, words.number(&word)?]),
-            "--out" => out = words.value(&word)?.into(),
-            option if option.starts_with('-') => return Err(unknown(option)),
-            path if views.is_some() => return Err(unknown(path)),
-            path => views = Some(PathBuf::from(path)),
+        }
+        if let Some(path) = &asked.choices_file {
+            let fault = |fault: String| format!("{}: {fault}", path.display());
+            asked.choices = asked.choices.or(Choices::parse(&read(path)?).map_err(fault)?);
+        }
+        Ok(asked)
+    }
+
+    fn take(&mut self, option: &str, words: &mut Words) -> Result<(), Fault> {
+        let place = match option {
+            "--out" => &mut self.out,
+            "--write-views" => &mut self.write_views,
+            "--options" => &mut self.choices_file,
+            _ => {
+                let name = option.strip_prefix("--").ok_or_else(|| unknown(option))?;
+                let mut value = || match words.value(option) {
+                    Ok(value) => Ok(value),
+                    Err(Fault::Usage(fault) | Fault::Failed(fault)) => Err(fault),
+                };
+                let set = self.choices.set(name, &mut value);
+                let named = |fault: String| {
+                    if fault.starts_with(option) { fault } else { format!("{option}: {fault}") }
+                };
+                let is_known = set.map_err(|fault| Fault::Usage(named(fault)))?;
+                return if is_known { Ok(()) } else { Err(unknown(option)) };
+            }
+        };
+        if place.replace(words.file(option)?.into()).is_some() {
+            return Err(Fault::Usage(format!("{option}: it is stated twice. Leave one out")));
+        }
+        Ok(())
+    }
+
+    /// The names of table and chart: nothing of the given name is cut off but an ending that is added again.
+    fn outputs(&self) -> [PathBuf; 2] {
+        let name = self.out.clone().unwrap_or("tilts".into());
+        let is_ending = name.extension().is_some_and(|ending| ending == "csv" || ending == "svg");
+        let name = if is_ending { name.with_extension("") } else { name };
+        [with_ending(&name, ".csv"), with_ending(&name, ".svg")]
+    }
+
+    fn inputs(&self) -> Vec<&Path> {
+        let all = [&self.views, &self.choices_file, &self.choices.seeds];
+        all.into_iter().flatten().map(PathBuf::as_path).collect()
+    }
+}
+
+fn run(words: Words, screen: &mut Screen) -> Result<End, Fault> {
+    let asked = Asked::read(words)?;
+    if let Some(path) = &asked.write_views {
+        check_free(path, &asked.inputs(), views::HEAD)?;
+        write(path, &BUILT_IN.plate().text())?;
+        screen.say(format!("written: {}", path.display()));
+        return Ok(End::Good);
+    }
+    let [csv, svg] = asked.outputs();
+    check_free(&csv, &asked.inputs(), table::HEAD)?;
+    check_free(&svg, &asked.inputs(), chart::HEAD)?;
+    let case = Case::new(&asked, screen)?;
+    screen.say(case.plan.text());
+    let finished = case.search()?;
+    let (record, against) = case.judged(finished, screen);
+    save(&record, &csv, &svg, screen)?;
+    let against = against?;
+    Ok(if against.is_empty() { End::Good } else { End::Doubtful })
+}
+
+/// Writes what can be written, and then says what couldn't.
+fn save(record: &Record, csv: &Path, svg: &Path, screen: &mut Screen) -> Result<(), Fault> {
+    let saved = [write(csv, &record.table()), write(svg, &chart(record))];
+    for (path, saved) in [csv, svg].into_iter().zip(&saved) {
+        if saved.is_ok() {
+            screen.say(format!("written: {}", path.display()));
         }
     }
-    let mut plate = read(views.as_deref())?;
-    plate.centre = centre.or(plate.centre);
-    search(plate, &out)
+    let faults: Vec<String> = saved.into_iter().filter_map(Result::err).collect();
+    if faults.is_empty() { Ok(()) } else { Err(Fault::Failed(faults.join("\njinnychair: "))) }
 }
 
-fn read(views: Option<&Path>) -> Result<Plate, Fault> {
-    let Some(path) = views else {
-        let [x, y] = [BUILT_IN.sensor.tilt_x, BUILT_IN.sensor.tilt_y].map(f64::to_degrees);
-        println!(
-            "the built-in plate: planted tilts {x:.3}° and {y:.3}°, noise {} px",
-            BUILT_IN.noise
-        );
-        return Ok(BUILT_IN.plate());
-    };
-    let fault = |fault: String| format!("{}: {fault}", path.display());
-    let text = std::fs::read_to_string(path).map_err(|e| fault(e.to_string()))?;
-    Ok(Plate::parse(&text).map_err(|e| fault(e.to_string()))?)
+/// A search with all that it starts from.
+struct Case {
+    input: String,
+    host: Host,
+    is_guessed: bool,
+    base: FxFyCxCy,
+    choices: Choices,
+    options: Options,
+    seeds: Vec<(Source, Seed)>,
+    plan: Plan,
 }
 
-/// The usual grid; six rounds narrow it to 0.04°.
-fn options() -> Options {
-    let mut options = Options::default();
-    options.refine_rounds = 6;
-    options
-}
-
-fn search(plate: Plate, out: &Path) -> Result<End, Fault> {
-    let options = options();
-    let is_centre_stated = plate.centre.is_some();
-    let host = Host::new(plate)?;
-    let base = host.base().ok_or("the views determine no camera".to_owned())?;
-    let decomposition: Vec<_> = host.decomposition(options.max_abs_tilt).into_iter().collect();
-    let (views, center) = (host.plate().views.len(), host.observed_centre());
-    let inputs = Inputs { views, options: &options, decomposition: &decomposition, base, center };
-    let mut progress = Progress::default();
-    let finished = drive::run(&inputs, |seed| host.solve(seed), |one| progress.show(one))?;
-    progress.end();
-
-    let (svg, csv) = (out.with_extension("svg"), out.with_extension("csv"));
-    let drawing = chart(&finished.tried, Some(options.max_abs_tilt));
-    write_all(&[(&svg, &drawing), (&csv, &table(&finished.tried))])?;
-    println!("written: {} and {}", svg.display(), csv.display());
-    print_winner(&finished, &host, &options)?;
-    let doubts = doubts(&finished, is_centre_stated);
-    for doubt in &doubts {
-        println!("doubtful: {doubt}");
+impl Case {
+    fn new(asked: &Asked, screen: &mut Screen) -> Result<Self, Fault> {
+        let choices = asked.choices.clone();
+        let (plate, input) = plate(asked)?;
+        let is_guessed = plate.centre.is_none();
+        screen.say(format!(
+            "read            {input}: {} views, {} dots",
+            plate.views.len(),
+            plate.dots()
+        ));
+        let host = Host::new(plate).map_err(|fault| format!("{input}: {fault}"))?;
+        screen.say(format!("centre          {}", centre_text(&host, is_guessed)));
+        let nothing = || {
+            format!(
+                "{input}: no camera fits the views. Turn the plate further between them, and check the centre"
+            )
+        };
+        let base = host.base().ok_or_else(nothing)?;
+        let options = choices.options();
+        let seeds = seeds(&host, &choices, base, options.max_abs_tilt, screen)?;
+        let plan = Plan::new(&options, &seeds);
+        Ok(Self { input, host, is_guessed, base, choices, options, seeds, plan })
     }
-    Ok(if doubts.is_empty() { End::Good } else { End::Doubtful })
+
+    fn search(&self) -> Result<Finished, String> {
+        let (sources, decomposition): (Vec<_>, Vec<_>) = self.seeds.iter().copied().unzip();
+        let (views, center) = (self.host.plate().views.len(), self.host.observed_centre());
+        let inputs = Inputs {
+            views,
+            options: &self.options,
+            decomposition: &decomposition,
+            base: self.base,
+            center,
+        };
+        let mut progress = Progress::default();
+        let finished =
+            drive::run(&inputs, &sources, |seed| self.host.solve(seed), |one| progress.show(one))?;
+        progress.end();
+        Ok(finished)
+    }
+
+    /// Shows the winner and what speaks against it, and gives the record of the search, with the points or, where
+    /// there is no winner, why not.
+    fn judged(
+        &self,
+        finished: Finished,
+        screen: &mut Screen,
+    ) -> (Record, Result<Vec<Point>, Fault>) {
+        let judged = match finished.winner {
+            Ok(winner) => self.winner_and_points(&finished, &winner).map_err(Fault::Failed),
+            Err(error) => Err(Fault::Failed(format!("{}: no winner: {error}", self.input))),
+        };
+        let mut record = self.about();
+        let against = judged.map(|(text, against)| {
+            screen.say(text);
+            screen.say(report::verdict(&against));
+            record.add("verdict", &report::verdict_head(&against));
+            against.iter().for_each(|point| record.add("against", &point.to_string()));
+            against
+        });
+        if against.is_err() {
+            record.add("verdict", "failed: there is no winner");
+        }
+        record.tried = finished.tried;
+        (record, against)
+    }
+
+    fn winner_and_points(
+        &self,
+        finished: &Finished,
+        winner: &Winner,
+    ) -> Result<(String, Vec<Point>), String> {
+        let one = finished
+            .tried
+            .get(winner.number)
+            .ok_or("the winner isn't among the tried tilts".to_owned())?;
+        let fit = self
+            .host
+            .fit(&one.seed)
+            .ok_or("the winner's camera can't be solved for again".to_owned())?;
+        let open =
+            Open::new(&self.host, winner, &one.seed, self.plan.steps(), self.choices.centre_within);
+        let noise = open.noise.unwrap_or_default();
+        let apart = [0, 1].map(|i| (4.0 * open.steps[i]).max(2.0 * noise[i]));
+        let [middle, half] = self.host.seen();
+        let against = [
+            verdict::of_centre(self.host.held_centre(), self.is_guessed, middle, half),
+            verdict::of_plan(&self.plan, &self.options),
+            verdict::of_search(finished, winner, &self.options, apart),
+            verdict::of_fit(&self.host, &fit),
+            verdict::of_limits(winner, &open, self.choices.limits()),
+        ];
+        Ok((report::winner(finished, winner, one, &fit, &open), against.concat()))
+    }
+
+    fn about(&self) -> Record {
+        let mut record = Record::default();
+        record.add("library", concat!("jinnychair ", env!("CARGO_PKG_VERSION")));
+        record.add("date", &now());
+        record.add(
+            "input",
+            &format!(
+                "{}, {} views, {} dots",
+                self.input,
+                self.host.plate().views.len(),
+                self.host.plate().dots()
+            ),
+        );
+        record.add("centre", &centre_text(&self.host, self.is_guessed));
+        let options = &self.options;
+        record.add("bound_rad", &options.max_abs_tilt.to_string());
+        let list =
+            |tilts: &[f64]| tilts.iter().map(|tilt| degrees(*tilt)).collect::<Vec<_>>().join(" ");
+        let own = self.seeds.iter().filter(|(source, _)| *source == Source::SeedFile).count();
+        record.add(
+            "options",
+            &format!(
+                "tilts x {}; tilts y {}; bound {}; step {} (degrees); rounds {}; {}{}",
+                list(&options.tilt_x_seeds),
+                list(&options.tilt_y_seeds),
+                degrees(options.max_abs_tilt),
+                degrees(options.refine_step),
+                options.refine_rounds,
+                if self.seeds.len() > own { "decomposition seed" } else { "no decomposition seed" },
+                if own > 0 { format!("; {own} seeds of a file") } else { String::new() }
+            ),
+        );
+        record
+    }
 }
 
-fn print_winner(finished: &Finished, host: &Host, options: &Options) -> Result<(), String> {
-    let winner = finished.winner.as_ref().map_err(ToString::to_string)?;
-    let (k, sensor) = (winner.camera.k, winner.sensor);
-    let tilt = |radians: f64| format!("{radians:+.6} rad  {:+.4}°", radians.to_degrees());
-    println!("winner          candidate {} of {}", winner.number, finished.tried.len());
-    println!("tilt x          {}", tilt(sensor.tilt_x));
-    println!("tilt y          {}", tilt(sensor.tilt_y));
-    println!("last step       {}", tilt(drive::last_step(options)));
-    println!("focal lengths   {:.3} px  {:.3} px", k.fx, k.fy);
-    println!("centre          {:.3} px  {:.3} px  (held)", k.cx, k.cy);
-    println!(
-        "mean error      {:.5} px  over {} dots",
-        winner.mean_reproj_error,
-        host.plate().dots()
-    );
-    println!("score           {:.5}", winner.score);
-    Ok(())
+fn plate(asked: &Asked) -> Result<(Plate, String), Fault> {
+    let (mut plate, input) = match &asked.views {
+        None => (BUILT_IN.plate(), built_in()),
+        Some(path) => {
+            let fault = |fault: views::ViewsError| format!("{}: {fault}", path.display());
+            (Plate::parse(&read(path)?).map_err(fault)?, path.display().to_string())
+        }
+    };
+    plate.centre = asked.choices.centre.or(plate.centre);
+    match (plate.centre, asked.choices.guess_centre) {
+        (None, None) => Err(Fault::Usage(format!(
+            "{input}: no optical centre is stated, and a wrong centre looks exactly like a tilt. State it with \
+             --centre X Y, or by a line `centre X Y` in the file. --guess-centre searches with a guess, whose tilts \
+             can't be relied on"
+        ))),
+        (Some(_), Some(())) => {
+            Err(Fault::Usage(format!("{input}: a centre is stated, so leave --guess-centre out")))
+        }
+        _ => Ok((plate, input)),
+    }
+}
+
+fn built_in() -> String {
+    let [x, y] = [BUILT_IN.sensor.tilt_x, BUILT_IN.sensor.tilt_y].map(degrees);
+    format!("the built-in plate (planted tilts {x}° {y}°, noise {} px)", BUILT_IN.noise)
+}
+
+fn centre_text(host: &Host, is_guessed: bool) -> String {
+    let [x, y] = host.held_centre().map(|pixels| (1000.0 * pixels).round() / 1000.0);
+    let how =
+        if is_guessed { "GUESSED, and a wrong centre looks exactly like a tilt" } else { "stated" };
+    format!("{x} {y} px ({how})")
+}
+
+/// The decomposition's seed, where it is wanted and within the bound, then the file's.
+fn seeds(
+    host: &Host,
+    choices: &Choices,
+    base: FxFyCxCy,
+    bound: f64,
+    screen: &mut Screen,
+) -> Result<Vec<(Source, Seed)>, Fault> {
+    let mut seeds = vec![];
+    if choices.no_decomposition.is_none() {
+        let is_within =
+            |seed: &Seed| seed.sensor.tilt_x.abs() <= bound && seed.sensor.tilt_y.abs() <= bound;
+        match host.decomposition() {
+            Some(seed) if is_within(&seed) => seeds.push((Source::Decomposition, seed)),
+            Some(seed) => screen.say(format!(
+                "left out        the decomposition's seed, {}° {}°: beyond the bound",
+                degrees(seed.sensor.tilt_x),
+                degrees(seed.sensor.tilt_y)
+            )),
+            None => screen.say("left out        the decomposition's seed: the views give none"),
+        }
+    }
+    if let Some(path) = &choices.seeds {
+        let fault = |fault: String| format!("{}: {fault}", path.display());
+        seeds.extend(parse_seeds(&read(path)?, base, bound).map_err(fault)?);
+    }
+    Ok(seeds)
 }
 
 /// A line for each round, and on a terminal one that counts along.
@@ -138,9 +356,7 @@ impl Progress {
             self.best = Some((score, [sensor.tilt_x.to_degrees(), sensor.tilt_y.to_degrees()]));
         }
         if std::io::stderr().is_terminal() {
-            eprint!("\rround {}: {} tried", self.round, self.tried);
-            // Progress that can't be shown is no reason to stop.
-            let _ = std::io::stderr().flush();
+            aside(&format!("\rround {}: {} tried", self.round, self.tried));
         }
     }
 
@@ -149,6 +365,6 @@ impl Progress {
         let best = self.best.map_or("nothing scored yet".into(), |(score, [x, y])| {
             format!("best score {score:.5} at {x:+.4}° {y:+.4}°")
         });
-        eprintln!("{start}round {}: {} tried, {best}", self.round, self.tried);
+        aside(&format!("{start}round {}: {} tried, {best}\n", self.round, self.tried));
     }
 }

@@ -309,10 +309,7 @@ fn nan_at_one(inputs: &Inputs, nan_at: u32) -> Vec<u64> {
         number += 1;
         let [fx, fy, _, cy] = CAMERA;
         let row = Row { ideal: [0.0, 0.0], seen: [cx, cy + f64::from(number)], in_front: true };
-        Finding::Solved {
-            camera: [fx, fy, cx, cy, 0.0, 0.0, 0.0, 0.0, 0.0],
-            rows: vec![row],
-        }
+        Finding::Solved { camera: [fx, fy, cx, cy, 0.0, 0.0, 0.0, 0.0, 0.0], rows: vec![row] }
     })
 }
 

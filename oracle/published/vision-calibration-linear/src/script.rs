@@ -40,9 +40,15 @@ pub struct Row {
 #[derive(Clone, Debug)]
 pub enum Finding {
     Failed,
-    Solved { camera: CameraNumbers, rows: Vec<Row> },
+    Solved {
+        camera: CameraNumbers,
+        rows: Vec<Row>,
+    },
     /// The same with rows that many findings share, so that nothing is copied: for timing.
-    Shared { camera: CameraNumbers, rows: Rc<PlanarDataset> },
+    Shared {
+        camera: CameraNumbers,
+        rows: Rc<PlanarDataset>,
+    },
 }
 
 /// What the search makes of a finding.

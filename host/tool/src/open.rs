@@ -1,0 +1,109 @@
+//! How far a winner's tilts are left open: by the last step, by noise, and by an error of the stated centre.
+
+use crate::residuals::Fit;
+use crate::solve::Host;
+use jinnychair::{FxFyCxCy, ScheimpflugParams, Seed, Winner};
+
+/// How far from the winner its errors are looked at, in radians.
+const ASIDE: f64 = 0.002;
+
+/// What is left open of each tilt (x, y), in radians.
+#[derive(Clone, Copy, Debug, PartialEq)]
+pub struct Open {
+    /// By the steps of the search.
+    pub steps: [f64; 2],
+    /// By noise in the pixels, two standard deviations; nothing where the errors don't rise around the winner.
+    pub noise: Option<[f64; 2]>,
+    /// For each pixel by which the stated centre is off: tilt x for its y, tilt y for its x.
+    pub per_pixel: [f64; 2],
+    /// How many pixels the stated centre may be off, if that is known.
+    pub centre_within: Option<f64>,
+}
+
+impl Open {
+    /// What is left open of a winner.
+    #[must_use]
+    pub fn new(
+        host: &Host,
+        winner: &Winner,
+        seed: &Seed,
+        steps: [f64; 2],
+        centre_within: Option<f64>,
+    ) -> Self {
+        let per_pixel = per_pixel(&winner.camera.k, winner.sensor);
+        Self { steps, noise: noise(host, seed), per_pixel, centre_within }
+    }
+
+    /// What the centre's tolerance leaves open of each tilt, if it is known.
+    #[must_use]
+    pub fn by_centre(&self) -> Option<[f64; 2]> {
+        self.centre_within.map(|pixels| self.per_pixel.map(|slope| slope * pixels))
+    }
+
+    /// All of it together, as far as it is known.
+    #[must_use]
+    pub fn total(&self) -> [f64; 2] {
+        let [noise, centre] = [self.noise, self.by_centre()].map(Option::unwrap_or_default);
+        [0, 1].map(|i| self.steps[i] + noise[i] + centre[i])
+    }
+}
+
+/// A tilted sensor is one without tilt whose centre is cx + fx·sin(tilt y)·cos(tilt x), cy − fy·sin(tilt x): where
+/// that is what is seen, a stated centre that is off moves the tilts.
+fn per_pixel(k: &FxFyCxCy, sensor: ScheimpflugParams) -> [f64; 2] {
+    let [cos_x, cos_y] = [sensor.tilt_x, sensor.tilt_y].map(f64::cos);
+    [1.0 / (k.fy * cos_x), 1.0 / (k.fx * cos_x * cos_y)]
+}
+
+/// Two standard deviations of each tilt, H⁻¹·S·H⁻¹: H is how the sum of squared errors curves around the seed, S how
+/// much the views differ in where they pull the tilts.
+fn noise(host: &Host, seed: &Seed) -> Option<[f64; 2]> {
+    let squares = |dx: f64, dy: f64| {
+        let ScheimpflugParams { tilt_x, tilt_y } = seed.sensor;
+        let sensor = ScheimpflugParams { tilt_x: tilt_x + ASIDE * dx, tilt_y: tilt_y + ASIDE * dy };
+        host.fit(&Seed { sensor, ..*seed }).map(|fit| view_squares(&fit))
+    };
+    let sum = |squares: &[f64]| squares.iter().sum::<f64>();
+    let (at, left, right) = (squares(0.0, 0.0)?, squares(-1.0, 0.0)?, squares(1.0, 0.0)?);
+    let (down, up) = (squares(0.0, -1.0)?, squares(0.0, 1.0)?);
+    let square = ASIDE * ASIDE;
+    let xx = (sum(&right) + sum(&left) - 2.0 * sum(&at)) / square;
+    let yy = (sum(&up) + sum(&down) - 2.0 * sum(&at)) / square;
+    let corners = sum(&squares(1.0, 1.0)?) + sum(&squares(-1.0, -1.0)?)
+        - sum(&squares(1.0, -1.0)?)
+        - sum(&squares(-1.0, 1.0)?);
+    let xy = corners / (4.0 * square);
+    let determinant = xx * yy - xy * xy;
+    let pulls = |less: &[f64], more: &[f64]| -> Vec<f64> {
+        less.iter().zip(more).map(|(less, more)| (more - less) / (2.0 * ASIDE)).collect()
+    };
+    let [x, y] = [pulls(&left, &right), pulls(&down, &up)];
+    // The pull of each view on each tilt, as H⁻¹ makes a tilt of it.
+    let moved_x: Vec<f64> =
+        x.iter().zip(&y).map(|(x, y)| (yy * x - xy * y) / determinant).collect();
+    let moved_y: Vec<f64> =
+        x.iter().zip(&y).map(|(x, y)| (xx * y - xy * x) / determinant).collect();
+    (xx > 0.0 && determinant > 0.0).then(|| [moved_x, moved_y].map(|moved| 2.0 * deviation(&moved)))
+}
+
+/// The standard deviation of a sum of these.
+fn deviation(parts: &[f64]) -> f64 {
+    let count = parts.len() as f64;
+    let mean = parts.iter().sum::<f64>() / count;
+    let squares: f64 = parts.iter().map(|part| (part - mean).powi(2)).sum();
+    (squares * count / (count - 1.0).max(1.0)).sqrt()
+}
+
+fn view_squares(fit: &Fit) -> Vec<f64> {
+    let mut squares = vec![0.0; fit.normals.len()];
+    for dot in &fit.dots {
+        squares[dot.view] += dot.size().powi(2);
+    }
+    squares
+}
+
+/// How many numbers the dots bring beyond those that are solved for: six a view, two focal lengths, two tilts.
+pub(crate) fn free_numbers(host: &Host) -> Option<f64> {
+    let solved = 6 * host.plate().views.len() + 4;
+    (2 * host.plate().dots()).checked_sub(solved).filter(|left| *left > 0).map(|left| left as f64)
+}

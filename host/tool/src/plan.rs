@@ -1,0 +1,219 @@
+//! What a search will try, and what it can miss: told before it starts.
+
+use crate::angle::degrees;
+use crate::drive::{Source, last_step, reach};
+use jinnychair::{Options, Seed};
+
+/// Nearer than this, in radians, two tilts of a list are one: 01's rule of merging.
+const NEAR: f64 = 1e-12;
+
+/// The tilts of one axis.
+#[derive(Clone, Debug, PartialEq)]
+pub struct Axis {
+    /// `x` or `y`.
+    pub name: &'static str,
+    /// The typed tilts that are tried, in order of size.
+    pub kept: Vec<f64>,
+    /// Those beyond the bound.
+    pub dropped: Vec<f64>,
+    /// Those that were typed before.
+    pub merged: Vec<f64>,
+    /// Stretches between tried tilts that no round can reach.
+    pub holes: Vec<[f64; 2]>,
+    /// The outermost tilts that can be reached.
+    pub ends: [f64; 2],
+}
+
+/// What will be tried.
+#[derive(Clone, Debug, PartialEq)]
+pub struct Plan {
+    /// About x and about y.
+    pub axes: [Axis; 2],
+    seeds: Vec<String>,
+    options: Options,
+}
+
+impl Plan {
+    /// The plan of a search with these seeds beside its grid.
+    #[must_use]
+    pub fn new(options: &Options, seeds: &[(Source, Seed)]) -> Self {
+        let tilts =
+            |of: fn(&Seed) -> f64| seeds.iter().map(|(_, seed)| of(seed)).collect::<Vec<_>>();
+        let words = seeds.iter().map(|(source, seed)| {
+            let from = if *source == Source::SeedFile { "the file's" } else { "by decomposition" };
+            format!("{from} {}° {}°", degrees(seed.sensor.tilt_x), degrees(seed.sensor.tilt_y))
+        });
+        Self {
+            axes: [
+                Axis::new("x", &options.tilt_x_seeds, &tilts(|seed| seed.sensor.tilt_x), options),
+                Axis::new("y", &options.tilt_y_seeds, &tilts(|seed| seed.sensor.tilt_y), options),
+            ],
+            seeds: words.collect(),
+            options: options.clone(),
+        }
+    }
+
+    /// What will be tried, and what can be missed, in degrees.
+    #[must_use]
+    pub fn text(&self) -> String {
+        let rounds = self.options.refine_rounds;
+        let mut lines = vec!["what is tried".to_owned()];
+        lines.extend(self.axes.iter().flat_map(Axis::tried_lines));
+        lines.extend(self.seeds.iter().map(|seed| format!("  seed          {seed}")));
+        lines.push(match rounds {
+            0 => "  rounds        none after the grid".into(),
+            _ => format!(
+                "  rounds        {rounds} after the grid, steps from {}° down to {}°; they reach {}° from a seed \
+                 in each tilt",
+                degrees(self.options.refine_step),
+                degrees(last_step(&self.options)),
+                degrees(reach(&self.options))
+            ),
+        });
+        lines.push("what can be missed".into());
+        lines.extend(self.axes.iter().flat_map(|axis| axis.missed_lines(rounds)));
+        if rounds > 0 {
+            lines.push(format!(
+                "  tilts nearer to each other than the last step, {}°",
+                degrees(last_step(&self.options))
+            ));
+        }
+        lines.join("\n")
+    }
+
+    /// How near a winner is to the best tilt by the steps alone, for x and y, in radians: the last step, or without
+    /// rounds the largest gap of the list.
+    #[must_use]
+    pub fn steps(&self) -> [f64; 2] {
+        if self.options.refine_rounds > 0 {
+            return [last_step(&self.options); 2];
+        }
+        [0, 1].map(|i| self.axes[i].largest_gap().map_or(0.0, |[a, b]| b - a))
+    }
+}
+
+impl Axis {
+    fn new(name: &'static str, typed: &[f64], seeds: &[f64], options: &Options) -> Self {
+        let (mut kept, mut dropped, mut merged) = (vec![], vec![], vec![]);
+        for &tilt in typed {
+            if tilt.abs() > options.max_abs_tilt {
+                dropped.push(tilt);
+            } else if kept.iter().any(|other: &f64| (tilt - other).abs() < NEAR) {
+                merged.push(tilt);
+            } else {
+                kept.push(tilt);
+            }
+        }
+        kept.sort_by(f64::total_cmp);
+        let mut starts: Vec<f64> = kept.iter().chain(seeds).copied().collect();
+        starts.sort_by(f64::total_cmp);
+        let (reach, bound) = (reach(options), options.max_abs_tilt);
+        let holes = starts.windows(2).map(|pair| [pair[0] + reach, pair[1] - reach]);
+        let holes = holes.filter(|[a, b]| b - a > last_step(options).max(NEAR)).collect();
+        let within =
+            |tilt: Option<&f64>, by: f64| tilt.map_or(0.0, |tilt| (tilt + by).clamp(-bound, bound));
+        let ends = [within(starts.first(), -reach), within(starts.last(), reach)];
+        Self { name, kept, dropped, merged, holes, ends }
+    }
+
+    fn largest_gap(&self) -> Option<[f64; 2]> {
+        let pairs = self.kept.windows(2).map(|pair| [pair[0], pair[1]]);
+        pairs.reduce(|a, b| if b[1] - b[0] > (a[1] - a[0]) * (1.0 + 1e-9) { b } else { a })
+    }
+
+    fn tried_lines(&self) -> Vec<String> {
+        let name = self.name;
+        let list = |tilts: &[f64]| {
+            tilts.iter().map(|tilt| format!("{}°", degrees(*tilt))).collect::<Vec<_>>().join(", ")
+        };
+        let mut lines = vec![format!("  tilts {name}       {}", list(&self.kept))];
+        if self.kept.is_empty() {
+            lines = vec![format!("  tilts {name}       none of the typed ones")];
+        }
+        if !self.dropped.is_empty() {
+            lines.push(format!("  left out      {name} {}: beyond the bound", list(&self.dropped)));
+        }
+        if !self.merged.is_empty() {
+            lines.push(format!("  merged        {name} {}: typed before", list(&self.merged)));
+        }
+        lines
+    }
+
+    fn missed_lines(&self, rounds: usize) -> Vec<String> {
+        let name = self.name;
+        let mut lines = vec![];
+        if let Some([a, b]) = self.largest_gap() {
+            lines.push(format!(
+                "  tilt {name}        the largest gap in the typed list is {}°, from {}° to {}°",
+                degrees(b - a),
+                degrees(a),
+                degrees(b)
+            ));
+        }
+        let [least, most] = self.ends.map(degrees);
+        lines.push(format!("  tilt {name}        nothing below {least}°, nothing above {most}°"));
+        if rounds > 0 {
+            lines.extend(self.hole_texts().iter().map(|hole| format!("  HOLE          {hole}")));
+        }
+        lines
+    }
+
+    /// The holes, in words.
+    #[must_use]
+    pub fn hole_texts(&self) -> Vec<String> {
+        let name = self.name;
+        let text = |[a, b]: &[f64; 2]| {
+            format!("tilt {name} from {}° to {}°: no round can reach it", degrees(*a), degrees(*b))
+        };
+        self.holes.iter().map(text).collect()
+    }
+}
+
+#[cfg(test)]
+mod tests {
+    use super::*;
+
+    fn plan(x: &[f64], y: &[f64], rounds: usize) -> Plan {
+        let mut options = Options::default();
+        let radians = |degrees: &[f64]| degrees.iter().map(|d: &f64| d.to_radians()).collect();
+        (options.tilt_x_seeds, options.tilt_y_seeds) = (radians(x), radians(y));
+        (options.refine_rounds, options.refine_step) = (rounds, 1f64.to_radians());
+        options.max_abs_tilt = 15f64.to_radians();
+        Plan::new(&options, &[])
+    }
+
+    #[test]
+    fn gaps_holes_ends_and_what_falls_away_are_told() {
+        let plan = plan(&[3.0, -3.0, 12.0, 20.0, 3.0], &[0.0], 3);
+        let text = plan.text();
+        for said in [
+            "tilts x       -3.000°, 3.000°, 12.000°\n",
+            "left out      x 20.000°: beyond the bound\n",
+            "merged        x 3.000°: typed before\n",
+            "tilts y       0°\n",
+            "rounds        3 after the grid, steps from 1.000° down to 0.250°; they reach 1.750° from a seed",
+            "the largest gap in the typed list is 9.000°, from 3.000° to 12.000°\n",
+            "nothing below -4.750°, nothing above 13.750°\n",
+            "HOLE          tilt x from 4.750° to 10.250°: no round can reach it\n",
+            "HOLE          tilt x from -1.250° to 1.250°",
+            "tilts nearer to each other than the last step, 0.250°",
+        ] {
+            assert!(text.contains(said), "{said}\n{text}");
+        }
+    }
+
+    #[test]
+    fn rounds_that_meet_leave_no_hole_and_the_bound_ends_them() {
+        let plan = plan(&[-14.5, -11.0, 0.0], &[0.0, 3.5], 3);
+        assert_eq!(plan.axes[1].holes, Vec::<[f64; 2]>::new());
+        assert!((plan.axes[0].ends[0].to_degrees() + 15.0).abs() < 1e-12);
+        assert_eq!(plan.axes[0].holes.len(), 1);
+    }
+
+    #[test]
+    fn without_rounds_a_winner_is_as_near_as_the_gaps() {
+        let plan = plan(&[-2.0, 0.0, 3.0], &[0.0], 0);
+        assert!((plan.steps()[0].to_degrees() - 3.0).abs() < 1e-12 && plan.steps()[1] == 0.0);
+        assert!(plan.text().contains("none after the grid") && !plan.text().contains("HOLE"));
+    }
+}

@@ -1,0 +1,110 @@
+//! The winner in words: the numbers that people ask for first.
+
+use crate::angle::degrees;
+use crate::drive::{Finished, Tried};
+use crate::open::Open;
+use crate::residuals::Fit;
+use crate::table::source_text;
+use crate::verdict::Point;
+use jinnychair::Winner;
+
+/// How many of the worst dots are shown.
+const WORST: usize = 3;
+
+/// The winner, its errors, and what is left open.
+#[must_use]
+pub fn winner(finished: &Finished, winner: &Winner, one: &Tried, fit: &Fit, open: &Open) -> String {
+    let (k, sensor) = (winner.camera.k, winner.sensor);
+    let total = open.total();
+    let tilt = |radians: f64, open: f64| {
+        format!("{:+.4}° ± {}°   ({radians:+.6} rad)", radians.to_degrees(), degrees(open))
+    };
+    let lines = [
+        format!(
+            "winner          candidate {} of {} ({})",
+            winner.number,
+            finished.tried.len(),
+            source_text(one.source)
+        ),
+        format!("tilt x          {}", tilt(sensor.tilt_x, total[0])),
+        format!("tilt y          {}", tilt(sensor.tilt_y, total[1])),
+        left_open(open),
+        format!("focal lengths   {:.3} px  {:.3} px", k.fx, k.fy),
+        format!("centre          {:.3} px  {:.3} px  (held)", k.cx, k.cy),
+        format!("mean error      {:.5} px", winner.mean_reproj_error),
+        format!("RMS error       {:.5} px", fit.rms()),
+        format!("counted dots    {} of {}", fit.counted(), fit.dots.len()),
+        format!("score           {:.5}", winner.score),
+        views(fit),
+        worst(fit),
+    ];
+    lines.join("\n")
+}
+
+fn left_open(open: &Open) -> String {
+    let both = |[x, y]: [f64; 2]| format!("±{}° x, ±{}° y", degrees(x), degrees(y));
+    let noise = open.noise.map_or("not determined".into(), both);
+    let centre = open.by_centre().map_or(
+        "not known: give the centre's tolerance with --centre-within PX".into(),
+        |tilts| {
+            format!("{} for a centre within {} px", both(tilts), open.centre_within.unwrap_or(0.0))
+        },
+    );
+    let [x, y] = open.per_pixel.map(degrees);
+    [
+        format!("  by the steps  {}", both(open.steps)),
+        format!("  by noise      {noise} (two standard deviations)"),
+        format!("  by the centre {centre}"),
+        format!("                1 px of the centre's y moves tilt x by {x}°, 1 px of its x moves tilt y by {y}°"),
+    ]
+    .join("\n")
+}
+
+fn views(fit: &Fit) -> String {
+    let mut lines = vec!["view  counted  mean px   RMS px  worst px".to_owned()];
+    for view in 0..fit.normals.len() {
+        let sizes: Vec<f64> =
+            fit.view(view).filter_map(|dot| dot.error.map(|_| dot.size())).collect();
+        let mean = sizes.iter().sum::<f64>() / sizes.len().max(1) as f64;
+        let most = sizes.iter().copied().fold(0.0, f64::max);
+        let counted = format!("{}/{}", sizes.len(), fit.view(view).count());
+        lines.push(format!(
+            "{:4}  {counted:>7}  {mean:7.4}  {:7.4}  {most:8.4}",
+            view + 1,
+            fit.view_rms(view)
+        ));
+    }
+    lines.join("\n")
+}
+
+fn worst(fit: &Fit) -> String {
+    let mut lines = vec!["worst dots".to_owned()];
+    for dot in fit.worst().iter().take(WORST) {
+        let [right, down] = dot.error.unwrap_or_default();
+        lines.push(format!(
+            "  view {}, place {} {}: {:.4} px off ({right:+.3} right, {down:+.3} down)",
+            dot.view + 1,
+            dot.place.x,
+            dot.place.y,
+            dot.size()
+        ));
+    }
+    lines.join("\n")
+}
+
+/// The verdict's head line.
+#[must_use]
+pub fn verdict_head(against: &[Point]) -> String {
+    match against.len() {
+        0 => "good: nothing that was looked at speaks against the winner".into(),
+        1 => "doubtful: one point speaks against the winner".into(),
+        many => format!("doubtful: {many} points speak against the winner"),
+    }
+}
+
+/// The verdict.
+#[must_use]
+pub fn verdict(against: &[Point]) -> String {
+    let points = against.iter().enumerate().map(|(i, point)| format!("\n  {}. {point}", i + 1));
+    format!("verdict         {}{}", verdict_head(against), points.collect::<String>())
+}
