@@ -14,7 +14,7 @@ use Rattle.seed_rules.specs.Rules.{closer, tiltNear, cameraNear, near, within, 
 use Rattle.seed_rules.specs.Layout.{laid, readFrom}
 use Rattle.score_camera.specs.Camera.{damped, finiteIntrinsics, finiteDistortion, validCamera}
 use Rattle.score_camera.specs.Penalties.{distortionPenalty, tiltPenalty, centrePenalty, scoreOf}
-use Rattle.score_rows.specs.Rows.{rowsOf, tiltMatrix, projected, distanceOf, rowError, isCounted, countedErrors, summed, errorSum, meanOf}
+use Rattle.score_rows.specs.Rows.{rowsOf, tiltMatrix, projected, rowError, isCounted, countedErrors, summed, errorSum, meanOf}
 use Rattle.score_outcome.specs.Evaluation.{anyAboveOne, solvedRefusal, findingRefusal, trigOf, meanWith, scoringOf, evaluated, outcomeOf}
 use Rattle.score_best.specs.Best.{beats, unbeaten, firstUnbeaten, bestOf, noBest, isBetter, improved}
 use Rattle.search_record.specs.Record.{hasPlace, sound, awaiting, withOutcome, entered, nextStep, roundOpened, ended}
@@ -42,5 +42,5 @@ pub record OnWalk : Type 0 where
   pub whole-result : resultDef (runAfter wholeRun (startedList wholeInputs sixty) wholeCalls) ≡ Result wholeWinner
 
 pub on-walk : OnWalk
-unfolding coefficientOf hornerOf seriesOf beyondHalf trigOf every absOf isFinite minOf maxOf clampOf rootIn isqrt rootOf root productOf firstOther secondOther minorOf cofactorOf determinantOf inverseOf tiltProjectionMatrix tiltVerdict forwardDepth inverseDepth applyHomography applyHomographyInverse radialFactor tangentialX tangentialY distorted jacobianRadial radialDerivative jacobianAt keep hasNear push mergedInto closer tiltNear cameraNear near within inBound pairs seedGrid initialList offsets nextList laid readFrom damped finiteIntrinsics finiteDistortion validCamera distortionPenalty tiltPenalty centrePenalty scoreOf rowsOf tiltMatrix projected distanceOf rowError isCounted countedErrors summed errorSum meanOf anyAboveOne solvedRefusal findingRefusal meanWith scoringOf evaluated outcomeOf beats unbeaten firstUnbeaten bestOf noBest isBetter improved hasPlace sound awaiting withOutcome entered nextStep roundOpened ended goodSeed tooMany demandOf openingOf startReply startList nextDef seedLent seedPart nextSeeds closeRound enterDef answerDef resultDef runCall walk runAfter add sub mul div neg lt le eq isNan ofBits ofInt sum round units odd size span climb
+unfolding coefficientOf hornerOf seriesOf beyondHalf trigOf every absOf isFinite minOf maxOf clampOf rootIn isqrt rootOf root productOf firstOther secondOther minorOf cofactorOf determinantOf inverseOf tiltProjectionMatrix tiltVerdict forwardDepth inverseDepth applyHomography applyHomographyInverse radialFactor tangentialX tangentialY distorted jacobianRadial radialDerivative jacobianAt keep hasNear push mergedInto closer tiltNear cameraNear near within inBound pairs seedGrid initialList offsets nextList laid readFrom damped finiteIntrinsics finiteDistortion validCamera distortionPenalty tiltPenalty centrePenalty scoreOf rowsOf tiltMatrix projected rowError isCounted countedErrors summed errorSum meanOf anyAboveOne solvedRefusal findingRefusal meanWith scoringOf evaluated outcomeOf beats unbeaten firstUnbeaten bestOf noBest isBetter improved hasPlace sound awaiting withOutcome entered nextStep roundOpened ended goodSeed tooMany demandOf openingOf startReply startList nextDef seedLent seedPart nextSeeds closeRound enterDef answerDef resultDef runCall walk runAfter add sub mul div neg lt le eq isNan ofBits ofInt sum round units odd size span climb
 on-walk = record { empty = refl; failed = refl; whole = refl; first-lost = refl; between-lost = refl; all-lost = refl; all-lost-result = refl; whole-result = refl }

@@ -13,7 +13,7 @@ use Rattle.float.specs.Float.{signBit}
 use Rattle.root.specs.Laws.{sign-root}
 use Rattle.camera_tilt.specs.Matrix.{Matrix}
 use Rattle.score_camera.specs.Camera.{dampedCamera}
-use Rattle.score_rows.specs.Rows.{rowsOf, tiltMatrix, distanceOf, rowError, isCounted, countedErrors, noErrors, summed, errorSum, meanOf}
+use Rattle.score_rows.specs.Rows.{rowsOf, tiltMatrix, rowError, isCounted, countedErrors, noErrors, summed, errorSum, meanOf}
 use Rattle.score_outcome.specs.Evaluation.{meanWith}
 use Rattle.score_camera.specs.declared.pinhole.PinholeCamera.{PinholeCamera}
 use Rattle.score_rows.specs.declared.Row.{Row}
@@ -21,7 +21,7 @@ use Rattle.score_rows.specs.declared.ErrorSum.{ErrorSum}
 use Rattle.score_outcome.specs.declared.SolvedCamera.{SolvedCamera}
 
 sign-error : (c : PinholeCamera) (h : Matrix) (r : Row) → signBit (rowError c h r) ≡ false
-unfolding rowError distanceOf
+unfolding rowError
 sign-error c h r = sign-root binary64 _ (sign-add binary64 _ _ (sign-square binary64 _) (sign-square binary64 _))
 
 sign-sum : (c : PinholeCamera) (h : Matrix) (rs : List Row) (s : ErrorSum) → signBit (s .sum) ≡ false → signBit (summed s (countedErrors c h rs) .sum) ≡ false

@@ -14,6 +14,7 @@ use Rattle.camera_models.specs.Intrinsics.{sensorToPixel}
 use Rattle.camera_tilt.specs.Matrix.{Matrix}
 use Rattle.camera_tilt.specs.Sensor.{tiltProjectionMatrix, applyHomography}
 use Rattle.camera_models.specs.declared.math.Pt2.{Pt2}
+use Rattle.point_normalise.specs.Points.{distanceOf}
 use Rattle.score_camera.specs.declared.pinhole.PinholeCamera.{PinholeCamera}
 use Rattle.score_rows.specs.declared.TiltTrig.{TiltTrig}
 use Rattle.score_rows.specs.declared.Row.{Row}
@@ -36,13 +37,6 @@ tiltMatrix t = tiltProjectionMatrix (t .«sin_x») (t .«cos_x») (t .«sin_y»)
 -- where the camera projects an ideal point: distorted, then tilted, then brought to a pixel
 unfoldable pub projected : PinholeCamera → Matrix → Pt2 → Pt2
 projected c h p = sensorToPixel (c .k) (applyHomography h (distorted (c .dist) p))
-
--- 01, 'The run': the root of dx × dx + dy × dy
-unfoldable pub distanceOf : Pt2 → Pt2 → Float
-distanceOf p q =
-    let dx = p .x -₆₄ q .x in
-    let dy = p .y -₆₄ q .y in
-    root binary64 (dx *₆₄ dx +₆₄ dy *₆₄ dy)
 
 -- 01, 'The run': a row's error lies between its projected and its seen pixel.
 unfoldable pub rowError : PinholeCamera → Matrix → Row → Float

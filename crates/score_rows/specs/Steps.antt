@@ -17,7 +17,8 @@ use Rattle.root_code.specs.Quick.{Quick}
 use Rattle.root_code.specs.Bits.{finite-bits}
 use Rattle.camera_tilt.specs.Matrix.{Matrix}
 use Rattle.camera_models.specs.declared.math.Pt2.{Pt2}
-use Rattle.score_rows.specs.Rows.{rowsOf, projected, distanceOf, rowError, isCounted, countedErrors, noErrors, summed, errorSum}
+use Rattle.point_normalise.specs.Points.{pointAt}
+use Rattle.score_rows.specs.Rows.{rowsOf, projected, rowError, isCounted, countedErrors, noErrors, summed, errorSum}
 use Rattle.score_camera.specs.declared.pinhole.PinholeCamera.{PinholeCamera}
 use Rattle.score_rows.specs.declared.Row.{Row}
 use Rattle.score_rows.specs.declared.ErrorSum.{ErrorSum}
@@ -32,10 +33,6 @@ squaredDistance p q =
     let dx = p .x -₆₄ q .x in
     let dy = p .y -₆₄ q .y in
     dx *₆₄ dx +₆₄ dy *₆₄ dy
-
--- the point whose two numbers start at this place
-abbrev pub pointAt : List Float → ℕ → Pt2
-pointAt numbers at = record { x = getD numbers at nan; y = getD numbers (at + 1) nan }
 
 -- the square of row k's error
 unfoldable pub squareAt : PinholeCamera → Matrix → List Float → ℕ → Float
@@ -235,7 +232,7 @@ passed-more c h rows i s r below small at p =
 -- as the rules have it
 add-row-at : (s : ErrorSum) (c : PinholeCamera) (h : Matrix) (ns : List Float) (fs : List ℕ) (k : ℕ)
     → addRow s c h ns fs k ≡ addError s (isCounted c h (rowAt ns fs k)) (rowError c h (rowAt ns fs k))
-unfolding addRow squareAt squaredDistance rowAt isCounted rowError distanceOf
+unfolding addRow squareAt squaredDistance rowAt isCounted rowError
 add-row-at s c h ns fs k = let last : 4 * k + 2 + 1 ≡ 4 * k + 3 = omega arith in rw last
 
 passed : (c : PinholeCamera) (h : Matrix) (ns : List Float) (fs : List ℕ) (n : ℕ)

@@ -6,13 +6,14 @@ ghost use mathlib.Core.Path.{_≡_};
 ghost use Prim.Native.Nat.{_+_, _*_, _≤_, _<_};
 ghost use lib.ListN.{length};
 ghost use Rattle.score_rows.specs.Rows.{rowsOf, tiltMatrix, projected, noErrors, errorSum, meanOf};
-ghost use Rattle.score_rows.specs.Steps.{addError, squaredDistance, pointAt, squareAt, addRow, addRows};
+ghost use Rattle.score_rows.specs.Steps.{addError, squaredDistance, squareAt, addRow, addRows};
 use crate::blocks::add_blocks;
 use camera_models::distortion::distort;
 use camera_models::intrinsics::sensor_to_pixel;
 use camera_models::math::Pt2;
 use camera_tilt::sensor::apply_homography;
 use camera_tilt::sensor::tilt_projection_matrix;
+use point_normalise::linalg;
 use score_camera::pinhole::PinholeCamera;
 
 // Sine and cosine of each tilt of a seed.
@@ -99,23 +100,13 @@ fn with_error(total: ErrorSum, counted: bool, err: f64) -> ErrorSum
     lent
 }
 
-fn point_at(numbers: &[f64], at: usize) -> Pt2
-    requires { ⌜ at + 2 ≤ length (now numbers) ⌝ }
-    ensures { λ r. ⌜ r ≡ pointAt (now (numbers .entry)) at ⌝ }
-{
-    Pt2 {
-        x: numbers[at],
-        y: numbers[at + 1],
-    }
-}
-
 // The square of the error of row k.
 fn square_at(camera: PinholeCamera, h: [[f64; 3]; 3], rows: &[f64], k: usize) -> f64
     requires { ⌜ 4 * k + 4 ≤ length (now rows) ⌝ }
     ensures { λ r. ⌜ r ≡ squareAt camera h (now (rows .entry)) k ⌝ }
 {
-    let ideal = point_at(rows, 4 * k);
-    let seen = point_at(rows, 4 * k + 2);
+    let ideal = linalg::point_at(rows, 4 * k);
+    let seen = linalg::point_at(rows, 4 * k + 2);
     squared_error(camera, h, ideal, seen)
 }
 
