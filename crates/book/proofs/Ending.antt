@@ -10,7 +10,6 @@ use lib.Dec.{ltb, eqb}
 use lib.ListN.{length}
 use lib.Ieee.{Float}
 use Rattle.common.specs.Tests.{case, both-true}
-use Rattle.common.specs.Each.{All}
 use Rattle.seed_rules.specs.declared.CandidateSeed.{CandidateSeed}
 use Rattle.seed_rules.specs.Layout.{seedAt}
 use Rattle.seed_rules.specs.Rules.{offsets}

@@ -5,7 +5,7 @@ use mathlib.Core.Bool.{Bool, true, false, not, _&&_, cond}
 use mathlib.Core.List.{List, [], _∷_, _++_}
 use lib.Dec.{ltb, eqb}
 use lib.ListN.{length, getD}
-use lib.Ieee.{Float, binary64, ofBits}
+use lib.Ieee.{Float}
 use Rattle.common.specs.Refusal.{_when_, firstRefusal}
 use Rattle.float.specs.Binary64.{_*₆₄_}
 use Rattle.float.specs.Literals.{plusZero, half₆₄}

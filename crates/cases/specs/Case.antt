@@ -1,7 +1,7 @@
 -- What a row of the table claims: one constructor for each operation, with its inputs and the answer that 01 gives. Definitions only.
 use Prim.Native.Nat.{ℕ, zero, suc}
 use mathlib.Core.Path.{_≡_}
-use mathlib.Core.List.{List, [], _∷_, map}
+use mathlib.Core.List.{List, [], map}
 use lib.IntN.{pos, negsuc}
 use lib.Ieee.{Float, ofInt, ofBits, binary64}
 use Rattle.root.specs.Root.{root}

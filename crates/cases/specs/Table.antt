@@ -1,7 +1,7 @@
 -- The table of the cases that 01 marks P, and the theorem that all of them hold. Assumes nothing.
 use mathlib.Core.Path.{refl}
 use mathlib.Core.List.{List, [], _∷_}
-use lib.Ieee.{Float, binary64, ofInt, ofBits, add, sub, mul, div, neg, lt, le, eq, isNan}
+use lib.Ieee.{Float, ofInt, ofBits, add, sub, mul, div, neg, lt, le, eq, isNan}
 use Rattle.common.specs.Each.{All}
 use Rattle.float.specs.Float.{absOf, isFinite, minOf, maxOf}
 use Rattle.root.specs.Root.{root}

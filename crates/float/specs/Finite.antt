@@ -1,7 +1,7 @@
 -- Laws of what is finite. Assumes nothing.
 use mathlib.Core.Path.{_≡_, refl, sym}
 use mathlib.Core.Bool.{true, false, true≢false}
-use lib.Ieee.{Float, nan, inf, fin, binary64, ofBits, lt, le, div, neg, isNan}
+use lib.Ieee.{Float, nan, inf, fin, ofBits, lt, le, div, neg, isNan}
 use Rattle.float.specs.Literals.{infinity}
 use Rattle.float.specs.Float.{absOf, isFinite}
 

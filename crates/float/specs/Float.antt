@@ -1,5 +1,4 @@
 -- Rust's `abs`, `is_finite`, `min`, `max` and `clamp`, and the sign, on the values of IEEE 754. Definitions only.
-use Prim.Native.Nat.{ℕ}
 use mathlib.Core.Bool.{Bool, true, false, cond}
 use lib.Ieee.{Float, nan, inf, fin, lt, isNan}
 

@@ -1,6 +1,6 @@
 -- What the tests for a NaN tell. Assumes nothing.
 use mathlib.Core.Path.{_≡_, refl, sym, _∙_, subst}
-use mathlib.Core.Bool.{Bool, true, false, not, true≢false}
+use mathlib.Core.Bool.{true, false, not, true≢false}
 use lib.Dec.{T}
 use lib.Ieee.{Float, nan, inf, fin, ne, isNan, ofBits, toBits, div, binary64}
 use lib.Ieee.Compare.{differs-from-itself, nan-differs}

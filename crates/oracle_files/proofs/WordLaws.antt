@@ -1,5 +1,5 @@
 -- How `digitsOf` and `allAlike` go on by one element. Assumes nothing.
-use mathlib.Core.Path.{_≡_, refl, sym, ap, _∙_}
+use mathlib.Core.Path.{_≡_, refl, ap}
 use mathlib.Core.Bool.{Bool, true, false, _&&_}
 use mathlib.Core.List.{List, [], _∷_}
 use Prim.Native.Nat.{ℕ, suc, _+_, _-_, _*_, _^_, _≤_, _<_}
@@ -10,8 +10,7 @@ use borrow.Author.Tests.{eq-eqb, ne-eqb}
 use lib.ListN.{length, drop, getD, drop-of-length-le}
 use lib.Seq.{drop-cons}
 use lib.Ieee.{Float}
-use Rattle.oracle_files.specs.declared.words.Word.{Word}
-use Rattle.oracle_files.specs.declared.words.Word.the-variants.{Bits, Malformed}
+use Rattle.oracle_files.specs.declared.words.Word.the-variants.{Malformed}
 use Rattle.oracle_files.specs.Words.{digitOf, digitsOf, alike, allAlike}
 
 -- ---- sixteen digits: v is the value of the first i

@@ -2,7 +2,7 @@
 use mathlib.Core.Path.{_≡_, refl, sym, ap, _∙_, subst}
 use Prim.Native.Nat.{ℕ, zero, suc, _+_, _*_, _/_, _%_, _^_, _<_}
 use native.Mathlib.Omega.{arith}
-use mathlib.Core.Bool.{Bool, true, false, not, cond}
+use mathlib.Core.Bool.{Bool, true, not, cond}
 use lib.Dec.{T, ltb, ltb→lt, leb, eqb, eqb→eq, not-T}
 use lib.Ieee.{Float, nan, inf, fin, odd, ofFields, ofBits, nanBits, isNan, binary64}
 use lib.Ieee.Exact.{HasValue, odd-sign}

@@ -5,10 +5,9 @@ use mathlib.Core.List.{List, [], _∷_}
 use lib.Dec.{eqb}
 use lib.IntN.{pos}
 use lib.Ieee.{Float, binary64, ofInt}
-use Rattle.float.specs.Binary64.{_+₆₄_, _-₆₄_, _*₆₄_, _/₆₄_}
+use Rattle.float.specs.Binary64.{_+₆₄_, _/₆₄_}
 use Rattle.float.specs.Float.{isFinite}
 use Rattle.float.specs.Literals.{plusZero, infinity}
-use Rattle.root.specs.Root.{root}
 use Rattle.camera_models.specs.Distortion.{distorted}
 use Rattle.camera_models.specs.Intrinsics.{sensorToPixel}
 use Rattle.camera_tilt.specs.Matrix.{Matrix}

@@ -1,6 +1,6 @@
 -- `score_rows::add_row` meets its contract: its tests are the definition's. Assumes nothing.
 use mathlib.Core.Path.{sym}
-use borrow.Author.Tests.{ne-eqb, eq-eqb}
+use borrow.Author.Tests.{ne-eqb}
 use borrow.Author.Needs.{needs}
 use Rattle.score_rows.specs.Steps.{addError, addRow}
 use Rattle.score_rows.proofs.add_row.Statement.{statement}

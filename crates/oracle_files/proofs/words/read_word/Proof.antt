@@ -5,8 +5,8 @@ use Rattle.oracle_files.proofs.WordLaws.{digits-short, digits-bad, digi
 use borrow.Author.Needs.{needs}
 use mathlib.Core.Path.{_≡_}
 use Prim.Native.Nat.{_≤_, _<_, _-_, _^_}
-use lib.ListN.{length, drop}
-use Rattle.oracle_files.specs.Words.{digitOf, digitsOf, wordOf}
+use lib.ListN.{drop}
+use Rattle.oracle_files.specs.Words.{digitsOf, wordOf}
 use Rattle.oracle_files.proofs.words.read_word.Statement.{statement}
 use Rattle.oracle_files.proofs.words.read_word.Tie as tie
 use Rattle.oracle_files.proofs.words.read_word.Reads as reads

@@ -4,9 +4,9 @@ use native.Mathlib.Omega.{arith}
 use Rattle.oracle_files.proofs.WordLaws.{alike-more, alike-stop, alike-lengths, alike-none}
 use borrow.Author.Needs.{needs}
 use mathlib.Core.Path.{_≡_}
-use Prim.Native.Nat.{_≤_, _<_, _-_}
+use Prim.Native.Nat.{_≤_, _-_}
 use lib.ListN.{length, drop}
-use Rattle.oracle_files.specs.Words.{alike, allAlike}
+use Rattle.oracle_files.specs.Words.{allAlike}
 use Rattle.oracle_files.proofs.words.same_numbers.Statement.{statement}
 use Rattle.oracle_files.proofs.words.same_numbers.Tie as tie
 use Rattle.oracle_files.proofs.words.same_numbers.Reads as reads

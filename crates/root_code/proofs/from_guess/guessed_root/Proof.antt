@@ -1,5 +1,4 @@
 -- `root_code::from_guess::guessed_root` meets its contract. Assumes nothing.
-use Prim.Native.Nat.{_+_, _*_, _^_}
 use native.Mathlib.Nat.{lt-of-lt-of-le}
 use native.Mathlib.Omega.{arith}
 use Rattle.root_code.proofs.Steps.{product, near-sum, wrong-part, wrong-sum, right}

@@ -1,6 +1,6 @@
 -- `root_code::operand::if_odd` meets its contract. Assumes nothing.
 use mathlib.Core.Path.{_≡_, sym}
-use Prim.Native.Nat.{_*_, _%_}
+use Prim.Native.Nat.{_%_}
 use native.Mathlib.Nat.{mul-zero, mul-one}
 use native.Mathlib.Omega.{arith}
 use Rattle.root_code.proofs.operand.if_odd.Statement.{statement}

@@ -1,6 +1,6 @@
 -- `score_rows::blocks::add_all` meets its contract. The loop's invariant: the sum and count have the first j rows of the block.
 -- The measure is what is left of the block. Assumes nothing.
-use Prim.Native.Nat.{_+_, _-_, _≤_}
+use Prim.Native.Nat.{_-_, _≤_}
 use mathlib.Core.Path.{_≡_, refl, ap, _∙_}
 use mathlib.Core.Bool.{true}
 use native.Mathlib.Numerals.{add-one}

@@ -1,5 +1,4 @@
 -- `score_rows::blocks::add_sparse` meets its contract: rows behind the camera leave sum and count as they are. Assumes nothing.
-use native.Mathlib.Omega.{arith}
 use mathlib.Core.Path.{sym, _∙_}
 use borrow.Author.Needs.{needs}
 use Rattle.score_rows.specs.Steps.{none-counted}
