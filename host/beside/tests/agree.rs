@@ -15,7 +15,7 @@ fn every_reply_every_list_and_every_record_are_the_books() {
             .unwrap_or_else(|fault| panic!("list of calls {i}, {inputs:?}: {fault}"));
     }
     // What was compared: runs to their end, each outcome, and each refusal of a search.
-    assert!(tally.runs > 1500 && tally.calls > 50_000 && tally.unsound > 2000, "{tally:?}");
+    assert!(tally.runs > 1500 && tally.calls > 40_000 && tally.unsound > 2000, "{tally:?}");
     assert!(tally.results.iter().all(|&times| times > 0), "{tally:?}");
     assert!(tally.entered.iter().all(|&times| times > 100), "{tally:?}");
     assert!((1..16).all(|number| tally.refused[number] > 0), "{tally:?}");
