@@ -129,6 +129,15 @@ number-plus s m e t h =
     let z : 0 * 1 * down e ≡ 0 = omega arith in
     rw (z, mul-one (suc m * up e), mul-one (down e)) (sum-zero s t (suc m * up e) (down e) (mul-pos (zero-lt-suc m) (up-pos e)) ∙ round-own binary64 s m e h)
 
+-- of a zero +0, also where it doesn't fit the format
+pub zero-add-plus : (x : Float) → eq x plusZero ≡ true → add binary64 x plusZero ≡ plusZero
+unfolding add sum eq ofBits
+zero-add-plus nan h = absurd (true≢false (sym h))
+zero-add-plus (inf s) h = absurd (true≢false (sym h))
+zero-add-plus (fin true zero e) h = simp (zero-mul, mul-one) (round-zero false (down e) (down-pos e))
+zero-add-plus (fin false zero e) h = simp (zero-mul, mul-one) (round-zero false (down e) (down-pos e))
+zero-add-plus (fin s (suc m) e) h = absurd (true≢false (sym h ∙ eq-zero s (suc m) e ∙ eqb·suc-zero m))
+
 pub add-zero : (x : Float) (t : Bool) → T (fits binary64 x) → add binary64 x (zeroOf t) ≡ plusZeroUnless t x
 unfolding add ofBits
 add-zero nan t h = unfold eq in refl

@@ -11,12 +11,12 @@ use score_best::Candidate;
 use score_outcome::Outcome;
 use seed_rules::CandidateSeed;
 
-// What the search was asked for. The names are those of the Rust's options.
-#[repr(C)]
+// What the search was asked for. The first three are the Rust's options, by their names. A run about one axis has no tilt about y.
 pub struct Options {
     pub refine_rounds: usize,
     pub refine_step: f64,
     pub max_abs_tilt: f64,
+    pub one_axis: bool,
 }
 
 // How far the run has come. `demand` is how many numbers the lent list must have. `step` is the one that the current list was made with,

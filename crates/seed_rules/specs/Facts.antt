@@ -1,7 +1,7 @@
 -- What holds of every seed of a round's list, for those who use the rules: where it comes from, that it lies within the bound, how many there are, and that a later
 -- round's list around a centre within the bound has one. Assumes nothing.
 use mathlib.Core.Path.{_≡_, refl, ap}
-use mathlib.Core.Bool.{true}
+use mathlib.Core.Bool.{Bool, true, false}
 use mathlib.Core.List.{List, [], _∷_, _++_, map, List·Memᴰ, List·Memᴰ·head, List·Memᴰ·tail, List·Memᴰ·not-nil, List·Memᴰ·cases-cons, Memᴰ·append-left, Memᴰ·append-right, Memᴰ·map, Memᴰ·of-map}
 use mathlib.Core.Logic.{⊎-elim}
 use Prim.Native.Nat.{_+_, _≤_, _<_}
@@ -20,7 +20,7 @@ use Rattle.camera_tilt.specs.declared.sensor.ScheimpflugParams.{ScheimpflugPara
 use Rattle.seed_rules.specs.declared.CandidateSeed.{CandidateSeed}
 use Rattle.seed_rules.specs.Merge.{keep}
 use Rattle.seed_rules.specs.MergeLaws.{keep-all, mem-keep, merged-all, merged-covers}
-use Rattle.seed_rules.specs.Rules.{near, tiltNear, within, inBound, tilts, pairs, seedWith, seedsWithin, seedGrid, initialList, offsets, moved, nextList}
+use Rattle.seed_rules.specs.Rules.{near, tiltNear, within, inBound, tilts, pairs, seedWith, seedsWithin, seedGrid, initialList, offsets, yOffsets, moved, nextList}
 use Rattle.seed_rules.specs.RulesLaws.{initial-length}
 
 -- ---- lists in general
@@ -103,15 +103,15 @@ next-all P dxs dys centre camera max f =
     in
     merged-all near P [] (seedsWithin max camera (pairs xs ys)) tt (all-mapped (seedWith camera) P (keep (inBound max) (pairs xs ys)) kept)
 
--- Every seed lies within the bound, and has the camera.
-pub next-in-bound : (dxs dys : List Float) (centre : ScheimpflugParams) (camera : FxFyCxCy) (max : Float)
-    → All (λ s. (inBound max (s .sensor) ≡ true) × (s .«reference_k» ≡ camera)) (nextList dxs dys centre camera max)
-next-in-bound dxs dys centre camera max = next-all (λ s. (inBound max (s .sensor) ≡ true) × (s .«reference_k» ≡ camera)) dxs dys centre camera max (λ dx dy m n b. (b, refl))
-
 -- Where 0 is among the offsets of each axis, a list around a centre within the bound has a seed: the centre plus 0 is within the bound too.
 pub zero-offset : (s : Float) → List·Memᴰ plusZero (offsets s)
 unfolding offsets
 zero-offset s = List·Memᴰ·tail (List·Memᴰ·head refl)
+
+pub zero-y-offset : (one-axis : Bool) (s : Float) → List·Memᴰ plusZero (yOffsets one-axis s)
+unfolding yOffsets
+zero-y-offset true s = List·Memᴰ·head refl
+zero-y-offset false s = zero-offset s
 
 still-within : (max t : Float) → T (fits binary64 t) → within max (t +₆₄ plusZero) ≡ within max t
 unfolding within

@@ -8,5 +8,6 @@ pub mod Rules
 pub mod Bound
 pub mod RulesLaws
 pub mod Facts
+pub mod AnyOffsets
 pub mod Tried
 pub mod Mirror

@@ -1,7 +1,7 @@
--- Laws of merging under any relation: lengths, what holds of the kept ones, what is near a dropped one, and merging in parts. Assumes nothing.
+-- Laws of merging under any relation: lengths, what holds of the kept ones, what is near a dropped one, that no kept one is near an earlier one, and merging in parts. Assumes nothing.
 use mathlib.Core.Path.{_≡_, refl, sym, ap, _∙_}
 use mathlib.Core.Bool.{Bool, true, false, _||_, cond, true≢false}
-use mathlib.Core.List.{List, [], _∷_, _++_, map, map-append, List·Memᴰ, List·Memᴰ·head, List·Memᴰ·tail, List·Memᴰ·not-nil, List·Memᴰ·cases-cons, Memᴰ·append-left, Memᴰ·append-right}
+use mathlib.Core.List.{List, [], _∷_, _++_, map, append-assoc, append-nil, map-append, List·Memᴰ, List·Memᴰ·head, List·Memᴰ·tail, List·Memᴰ·not-nil, List·Memᴰ·cases-cons, Memᴰ·append-left, Memᴰ·append-right}
 use mathlib.Core.Logic.{_⊎_, inl, inr, ⊎-elim}
 use Prim.Native.Nat.{ℕ, suc, _+_, _≤_}
 use native.Mathlib.Nat.{add-zero}
@@ -12,7 +12,7 @@ use Rattle.common.specs.Each.{All}
 use Rattle.common.specs.Tests.{case}
 use Rattle.seed_rules.specs.declared.Found.{Found}
 use Rattle.seed_rules.specs.declared.Found.the-variants.{At, Nothing}
-use Rattle.seed_rules.specs.Merge.{foundElse, isFound, keep, hasNear, newestNear, push, mergedInto}
+use Rattle.seed_rules.specs.Merge.{foundElse, isFound, keep, hasNear, newestNear, push, mergedInto, merged}
 
 found-in : (r : Found) (c : Bool) (i : ℕ) → isFound (foundElse r (cond c (At i) Nothing)) ≡ (c || isFound r)
 found-in (At j) true i = refl
@@ -199,6 +199,31 @@ module _ {A : Type 0} where
         (λ e. stays-covered (push near ks t) ss s (rw e (push-covers ks t)))
         (λ n. merged-covers (push near ks t) ss n)
         (List·Memᴰ·cases-cons m)
+
+    -- ---- none of a merged list is near an earlier one; those of ks come before
+    abbrev Fresh : List A → List A → Type 0
+    Fresh ks [] = Unit {0}
+    Fresh ks (s ∷ ss) = (hasNear near ks s ≡ false) × Fresh (ks ++ s ∷ []) ss
+
+    fresh-more : (ks ss : List A) (s : A) → Fresh ks ss → hasNear near (ks ++ ss) s ≡ false → Fresh ks (ss ++ s ∷ [])
+    fresh-more ks [] s f h = (rw append-nil at h, tt)
+    fresh-more ks (t ∷ ss) s f h = (f .0, fresh-more (ks ++ t ∷ []) ss s (f .1) (rw (← append-assoc ks (t ∷ []) ss) at h))
+
+    push-fresh : (ks : List A) (s : A) → Fresh [] ks → Fresh [] (push near ks s)
+    unfolding push
+    push-fresh ks s f = case (hasNear near ks s) (λ e. simp e f) (λ e. simp e (fresh-more [] ks s f e))
+
+    fresh-into : (ks ss : List A) → Fresh [] ks → Fresh [] (mergedInto near ks ss)
+    unfolding mergedInto
+    fresh-into ks [] f = f
+    fresh-into ks (s ∷ ss) f = fresh-into (push near ks s) ss (push-fresh ks s f)
+
+    fresh-at : (ks before : List A) (s : A) (behind : List A) → Fresh ks (before ++ s ∷ behind) → hasNear near (ks ++ before) s ≡ false
+    fresh-at ks [] s behind f = rw append-nil (f .0)
+    fresh-at ks (t ∷ before) s behind f = rw (← append-assoc ks (t ∷ []) before) (fresh-at (ks ++ t ∷ []) before s behind (f .1))
+
+    pub merged-fresh : (ss before : List A) (s : A) (behind : List A) → merged near ss ≡ before ++ s ∷ behind → hasNear near before s ≡ false
+    merged-fresh ss before s behind e = fresh-at [] before s behind (rw e at (fresh-into [] ss tt))
 
     -- ---- a map that keeps nearness keeps merging
     module _ (f : A → A) (same : (a b : A) → near (f a) (f b) ≡ near a b) where

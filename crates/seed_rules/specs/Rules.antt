@@ -1,7 +1,7 @@
 -- 01's rules about seeds, on lists of values: nearness, the bound, round 0's list, a later round's list. Definitions only.
-use mathlib.Core.Bool.{Bool, _&&_}
+use mathlib.Core.Bool.{Bool, _&&_, cond}
 use mathlib.Core.List.{List, [], _∷_, _++_, map}
-use lib.Ieee.{Float, neg, lt, le}
+use lib.Ieee.{Float, neg, lt, le, eq}
 use Rattle.float.specs.Float.{absOf}
 use Rattle.float.specs.Literals.{plusZero, tenToMinus9, tenToMinus12}
 use Rattle.float.specs.Binary64.{_+₆₄_, _-₆₄_}
@@ -38,6 +38,10 @@ within max t = le (absOf t) max
 unfoldable pub inBound : Float → ScheimpflugParams → Bool
 inBound max t = within max (t .«tilt_x») && within max (t .«tilt_y»)
 
+-- ---- 02, E8: no tilt about y, which is a zero of either sign
+unfoldable pub untiltedY : ScheimpflugParams → Bool
+untiltedY t = eq (t .«tilt_y») plusZero
+
 -- ---- every x with every y: x outer, y inner
 abbrev pub tilts : Float → Float → ScheimpflugParams
 tilts x y = record { «tilt_x» = x; «tilt_y» = y }
@@ -62,9 +66,12 @@ unfoldable pub initialList : List CandidateSeed → List Float → List Float �
 initialList decomposition xs ys base max = merged near (decomposition ++ map (seedWith base) (seedGrid xs ys max))
 
 -- ---- 01: a later round's offsets are added to the centre, those then beyond the bound go, and the rest merge by the same rule, the earlier kept.
--- The offsets are any two lists; 01's are -s, 0, s for both.
+-- The offsets are any two lists; 01's are -s, 0, s for both, and those of 02, E8, for a one-axis run are 0 alone for y.
 unfoldable pub offsets : Float → List Float
 offsets s = neg s ∷ plusZero ∷ s ∷ []
+
+unfoldable pub yOffsets : Bool → Float → List Float
+yOffsets one-axis s = cond one-axis (plusZero ∷ []) (offsets s)
 
 abbrev pub moved : Float → List Float → List Float
 moved centre ds = map (λ d. centre +₆₄ d) ds
