@@ -3,8 +3,8 @@ use Prim.Native.Nat.{ℕ, _+_, _*_, _/_, _%_}
 use mathlib.Core.Bool.{Bool, not, _&&_, _||_, cond}
 use mathlib.Core.List.{List, [], _∷_, _++_}
 use lib.Dec.{ltb, eqb}
-use lib.ListN.{length}
-use lib.Ieee.{Float, lt}
+use lib.ListN.{length, getD}
+use lib.Ieee.{Float, nan, lt, eq}
 use Rattle.common.specs.Each.{every}
 use Rattle.common.specs.Refusal.{Check, _when_, firstRefusal}
 use Rattle.float.specs.Float.{isFinite}
@@ -12,7 +12,7 @@ use Rattle.float.specs.Literals.{plusZero, half₆₄}
 use Rattle.camera_models.specs.declared.math.Pt2.{Pt2}
 use Rattle.camera_models.specs.declared.intrinsics.FxFyCxCy.{FxFyCxCy}
 use Rattle.seed_rules.specs.declared.CandidateSeed.{CandidateSeed}
-use Rattle.seed_rules.specs.Rules.{inBound, initialList}
+use Rattle.seed_rules.specs.Rules.{inBound, untiltedY, initialList}
 use Rattle.seed_rules.specs.Layout.{allSeeds, written}
 use Rattle.score_best.specs.Best.{noBest}
 use Rattle.search_record.specs.Record.{nobody}
@@ -37,6 +37,13 @@ goodSeed max s =
     && isFinite (s .sensor .«tilt_y»)
     && inBound max (s .sensor)
 
+-- 02, E8: the typed y tilts of a one-axis run are a single value, a zero of either sign
+unfoldable pub onlyZero : List Float → Bool
+onlyZero ys = eqb (length ys) 1 && eq (getD ys 0 nan) plusZero
+
+abbrev pub untiltedSeed : CandidateSeed → Bool
+untiltedSeed s = untiltedY (s .sensor)
+
 -- more seeds or rounds than a run can have, or a decomposition that isn't in sixes
 unfoldable pub tooMany : ℕ → ℕ → ℕ → ℕ → Bool
 tooMany x y d rounds = ltb 16 x || ltb 16 y || ltb 256 (d / 6) || ltb 16 rounds || not (eqb (d % 6) 0)
@@ -56,7 +63,8 @@ openingOf options center demand n = record {
   «run_best» = noBest;
 }
 
--- 01, 'Start', and 02, E1, in their order: the refusals that need only the options and the lengths of the lists, and then the others
+-- 01, 'Start', and then 02, in their order: the refusals that need only the options and the lengths of the lists, those of 01 that need more, and 02's:
+-- a bound above 0.5 (E1), and typed y tilts or a decomposition seed that a one-axis run can't have (E8)
 abbrev pub optionsChecks : ℕ → Options → ℕ → ℕ → ℕ → List Check
 optionsChecks views options x y d =
     (1 when ltb views 3)
@@ -64,6 +72,13 @@ optionsChecks views options x y d =
     ∷ (3 when not (positive (options .«max_abs_tilt»)))
     ∷ (4 when (ltb 0 (options .«refine_rounds») && not (positive (options .«refine_step»))))
     ∷ (5 when tooMany x y d (options .«refine_rounds»))
+    ∷ []
+
+abbrev pub furtherChecks : Options → List Float → List Float → List Check
+furtherChecks options ys decomposition =
+    (27 when lt half₆₄ (options .«max_abs_tilt»))
+    ∷ (31 when (options .«one_axis» && not (onlyZero ys)))
+    ∷ (32 when (options .«one_axis» && not (every untiltedSeed (allSeeds decomposition))))
     ∷ []
 
 -- The inputs are the parameters of these parts; n is how many numbers the lent list has.
@@ -76,8 +91,7 @@ module _ (views : ℕ) (options : Options) (xs ys decomposition : List Float) wh
       (6 when not (every (goodSeed (options .«max_abs_tilt»)) (allSeeds decomposition)))
       ∷ (7 when not (every isFinite xs && every isFinite ys))
       ∷ (8 when ltb n startDemand)
-      ∷ (27 when lt half₆₄ (options .«max_abs_tilt»))
-      ∷ []
+      ∷ furtherChecks options ys decomposition
 
   abbrev pub startChecks : ℕ → List Check
   startChecks n = optionsChecks views options (length xs) (length ys) (length decomposition) ++ listsChecks n

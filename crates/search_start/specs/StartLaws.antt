@@ -1,4 +1,5 @@
--- What Start can rely on where none of its refusals holds: sizes within their limits, good seeds, a list that is long enough, a bound of at most 0.5. Assumes nothing.
+-- What Start can rely on where none of its refusals holds: sizes within their limits, good seeds, a list that is long enough, a bound of at most 0.5, and in a one-axis
+-- run no tilt about y. Assumes nothing.
 use Prim.Native.Nat.{ℕ, _+_, _*_, _/_, _≤_}
 use mathlib.Core.Path.{_≡_, refl, sym, _∙_}
 use mathlib.Core.Bool.{Bool, true, false, not, _&&_, _||_, cond}
@@ -16,7 +17,7 @@ use Rattle.common.specs.RefusalLaws.{refuses-none}
 use Rattle.float.specs.Float.{isFinite}
 use Rattle.float.specs.Literals.{half₆₄}
 use Rattle.seed_rules.specs.Layout.{allSeeds}
-use Rattle.search_start.specs.Start.{positive, goodSeed, tooMany, demandOf, startDemand, optionsChecks, listsChecks, startRefusal}
+use Rattle.search_start.specs.Start.{positive, goodSeed, onlyZero, untiltedSeed, tooMany, demandOf, startDemand, optionsChecks, listsChecks, startRefusal}
 use Rattle.search_record.specs.declared.run.Options.{Options}
 
 pub record Sizes (x y d rounds : ℕ) : Type 0 where
@@ -83,11 +84,16 @@ module _ (views : ℕ) (options : Options) (xs ys decomposition : List Float) (n
       let h4 = refuses-none (ltb 0 (options .«refine_rounds») && not (positive (options .«refine_step»))) 4 _ (omega arith) h3 .1 in
       too-many-passed _ _ _ _ (refuses-none (tooMany (length xs) (length ys) (length decomposition) (options .«refine_rounds»)) 5 _ (omega arith) h4 .0)
 
+where-set : (a b : Bool) → (a && not b) ≡ false → a ≡ true → b ≡ true
+where-set a b h e = not-false b (rw e at h)
+
 pub record Passed (views : ℕ) (options : Options) (xs ys decomposition : List Float) (n : ℕ) : Type 0 where
   pub sizes : Sizes (length xs) (length ys) (length decomposition) (options .«refine_rounds»)
   pub good-seeds : every (goodSeed (options .«max_abs_tilt»)) (allSeeds decomposition) ≡ true
   pub demand-fits : startDemand views options xs ys decomposition ≤ n
   pub bound-small : lt half₆₄ (options .«max_abs_tilt») ≡ false
+  pub one-y : options .«one_axis» ≡ true → onlyZero ys ≡ true
+  pub untilted-seeds : options .«one_axis» ≡ true → every untiltedSeed (allSeeds decomposition) ≡ true
 
 pub start-passed : (views : ℕ) (options : Options) (xs ys decomposition : List Float) (n : ℕ)
     → startRefusal views options xs ys decomposition n ≡ 0 → Passed views options xs ys decomposition n
@@ -96,5 +102,14 @@ start-passed views options xs ys decomposition n h =
     let h6 = refuses-none (not (every (goodSeed (options .«max_abs_tilt»)) (allSeeds decomposition))) 6 _ (omega arith) (p .1) in
     let h7 = refuses-none (not (every isFinite xs && every isFinite ys)) 7 _ (omega arith) (h6 .1) .1 in
     let h8 = refuses-none (ltb n (startDemand views options xs ys decomposition)) 8 _ (omega arith) h7 in
-    let h9 = refuses-none (lt half₆₄ (options .«max_abs_tilt»)) 27 _ (omega arith) (h8 .1) .0 in
-    record { sizes = sizes-fit views options xs ys decomposition n _ refl (p .0); good-seeds = not-false _ (h6 .0); demand-fits = ltb-false n _ (h8 .0); bound-small = h9 }
+    let h9 = refuses-none (lt half₆₄ (options .«max_abs_tilt»)) 27 _ (omega arith) (h8 .1) in
+    let h10 = refuses-none (options .«one_axis» && not (onlyZero ys)) 31 _ (omega arith) (h9 .1) in
+    let h11 = refuses-none (options .«one_axis» && not (every untiltedSeed (allSeeds decomposition))) 32 _ (omega arith) (h10 .1) .0 in
+    record {
+      sizes = sizes-fit views options xs ys decomposition n _ refl (p .0);
+      good-seeds = not-false _ (h6 .0);
+      demand-fits = ltb-false n _ (h8 .0);
+      bound-small = h9 .0;
+      one-y = where-set (options .«one_axis») (onlyZero ys) (h10 .0);
+      untilted-seeds = where-set (options .«one_axis») (every untiltedSeed (allSeeds decomposition)) h11;
+    }

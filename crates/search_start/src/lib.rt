@@ -6,7 +6,7 @@ ghost use Rattle.common.specs.Refusal.{firstRefusal};
 ghost use Rattle.common.specs.Each.{every};
 ghost use Rattle.float.specs.Float.{isFinite};
 ghost use Rattle.seed_rules.specs.Layout.{allSeeds};
-ghost use Rattle.search_start.specs.Start.{positive, goodSeed, tooMany, demandOf, openingOf, optionsChecks, startRefusal, startReply, startList};
+ghost use Rattle.search_start.specs.Start.{positive, goodSeed, onlyZero, untiltedSeed, tooMany, demandOf, openingOf, optionsChecks, furtherChecks, startRefusal, startReply, startList};
 ghost use Rattle.search_start.specs.declared.Started.the-variants.{Accepted};
 use camera_models::intrinsics::FxFyCxCy;
 use camera_models::math::Pt2;
@@ -67,6 +67,36 @@ fn all_finite(numbers: &[f64]) -> bool
     true
 }
 
+// A single value, a zero of either sign.
+fn is_only_zero(numbers: &[f64]) -> bool
+    ensures { λ r. ⌜ r ≡ onlyZero (now (numbers .entry)) ⌝ }
+{
+    if numbers.len() != 1 {
+        return false;
+    }
+    numbers[0] == 0.0
+}
+
+fn is_untilted_seed(seed: CandidateSeed) -> bool
+    ensures { λ r. ⌜ r ≡ untiltedSeed seed ⌝ }
+{
+    seed.sensor.tilt_y == 0.0
+}
+
+fn all_untilted_seeds(decomposition: &[f64]) -> bool
+    ensures { λ r. ⌜ r ≡ every untiltedSeed (allSeeds (now (decomposition .entry))) ⌝ }
+{
+    let n = decomposition.len() / 6;
+    let mut i = 0;
+    while i < n {
+        if !is_untilted_seed(seed_lists::seed_at(decomposition, i)) {
+            return false;
+        }
+        i += 1;
+    }
+    true
+}
+
 // More seeds or rounds than a run can have, or a decomposition that isn't in sixes.
 fn is_too_many(x: usize, y: usize, decomposition: usize, rounds: usize) -> bool
     ensures { λ r. ⌜ r ≡ tooMany x y decomposition rounds ⌝ }
@@ -113,6 +143,22 @@ fn options_refusal(views: usize, options: Options, x: usize, y: usize, decomposi
     0
 }
 
+// Start's last refusals: a bound above 0.5, and what a run about one axis can't have.
+fn further_refusal(options: Options, tilt_y_seeds: &[f64], decomposition: &[f64]) -> u8
+    ensures { λ r. ⌜ r ≡ firstRefusal (furtherChecks options (now («tilt_y_seeds» .entry)) (now (decomposition .entry))) ⌝ }
+{
+    if 0.5 < options.max_abs_tilt {
+        return 27;
+    }
+    if options.one_axis & !is_only_zero(tilt_y_seeds) {
+        return 31;
+    }
+    if options.one_axis & !all_untilted_seeds(decomposition) {
+        return 32;
+    }
+    0
+}
+
 // Start's refusals, of which the first that holds is returned; 0 where none does.
 fn start_refusal(
     views: usize,
@@ -140,10 +186,7 @@ fn start_refusal(
     if list_len < demand_of(numbers, x, y) {
         return 8;
     }
-    if 0.5 < options.max_abs_tilt {
-        return 27;
-    }
-    0
+    further_refusal(options, tilt_y_seeds, decomposition)
 }
 
 // The accepted run with this many seeds in round 0's list. It is over at once where there are none.

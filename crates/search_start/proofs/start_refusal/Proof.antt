@@ -1,4 +1,4 @@
--- `search_start::start_refusal` meets its contract: the refusals of the options, and then each answer with the tests that led to it. Assumes nothing.
+-- `search_start::start_refusal` meets its contract: the refusals of the options, then each answer with the tests that led to it, then the further refusals. Assumes nothing.
 use mathlib.Core.Path.{sym, _∙_}
 use borrow.Author.Needs.{needs}
 use borrow.Author.Tests.{lt-ltb, le-ltb, not-true, not-false}
@@ -55,35 +55,23 @@ returns-4 c =
       lt-ltb _ _ (c .if4 .taken),
     ))
 
+further-refusal-requires : tie.Need-further-refusal-requires
+further-refusal-requires c κs = search needs
+
 returns-5 : tie.Need-returns-5
 returns-5 c =
-    let a = c .before .before .before .before .before .before .before .before .before .before .before .before .before .before .args in
+    let a = c .before .before .before .before .before .before .before .before .before .before .before .before .before .args in
     sym
-    (options-passed (a .views) (a .options) (a .tilt-x-seeds .now) (a .tilt-y-seeds .now) (a .decomposition .now) (a .list-len) _ (c .before .before .before .before .before .before .before .before .before .before .options-refusal .ensures) (c .before .before .before .before .before .before .before .before .before .if1 .left)
+    (options-passed (a .views) (a .options) (a .tilt-x-seeds .now) (a .tilt-y-seeds .now) (a .decomposition .now) (a .list-len) _ (c .before .before .before .before .before .before .before .before .before .options-refusal .ensures) (c .before .before .before .before .before .before .before .before .if1 .left)
     ∙ rw (
-      sym (c .before .before .before .before .before .before .before .before .all-good-seeds .ensures) ∙ not-false _ (c .before .before .before .before .before .before .before .if2 .left),
-      sym (c .before .before .before .before .before .before .all-finite .ensures),
-      sym (c .before .before .before .before .before .all-finite2 .ensures),
-      c .before .before .before .before .if3 .left,
-      sym (c .before .before .before .demand-of .ensures),
-      le-ltb _ _ (c .before .before .if4 .left),
-      c .if5 .taken,
-    ))
-
-returns-6 : tie.Need-returns-6
-returns-6 c =
-    let a = c .before .before .before .before .before .before .before .before .before .before .before .before .before .before .args in
-    sym
-    (options-passed (a .views) (a .options) (a .tilt-x-seeds .now) (a .tilt-y-seeds .now) (a .decomposition .now) (a .list-len) _ (c .before .before .before .before .before .before .before .before .before .before .options-refusal .ensures) (c .before .before .before .before .before .before .before .before .before .if1 .left)
-    ∙ rw (
-      sym (c .before .before .before .before .before .before .before .before .all-good-seeds .ensures) ∙ not-false _ (c .before .before .before .before .before .before .before .if2 .left),
-      sym (c .before .before .before .before .before .before .all-finite .ensures),
-      sym (c .before .before .before .before .before .all-finite2 .ensures),
-      c .before .before .before .before .if3 .left,
-      sym (c .before .before .before .demand-of .ensures),
-      le-ltb _ _ (c .before .before .if4 .left),
-      c .if5 .left,
-    ))
+      sym (c .before .before .before .before .before .before .before .all-good-seeds .ensures) ∙ not-false _ (c .before .before .before .before .before .before .if2 .left),
+      sym (c .before .before .before .before .before .all-finite .ensures),
+      sym (c .before .before .before .before .all-finite2 .ensures),
+      c .before .before .before .if3 .left,
+      sym (c .before .before .demand-of .ensures),
+      le-ltb _ _ (c .before .if4 .left),
+    )
+    (sym (c .further-refusal .ensures)))
 
 pub start-refusal-spec : {M : Type 1} → statement M
 start-refusal-spec =
@@ -98,5 +86,5 @@ start-refusal-spec =
     returns-3
     demand-of-requires
     returns-4
-    returns-5
-    returns-6)
+    further-refusal-requires
+    returns-5)
