@@ -7,7 +7,7 @@ use lib.ListN.{length}
 use lib.Ieee.{Float}
 use Rattle.common.specs.Refusal.{_when_, firstRefusal}
 use Rattle.seed_rules.specs.declared.CandidateSeed.{CandidateSeed}
-use Rattle.seed_rules.specs.Rules.{offsets, nextList}
+use Rattle.seed_rules.specs.Rules.{offsets, yOffsets, nextList}
 use Rattle.seed_rules.specs.Layout.{written}
 use Rattle.score_outcome.specs.declared.Finding.{Finding}
 use Rattle.score_outcome.specs.declared.Outcome.{Outcome}
@@ -46,7 +46,7 @@ orBest a b = cond (a .found) a b
 
 -- the seeds around a candidate, with its camera
 unfoldable pub nextSeeds : Run → Candidate → List CandidateSeed
-nextSeeds r c = nextList (offsets (nextStep r)) (offsets (nextStep r)) (c .sensor) (c .camera .k) (r .options .«max_abs_tilt»)
+nextSeeds r c = let s = nextStep r in nextList (offsets s) (yOffsets (r .options .«one_axis») s) (c .sensor) (c .camera .k) (r .options .«max_abs_tilt»)
 
 -- a list with seeds is written and opens the next round; otherwise what follows is `rest`
 abbrev pub openRound : Run → List Float → List CandidateSeed → Left → Left

@@ -11,7 +11,7 @@ use Rattle.common.specs.Tests.{both-true}
 use Rattle.common.specs.RefusalLaws.{refuses-none}
 use Rattle.seed_rules.specs.declared.CandidateSeed.{CandidateSeed}
 use Rattle.seed_rules.specs.Layout.{laid, six, Leaves}
-use Rattle.seed_rules.specs.Rules.{offsets, nextList}
+use Rattle.seed_rules.specs.Rules.{offsets, yOffsets, nextList}
 use Rattle.score_outcome.specs.declared.Finding.{Finding}
 use Rattle.score_outcome.specs.declared.Outcome.{Outcome}
 use Rattle.score_best.specs.declared.Best.{Best}
@@ -30,7 +30,7 @@ unless-zero n = go (eqb n 0) refl
 
 -- ---- the seeds at the next round's step are its list
 pub next-seeds-are : (r : Run) (c : Candidate) (s : Float) (l m : List Float) (n : ℕ) → s ≡ nextStep r
-    → Leaves six 6 (nextList (offsets s) (offsets s) (c .sensor) (c .camera .k) (r .options .«max_abs_tilt»)) l m n → Leaves six 6 (nextSeeds r c) l m n
+    → Leaves six 6 (nextList (offsets s) (yOffsets (r .options .«one_axis») s) (c .sensor) (c .camera .k) (r .options .«max_abs_tilt»)) l m n → Leaves six 6 (nextSeeds r c) l m n
 unfolding nextSeeds
 next-seeds-are r c s l m n is h = rw (← is) h
 

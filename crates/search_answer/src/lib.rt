@@ -5,7 +5,7 @@ ghost use mathlib.Core.Bool.{true};
 ghost use Prim.Native.Nat.{_-_, _≤_};
 ghost use lib.ListN.{length};
 ghost use Rattle.seed_rules.specs.Layout.{Leaves, six};
-ghost use Rattle.seed_rules.specs.Rules.{offsets, nextList};
+ghost use Rattle.seed_rules.specs.Rules.{offsets, yOffsets, nextList};
 ghost use Rattle.search_record.specs.Record.{sound};
 ghost use Rattle.search_answer.specs.Answer.{answerRefusal, orBest, closeRound, enterDef, replyOf, answerDef};
 use camera_models::intrinsics::FxFyCxCy;
@@ -13,12 +13,14 @@ use camera_tilt::sensor::ScheimpflugParams;
 use score_best::Best;
 use score_outcome::Finding;
 use score_outcome::Outcome;
+use search_record::run::Options;
 use search_record::run::Run;
 use search_record::run::ended;
 use search_record::run::entered;
 use search_record::run::is_sound;
 use search_record::run::next_step;
 use search_record::run::opened;
+use seed_grids::local_seed_grid;
 
 pub enum Answered {
     Scored(f64),
@@ -54,19 +56,37 @@ fn or_else(first: Best, second: Best) -> Best
     second
 }
 
-// Writes the seeds at this step around the tilts, with the camera, and says how many there are.
+// Writes the seeds at this step around the tilts, with the camera, and says how many there are. About one axis the y offset is 0 alone.
 fn next_seeds(
+    options: Options,
     step: f64,
-    max_abs_tilt: f64,
     reference_k: FxFyCxCy,
     sensor: ScheimpflugParams,
     list: &mut [f64],
 ) -> usize
     requires { ⌜ 54 ≤ length (now list) ⌝ }
-    ensures { λ r. ⌜ Leaves six 6 (nextList (offsets step) (offsets step) sensor «reference_k» «max_abs_tilt») (now (list .entry)) (now (list .exit)) r ⌝ }
+    ensures { λ r. ⌜ Leaves six 6 (nextList (offsets step) (yOffsets (options .«one_axis») step) sensor «reference_k» (options .«max_abs_tilt»)) (now (list .entry)) (now (list .exit)) r ⌝ }
 {
     let offsets = [-step, 0.0, step];
-    seed_grids::local_seed_grid(reference_k, sensor, &offsets, &offsets, max_abs_tilt, list)
+    if options.one_axis {
+        let zero = [0.0];
+        return local_seed_grid(
+            reference_k,
+            sensor,
+            &offsets,
+            &zero,
+            options.max_abs_tilt,
+            list,
+        );
+    }
+    local_seed_grid(
+        reference_k,
+        sensor,
+        &offsets,
+        &offsets,
+        options.max_abs_tilt,
+        list,
+    )
 }
 
 // The end of a round: the next list that has a seed, or the end of the run. An empty list ends its round at once.
@@ -83,8 +103,8 @@ fn close_round(mut run: Run, list: &mut [f64]) -> Run
         }
         let step = next_step(run);
         let len = next_seeds(
+            run.options,
             step,
-            run.options.max_abs_tilt,
             best.candidate.camera.k,
             best.candidate.sensor,
             list,
