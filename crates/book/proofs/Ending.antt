@@ -12,8 +12,7 @@ use lib.Ieee.{Float}
 use Rattle.common.specs.Tests.{case, both-true}
 use Rattle.seed_rules.specs.declared.CandidateSeed.{CandidateSeed}
 use Rattle.seed_rules.specs.Layout.{seedAt}
-use Rattle.seed_rules.specs.Rules.{offsets}
-use Rattle.seed_rules.specs.RulesLaws.{next-length}
+use Rattle.seed_rules.specs.AnyOffsets.{most-nine, round-few}
 use Rattle.score_outcome.specs.declared.Finding.{Finding}
 use Rattle.score_outcome.specs.declared.Outcome.{Outcome}
 use Rattle.score_outcome.specs.Evaluation.{outcomeOf, findingRefusal}
@@ -164,8 +163,8 @@ unfolding roundOpened
 skip-follows i r s k f = record { lasts = f .lasts; same-number = f .same-number; no-more = let n = f .no-more in omega arith }
 
 nine : (r : Run) (w : Candidate) → length (ans.nextSeeds r w) ≤ 9
-unfolding ans.nextSeeds offsets
-nine r w = next-length (offsets (nextStep r)) (offsets (nextStep r)) (w .sensor) (w .camera .k) (r .options .«max_abs_tilt»)
+unfolding ans.nextSeeds
+nine r w = let h = round-few (r .options .«one_axis») (nextStep r) (w .sensor) (w .camera .k) (r .options .«max_abs_tilt») in let n = most-nine (r .options .«one_axis») in omega arith
 
 abbrev Closes : ℕ → Type 0
 Closes k = (i : Inputs) (r : Run) (l : List Float) → Full i r → r .place .round + k ≡ r .options .«refine_rounds» → Follows i r (ans.closeRound k r l .run)

@@ -8,29 +8,47 @@ use mathlib.Core.List.{List, [], _∷_, _++_, append-assoc, append-nil}
 use borrow.Author.Tests.{ltb-true, ltb-false}
 use lib.ListN.{length, getD, length-append}
 use Rattle.common.specs.Tests.{case}
-use Rattle.common.specs.All.{all-append, all-map}
+use Rattle.common.specs.All.{all-append, all-right}
 use Rattle.common.specs.Each.{All}
 use lib.Ieee.{lt}
 use Rattle.float.specs.Float.{isFinite}
 use Rattle.float.specs.Literals.{half₆₄}
 use Rattle.seed_rules.specs.declared.CandidateSeed.{CandidateSeed}
-use Rattle.seed_rules.specs.Rules.{inBound, offsets}
-use Rattle.seed_rules.specs.RulesLaws.{next-length}
-use Rattle.seed_rules.specs.Facts.{next-in-bound}
+use Rattle.seed_rules.specs.Rules.{inBound, untiltedY}
+use Rattle.seed_rules.specs.AnyOffsets.{mostSeeds}
+use Rattle.score_outcome.specs.declared.Scoring.{Scoring}
 use Rattle.score_outcome.specs.declared.Outcome.{Outcome}
+use Rattle.score_outcome.specs.Facts.{ScoredFacts}
 use Rattle.score_best.specs.declared.Candidate.{Candidate}
 use Rattle.score_best.specs.Best.{Chosen, nothing, chosen}
-use Rattle.book.specs.Book.{Inputs, demand, Entry, Book, entries, noSeed, current, roundBest, runBest, orElse, stepOf, listAround, withWaiting, withEntry, withRound, withEnd, bookEnter}
+use Rattle.book.specs.Book.{Inputs, demand, Entry, Book, entries, noSeed, current, scoredOf, roundBest, runBest, orElse, listAround, withWaiting, withEntry, withRound, withEnd, bookEnter}
+use Rattle.book.proofs.Cases.{case-outcome}
 use Rattle.book.proofs.Moves.{entry, Stands, Closing, close-by, enter-by, Steps}
 use Rattle.book.proofs.Planned.{Planned, await-planned, end-planned, entry-planned, open-planned}
+use Rattle.book.proofs.Seeds.{Seeded, best-among, around-seeded, around-few, nine}
+use Rattle.book.proofs.PerRound.{FewPerRound, few-opened}
 
--- ---- what a seed and an entry are
-abbrev pub Within : Inputs → CandidateSeed → Type 0
-Within i s = inBound (i .max) (s .sensor) ≡ true
-
+-- ---- what an entry and a scored candidate are
 pub record Proper (i : Inputs) (e : Entry) : Type 0 where
-  pub within : Within i (e .seed)
+  pub seeded : Seeded i (e .round) (e .seed)
   pub stands : Stands i (e .seed .sensor) (e .outcome)
+
+abbrev scoringOf : Candidate → Scoring
+scoringOf w = record { camera = w .camera; mean = w .«mean_reproj_error»; score = w .score }
+
+pub record ProperCandidate (i : Inputs) (w : Candidate) : Type 0 where
+  pub within : inBound (i .max) (w .sensor) ≡ true
+  pub untilted : i .one-axis ≡ true → untiltedY (w .sensor) ≡ true
+  pub facts : ScoredFacts (w .sensor) (i .center) (scoringOf w)
+
+pub scored-proper : (i : Inputs) (es : List Entry) → All (Proper i) es → All (ProperCandidate i) (scoredOf es)
+unfolding scoredOf
+scored-proper i [] h = tt
+scored-proper i (e ∷ es) h =
+    let r = scored-proper i es (h .1) in
+    let s = h .0 .stands in
+    let d = h .0 .seeded in
+    case-outcome (e .outcome) (λ m q. simp (scoredOf, q) r) (λ g q. simp (scoredOf, q) (record { within = d .within; untilted = d .untilted; facts = rw q at s }, r))
 
 -- the entries are numbered from k on
 abbrev pub Counted : ℕ → List Entry → Type 0
@@ -53,10 +71,11 @@ pub record Core (b : Book) : Type 0 where
   -- 512 seeds in round 0 at most, and nine in each later round
   pub few : length (b .earlier) + length (b .list) ≤ 512 + 9 * b .round
   pub fits : 6 * length (b .list) ≤ demand (b .inputs)
-  pub seeds : All (Within (b .inputs)) (b .list)
+  pub seeds : All (Seeded (b .inputs) (b .round)) (b .list)
   pub proper : All (Proper (b .inputs)) (entries b)
   pub numbered : Counted 0 (entries b)
   pub planned : Planned b
+  pub per-round : FewPerRound b
 
 -- of a book between the calls: a seed is left just until the run is over, and none waits once it is; a run that is over has had every round, or nothing was scored
 pub record Good (i : Inputs) (b : Book) : Type 0 where
@@ -73,7 +92,17 @@ waits-going i b g w = case (b .over) (λ o. absurd (true≢false (sym w ∙ g .c
 -- ---- Next
 await-core : (b : Book) → Core b → Core (withWaiting b)
 unfolding withWaiting
-await-core b h = record { sized = h .sized; in-rounds = h .in-rounds; few = h .few; fits = h .fits; seeds = h .seeds; proper = h .proper; numbered = h .numbered; planned = unfold withWaiting in await-planned b (h .planned) }
+await-core b h = record {
+  sized = h .sized;
+  in-rounds = h .in-rounds;
+  few = h .few;
+  fits = h .fits;
+  seeds = h .seeds;
+  proper = h .proper;
+  numbered = h .numbered;
+  planned = unfold withWaiting in await-planned b (h .planned);
+  per-round = record { listed = h .per-round .listed; before = h .per-round .before };
+}
 
 await-good : (i : Inputs) (b : Book) → b .over ≡ false → Good i b → Good i (withWaiting b)
 unfolding withWaiting
@@ -96,7 +125,17 @@ record Ending (i : Inputs) (k : ℕ) (b : Book) : Type 0 where
 
 end-core : (b : Book) → Core b → Core (withEnd b)
 unfolding withEnd
-end-core b h = record { sized = h .sized; in-rounds = h .in-rounds; few = h .few; fits = h .fits; seeds = h .seeds; proper = h .proper; numbered = h .numbered; planned = end-planned b (h .planned) }
+end-core b h = record {
+  sized = h .sized;
+  in-rounds = h .in-rounds;
+  few = h .few;
+  fits = h .fits;
+  seeds = h .seeds;
+  proper = h .proper;
+  numbered = h .numbered;
+  planned = end-planned b (h .planned);
+  per-round = record { listed = h .per-round .listed; before = h .per-round .before };
+}
 
 else-nothing : (a c : Chosen) → orElse a c ≡ nothing → c ≡ nothing
 else-nothing nothing c e = e
@@ -113,15 +152,20 @@ end-good i k b r e = record {
   finished = λ o. ⊎-elim (λ z. inr (let l = e .left in omega arith)) (λ n. inl (else-nothing (roundBest b) (runBest b) n)) r;
 }
 
-around-within : (i : Inputs) (r : ℕ) (w : Candidate) → All (Within i) (listAround i r w)
-unfolding listAround
-around-within i r w =
-    let d = offsets (stepOf r (i .step)) in
-    all-map (λ s. (inBound (i .max) (s .sensor) ≡ true) × (s .«reference_k» ≡ w .camera .k)) (Within i) (λ s p. p .0) (listAround i r w) (next-in-bound d d (w .sensor) (w .camera .k) (i .max))
+-- whom the next list lies around
+else-chosen : (a c : Chosen) (w : Candidate) → orElse a c ≡ chosen w → (a ≡ chosen w) ⊎ (c ≡ chosen w)
+else-chosen nothing c w e = inr e
+else-chosen (chosen v) c w e = inl e
 
-pub nine : (i : Inputs) (r : ℕ) (w : Candidate) → length (listAround i r w) ≤ 9
-unfolding listAround offsets
-nine i r w = let d = offsets (stepOf r (i .step)) in next-length d d (w .sensor) (w .camera .k) (i .max)
+centre-proper : (b : Book) (w : Candidate) → All (Proper (b .inputs)) (entries b) → orElse (roundBest b) (runBest b) ≡ chosen w → ProperCandidate (b .inputs) w
+unfolding roundBest runBest
+centre-proper b w h e =
+    let P = Proper (b .inputs) in
+    let Q = ProperCandidate (b .inputs) in
+    ⊎-elim
+    (λ r. best-among Q (scoredOf (b .answered)) w (scored-proper (b .inputs) (b .answered) (all-right P (b .earlier) (b .answered) h)) r)
+    (λ r. best-among Q (scoredOf (entries b)) w (scored-proper (b .inputs) (entries b) h) r)
+    (else-chosen (roundBest b) (runBest b) w e)
 
 round-core : (i : Inputs) (k : ℕ) (b : Book) (w : Candidate) (ss : List CandidateSeed) → orElse (roundBest b) (runBest b) ≡ chosen w → listAround (b .inputs) (suc (b .round)) w ≡ ss
     → Ending i (suc k) b → Core (withRound b ss)
@@ -133,16 +177,18 @@ round-core i k b w ss c q e =
     let l = e .left in
     let d = h .sized .least in
     let n : length ss ≤ 9 = rw q at (nine (b .inputs) (suc (b .round)) w) in
+    let most : length ss ≤ mostSeeds (b .inputs .one-axis) = rw q at (around-few (b .inputs) (suc (b .round)) w) in
     let m = length-append (b .earlier) (b .answered) in
     record {
       sized = h .sized;
       in-rounds = omega arith;
       few = omega arith;
       fits = omega arith;
-      seeds = rw q at (around-within (b .inputs) (suc (b .round)) w);
+      seeds = rw q at (around-seeded (b .inputs) (suc (b .round)) w (centre-proper b w (h .proper) c .untilted));
       proper = rw append-nil (h .proper);
       numbered = rw append-nil (h .numbered);
       planned = open-planned b w ss (h .planned) f c q;
+      per-round = unfold withRound in few-opened b ss (h .per-round) (h .planned) f most;
     }
 
 skip-ending : (i : Inputs) (k : ℕ) (b : Book) → Core (withRound b []) → Ending i (suc k) b → Ending i k (withRound b [])
@@ -173,8 +219,8 @@ all-at P d [] k h l = absurd (omega arith)
 all-at P d (x ∷ xs) zero h l = h .0
 all-at P d (x ∷ xs) (suc k) h l = all-at P d xs k (h .1) (omega arith)
 
-pub current-within : (b : Book) → Core b → length (b .answered) < length (b .list) → Within (b .inputs) (current b)
-current-within b h l = all-at (Within (b .inputs)) noSeed (b .list) (length (b .answered)) (h .seeds) l
+pub current-seeded : (b : Book) → Core b → length (b .answered) < length (b .list) → Seeded (b .inputs) (b .round) (current b)
+current-seeded b h l = all-at (Seeded (b .inputs) (b .round)) noSeed (b .list) (length (b .answered)) (h .seeds) l
 
 counted-more : (k : ℕ) (es : List Entry) (e : Entry) → Counted k es → e .number ≡ k + length es → Counted k (es ++ e ∷ [])
 counted-more k [] e h n = (omega arith, tt)
@@ -185,7 +231,7 @@ module _ (b : Book) (o : Outcome) where
   unfolding withEntry
   entry-core h r s =
       let e : entries (withEntry b o) ≡ entries b ++ entry b o ∷ [] = sym (append-assoc (b .earlier) (b .answered) (entry b o ∷ [])) in
-      let own : Proper (b .inputs) (entry b o) = record { within = current-within b h r; stands = s } in
+      let own : Proper (b .inputs) (entry b o) = record { seeded = current-seeded b h r; stands = s } in
       record {
         sized = h .sized;
         in-rounds = h .in-rounds;
@@ -195,6 +241,7 @@ module _ (b : Book) (o : Outcome) where
         proper = rw e (all-append (Proper (b .inputs)) (entries b) (entry b o ∷ []) (h .proper) (own, tt));
         numbered = rw e (counted-more 0 (entries b) (entry b o) (h .numbered) (omega arith));
         planned = entry-planned b o (h .planned) r;
+        per-round = record { listed = h .per-round .listed; before = h .per-round .before };
       }
 
   entry-same : (withEntry b o .over ≡ b .over) × (withEntry b o .inputs ≡ b .inputs) × (length (withEntry b o .list) ≡ length (b .list)) × (length (withEntry b o .answered) ≡ length (b .answered) + 1) × (withEntry b o .waits ≡ false)

@@ -41,8 +41,11 @@ answers-agree i b l (answer n f rows flags) g =
 answers-agree i b l ask f = refl
 
 -- ---- what was handed out so far: the answered candidates, and the one that waits
+abbrev pub handingNow : Book → Handing
+handingNow b = record { round = b .round; number = number b; part = six (current b) }
+
 abbrev pub waitingHanding : Book → List Handing
-waitingHanding b = cond (b .waits) (record { round = b .round; number = number b; part = six (current b) } ∷ []) []
+waitingHanding b = cond (b .waits) (handingNow b ∷ []) []
 
 unfoldable pub handedIn : Book → List Handing
 handedIn b = map handingOf (entries b) ++ waitingHanding b
@@ -51,10 +54,6 @@ seed-part : (i : Inputs) (b : Book) (l : List Float) → State i b l → b .wait
 unfolding seedPart seedLent
 seed-part i b l f w =
     simp (run-fields, sound-run i b (f .good), w, le-leb (demand (b .inputs)) (length l) (f .there .long), in-part b l (f .there) (f .good .room (waits-going i b (f .good) w)))
-
--- the seed that Next hands out
-abbrev handingNow : Book → Handing
-handingNow b = record { round = b .round; number = number b; part = six (current b) }
 
 await-handed : (b : Book) → b .waits ≡ false → handedIn b ++ handingNow b ∷ [] ≡ handedIn (withWaiting b)
 unfolding withWaiting handedIn

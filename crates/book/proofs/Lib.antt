@@ -2,6 +2,8 @@ pub mod Cases
 pub mod Lists
 pub mod Moves
 pub mod Planned
+pub mod Seeds
+pub mod PerRound
 pub mod Good
 pub mod RunOf
 pub mod Simulation

@@ -3,35 +3,39 @@ use Prim.Native.Nat.{ℕ, _+_, _*_, _/_, _≤_, _<_}
 use native.Mathlib.Nat.{mul-le-mul}
 use native.Mathlib.Omega.{arith}
 use mathlib.Core.Path.{_≡_, refl, sym, _∙_}
-use mathlib.Core.Logic.{inl}
+use mathlib.Core.Logic.{inl, ⊎-elim}
 use mathlib.Core.Bool.{Bool, true, false, _&&_, cond, true≢false}
-use mathlib.Core.List.{List, [], _∷_}
+use mathlib.Core.List.{List, [], _∷_, List·Memᴰ, List·Memᴰ·not-nil, List·Memᴰ·cases-cons}
 use borrow.Author.Tests.{ltb-true, ltb-false}
 use lib.Dec.{ltb, eqb, eqb·suc-zero}
 use lib.ListN.{length}
-use lib.Ieee.{Float}
+use lib.Ieee.{Float, eq}
 use Rattle.common.specs.Tests.{case, both-true}
 use Rattle.common.specs.Each.{All, every}
 use Rattle.float.specs.Float.{isFinite}
+use Rattle.float.specs.Literals.{plusZero}
 use Rattle.seed_rules.specs.declared.CandidateSeed.{CandidateSeed}
-use Rattle.seed_rules.specs.Rules.{inBound}
+use Rattle.seed_rules.specs.Merge.{keep}
+use Rattle.seed_rules.specs.Rules.{inBound, untiltedY}
 use Rattle.seed_rules.specs.RulesLaws.{initial-length}
 use Rattle.seed_rules.specs.Layout.{allSeeds, seedAt, written}
 use Rattle.seed_rules.specs.LayoutLaws.{read-length}
-use Rattle.seed_rules.specs.Facts.{initial-in-bound}
+use Rattle.seed_rules.specs.Facts.{initial-all}
 use Rattle.score_best.specs.Best.{bestOf, firstUnbeaten}
 use Rattle.search_record.specs.declared.run.Run.{Run}
 use Rattle.search_start.specs.declared.Started.the-variants.{Accepted}
-use Rattle.search_start.specs.Start.{positive, goodSeed, demandOf, openingOf, startChecks}
+use Rattle.search_start.specs.Start.{positive, goodSeed, onlyZero, untiltedSeed, demandOf, openingOf, startChecks}
 use Rattle.search_start.specs.StartLaws.{Passed, start-passed}
 use Rattle.book.specs.Book.{Inputs, demand, scoredOf, roundBest, runBest, stepOf, firstList, isEmpty, opened}
 use Rattle.book.specs.Conditions.{conditions}
+use Rattle.book.specs.Trace.{handedInRound}
 use Rattle.book.specs.Theorem.{optionsOf, startOf, startedList}
-use Rattle.book.proofs.Refusals.{none-hold, start-decided}
+use Rattle.book.proofs.Refusals.{none-hold, only-zero, start-decided}
 use Rattle.book.proofs.Starts.{refusal, openingRun, accepted, list-is}
 use Rattle.book.proofs.Lists.{Front, write-front}
 use Rattle.book.proofs.Planned.{planned-opened}
-use Rattle.book.proofs.Good.{Within, Core}
+use Rattle.book.proofs.Seeds.{Seeded}
+use Rattle.book.proofs.Good.{Core}
 use Rattle.book.proofs.RunOf.{runOf, State}
 
 empty-is : (ss : List CandidateSeed) → eqb (length ss) 0 ≡ isEmpty ss
@@ -62,15 +66,26 @@ every-all p (x ∷ xs) h = go (p x) refl (every-all p xs) h
     go true e f k = (e, f k)
     go false e f k = absurd (true≢false (sym k))
 
-good-within : (i : Inputs) (ss : List CandidateSeed) → All (λ s. goodSeed (i .max) s ≡ true) ss → All (Within i) ss
+good-within : (max : Float) (s : CandidateSeed) → goodSeed max s ≡ true → inBound max (s .sensor) ≡ true
 unfolding goodSeed
-good-within i [] h = tt
-good-within i (s ∷ ss) h =
+good-within max s h =
     let k = s .«reference_k» in
-    let t = s .sensor in (
-      both-true (positive (k .fx) && positive (k .fy) && isFinite (k .cx) && isFinite (k .cy) && isFinite (t .«tilt_x») && isFinite (t .«tilt_y»)) (inBound (i .max) t) (h .0) .1,
-      good-within i ss (h .1),
-    )
+    let t = s .sensor in
+    both-true (positive (k .fx) && positive (k .fy) && isFinite (k .cx) && isFinite (k .cy) && isFinite (t .«tilt_x») && isFinite (t .«tilt_y»)) (inBound max t) h .1
+
+good-seeded : (i : Inputs) (ss : List CandidateSeed) → All (λ s. goodSeed (i .max) s ≡ true) ss
+    → (i .one-axis ≡ true → All (λ s. untiltedSeed s ≡ true) ss) → All (Seeded i 0) ss
+good-seeded i [] h u = tt
+good-seeded i (s ∷ ss) h u =
+    (record { within = good-within (i .max) s (h .0); untilted = λ one. u one .0; later = λ one p. absurd (omega arith) }, good-seeded i ss (h .1) (λ one. u one .1))
+
+only-zeros : (ys : List Float) → onlyZero ys ≡ true → (y : Float) → List·Memᴰ y ys → eq y plusZero ≡ true
+only-zeros ys h y m =
+    let z = only-zero ys .holds h in
+    ⊎-elim
+    (λ e. rw e (z .2))
+    (λ n. absurd (List·Memᴰ·not-nil n))
+    (List·Memᴰ·cases-cons (rw (z .1) at m))
 
 module _ (i : Inputs) (l : List Float) (z : refusal i l ≡ 0) where
   abbrev D : ℕ
@@ -112,11 +127,17 @@ module _ (i : Inputs) (l : List Float) (z : refusal i l ≡ 0) where
   opened-front : Front (demand i) (firstList i) (written (firstList i) l)
   opened-front = write-front (demand i) (firstList i) l demand-fits (let p = list-length in let q = demand-least .1 in omega arith)
 
-  seeds-within : All (Within i) (firstList i)
+  -- the typed tilts about y, and the decomposition's, of a one-axis run
+  zero-typed : i .one-axis ≡ true → (y : Float) → List·Memᴰ y (i .ys) → eq y plusZero ≡ true
+  zero-typed one y m = only-zeros (i .ys) (start-facts .one-y one) y m
+
+  seeds-seeded : All (Seeded i 0) (firstList i)
   unfolding firstList
-  seeds-within =
-      initial-in-bound (allSeeds (i .decomposition)) (i .xs) (i .ys) (i .base) (i .max)
-      (good-within i (allSeeds (i .decomposition)) (every-all (goodSeed (i .max)) (allSeeds (i .decomposition)) (start-facts .good-seeds)))
+  seeds-seeded =
+      let ds = allSeeds (i .decomposition) in
+      initial-all (Seeded i 0) ds (i .xs) (i .ys) (i .base) (i .max)
+      (good-seeded i ds (every-all (goodSeed (i .max)) ds (start-facts .good-seeds)) (λ one. every-all untiltedSeed ds (start-facts .untilted-seeds one)))
+      (λ x y m n b. record { within = b; untilted = λ one. unfold untiltedY in zero-typed one y n; later = λ one p. absurd (omega arith) })
 
   some-left : (ss : List CandidateSeed) → isEmpty ss ≡ false → 0 < length ss
   some-left [] h = absurd (true≢false h)
@@ -135,10 +156,11 @@ module _ (i : Inputs) (l : List Float) (z : refusal i l ≡ 0) where
     in-rounds = omega arith;
     few = let p = list-length in let q = few-seeds in omega arith;
     fits = let p = list-length in let q = demand-least .1 in omega arith;
-    seeds = seeds-within;
+    seeds = seeds-seeded;
     proper = tt;
     numbered = tt;
     planned = planned-opened i;
+    per-round = record { listed = λ p. absurd (omega arith); before = λ k. unfold handedInRound keep in omega arith };
   }
 
   none-left : (ss : List CandidateSeed) → isEmpty ss ≡ true → 0 ≡ length ss

@@ -5,21 +5,21 @@ use mathlib.Core.Path.{_≡_, refl, sym, _∙_}
 use mathlib.Core.Logic.{_⊎_, inl, inr, ⊎-elim}
 use mathlib.Core.Bool.{Bool, true, false, not, _&&_, _||_, true≢false}
 use mathlib.Core.List.{List, [], _∷_}
-use borrow.Author.Tests.{ltb-true, ltb-false, eqb-true, eqb-false}
+use borrow.Author.Tests.{ltb-true, ltb-false, eqb-true, eqb-false, ne-eqb}
 use lib.Dec.{ltb, eqb, eqb·suc-zero}
 use lib.ListN.{length}
-use lib.Ieee.{Float, neg, lt, le}
+use lib.Ieee.{Float, neg, lt, le, eq}
 use Rattle.common.specs.Each.{every}
 use Rattle.common.specs.Refusal.{Check, _when_, firstRefusal}
 use Rattle.float.specs.Float.{isFinite}
 use Rattle.float.specs.Literals.{plusZero, half₆₄}
 use Rattle.seed_rules.specs.declared.CandidateSeed.{CandidateSeed}
-use Rattle.seed_rules.specs.Rules.{within, inBound}
+use Rattle.seed_rules.specs.Rules.{within, inBound, untiltedY}
 use Rattle.seed_rules.specs.Bound.{within-order}
 use Rattle.seed_rules.specs.Layout.{allSeeds}
-use Rattle.search_start.specs.Start.{positive, goodSeed, tooMany, demandOf, startChecks}
+use Rattle.search_start.specs.Start.{positive, goodSeed, onlyZero, untiltedSeed, tooMany, demandOf, startChecks}
 use Rattle.book.specs.Book.{Inputs, demand}
-use Rattle.book.specs.Conditions.{Condition, _provided_, FirstHolds, NoneHolds, Some, NotFinite, NotPositive, Beyond, BadSeed, conditions}
+use Rattle.book.specs.Conditions.{Condition, _provided_, FirstHolds, NoneHolds, Some, NotFinite, NotPositive, Beyond, BadSeed, OnlyZero, TiltedY, conditions}
 use Rattle.book.specs.Theorem.{optionsOf}
 
 -- ---- a test decides a fact
@@ -41,6 +41,10 @@ either false b p q = record { holds = λ e. inr (q .holds e); fails = λ e. ⊎-
 both : (a b : Bool) {A B : Type 0} → Decides a A → Decides b B → Decides (a && b) (A × B)
 both true b p q = record { holds = λ e. (p .holds refl, q .holds e); fails = λ e h. q .fails e (h .1) }
 both false b p q = record { holds = λ e. absurd (true≢false (sym e)); fails = λ e h. p .fails refl (h .0) }
+
+denied : (a : Bool) {A : Type 0} → Decides a A → Decides (not a) (A → ⊥)
+denied true p = record { holds = λ e. absurd (true≢false (sym e)); fails = λ e h. h (p .holds refl) }
+denied false p = record { holds = λ e. p .fails refl; fails = λ e. absurd (true≢false e) }
 
 -- a conjunction fails where one of its parts does
 not-both : (a b : Bool) {A B : Type 0} → Decides (not a) A → Decides (not b) B → Decides (not (a && b)) (A ⊎ B)
@@ -142,6 +146,35 @@ n-below : (i : Inputs) (n : ℕ) → Decides (ltb n (demandOf (length (i .decomp
 unfolding demand demandOf
 n-below i n = below n (demand i)
 
+pub only-zero : (ys : List Float) → Decides (onlyZero ys) (OnlyZero ys)
+unfolding onlyZero
+only-zero [] = record { holds = λ e. absurd (true≢false (sym e)); fails = λ e h. let z : _≡_ {A = ℕ} 0 1 = cc in omega arith }
+only-zero (y ∷ []) = record { holds = λ e. (y, refl, e); fails = λ e h. let s : y ≡ h .0 = cc in absurd (true≢false (sym (h .2) ∙ rw s at e)) }
+only-zero (y ∷ z ∷ zs) =
+    let e = ne-eqb (length (y ∷ z ∷ zs)) 1 (λ q. omega arith) in
+    record { holds = λ h. absurd (true≢false (sym h ∙ rw e)); fails = λ h k. let z : _≡_ {A = ℕ} 0 1 = cc in omega arith }
+
+tilted : (s : CandidateSeed) → Decides (not (untiltedSeed s)) (TiltedY s)
+unfolding untiltedY
+tilted s = fails-of (eq (s .sensor .«tilt_y») plusZero)
+
+one-axis-decided : (i : Inputs)
+    → Decide
+    ((31 when (i .one-axis && not (onlyZero (i .ys)))) ∷ (32 when (i .one-axis && not (every untiltedSeed (allSeeds (i .decomposition))))) ∷ [])
+    ((31 provided ((i .one-axis ≡ true) × (OnlyZero (i .ys) → ⊥))) ∷ (32 provided ((i .one-axis ≡ true) × Some TiltedY (allSeeds (i .decomposition)))) ∷ [])
+one-axis-decided i =
+    let axis = holds-of (i .one-axis) in (
+      refl,
+      omega arith,
+      both (i .one-axis) (not (onlyZero (i .ys))) axis (denied (onlyZero (i .ys)) (only-zero (i .ys))),
+      (
+        refl,
+        omega arith,
+        both (i .one-axis) (not (every untiltedSeed (allSeeds (i .decomposition)))) axis (some-fails untiltedSeed TiltedY tilted (allSeeds (i .decomposition))),
+        tt,
+      ),
+    )
+
 pub start-decided : (i : Inputs) (n : ℕ) → Decide (startChecks (i .views) (optionsOf i) (i .xs) (i .ys) (i .decomposition) n) (conditions i n)
 start-decided i n =
     ((
@@ -172,7 +205,7 @@ start-decided i n =
                   refl,
                   omega arith,
                   not-both (every isFinite (i .xs)) (every isFinite (i .ys)) (some-fails isFinite NotFinite (λ x. fails-of (isFinite x)) (i .xs)) (some-fails isFinite NotFinite (λ x. fails-of (isFinite x)) (i .ys)),
-                  (refl, omega arith, n-below i n, (refl, omega arith, holds-of (lt half₆₄ (i .max)), tt)),
+                  (refl, omega arith, n-below i n, (refl, omega arith, holds-of (lt half₆₄ (i .max)), one-axis-decided i)),
                 ),
               ),
             ),

@@ -33,8 +33,9 @@ use Rattle.book.specs.Book.{Inputs, demand, Entry, Book, entries, number
 use Rattle.book.specs.Walk.{Step, runCall, answeredReply}
 use Rattle.book.proofs.Cases.{case-chosen, case-list, case-outcome}
 use Rattle.book.proofs.Moves.{entry}
-use Rattle.book.proofs.Good.{waits-going, nine}
-use Rattle.book.proofs.RunOf.{runOf, State, run-waiting, run-round-best, run-run-best, run-max, run-fields, run-bests, sound-run}
+use Rattle.book.proofs.Seeds.{nine}
+use Rattle.book.proofs.Good.{waits-going}
+use Rattle.book.proofs.RunOf.{runOf, State, run-waiting, run-round-best, run-run-best, run-max, run-one-axis, run-fields, run-bests, sound-run}
 use Rattle.book.proofs.Lists.{seed-at, part-at, Front, lend, give-back, write-front, no-front, short}
 
 -- a call's step beside the book's
@@ -130,7 +131,7 @@ run-step b = step-next (b .round) (b .inputs .step)
 
 run-seeds : (b : Book) (w : Candidate) → ans.nextSeeds (runOf b) w ≡ listAround (b .inputs) (suc (b .round)) w
 unfolding ans.nextSeeds listAround
-run-seeds b w = simp (run-step, run-max)
+run-seeds b w = simp (run-step, run-max, run-one-axis)
 
 nobody-waits : (b : Book) → b .waits ≡ false → runOf b .waiting ≡ rec.nobody
 nobody-waits b w = simp (run-waiting, w)

@@ -1,16 +1,22 @@
 -- The theorem about every list of calls. Assumes nothing.
-use Prim.Native.Nat.{ℕ, suc}
+use Prim.Native.Nat.{ℕ, suc, _≤_, _<_}
 use native.Mathlib.Omega.{arith}
-use mathlib.Core.Path.{_≡_, refl, ap, _∙_}
+use mathlib.Core.Path.{_≡_, refl, ap, subst, _∙_}
 use mathlib.Core.Logic.{_⊎_, ⊎-elim}
 use mathlib.Core.Bool.{true, false}
-use mathlib.Core.List.{List, map, append-nil}
+use mathlib.Core.List.{List, map, _++_, append-assoc, append-nil, map-append}
 use borrow.Author.Tests.{le-ltb}
-use lib.ListN.{length}
-use lib.Ieee.{Float}
+use lib.ListN.{length, length-append, length-map}
+use lib.Ieee.{Float, eq}
 use Rattle.common.specs.Tests.{case}
+use Rattle.common.specs.All.{all-append, all-map}
 use Rattle.common.specs.Each.{All}
 use Rattle.common.specs.Refusal.{firstRefusal}
+use Rattle.float.specs.Literals.{plusZero}
+use Rattle.seed_rules.specs.declared.CandidateSeed.{CandidateSeed}
+use Rattle.seed_rules.specs.Rules.{untiltedY}
+use Rattle.seed_rules.specs.Layout.{six}
+use Rattle.seed_rules.specs.AnyOffsets.{mostSeeds}
 use Rattle.score_outcome.specs.declared.Finding.{Finding}
 use Rattle.score_outcome.specs.declared.Finding.the-variants.{Failed}
 use Rattle.score_outcome.specs.Evaluation.{rowChecks}
@@ -22,14 +28,16 @@ use Rattle.search_answer.specs.Answer.{answerRefusal}
 use Rattle.search_calls.specs.Result.{resultDef}
 use Rattle.book.specs.Calls.{Call}
 use Rattle.book.specs.Book.{Inputs, demand, Book, entries, number, current, runBest, opened, after}
-use Rattle.book.specs.Trace.{handed, answers, listAfter}
+use Rattle.book.specs.Trace.{Handing, tiltY, handedInRound, handed, answers, listAfter}
 use Rattle.book.specs.Named.{outcomesIn, handings}
 use Rattle.book.specs.Theorem.{startedList, NoNan, Over, Follows, SearchIsBook}
 use Rattle.book.proofs.Cases.{case-chosen}
 use Rattle.book.proofs.Planned.{handingOf, done}
-use Rattle.book.proofs.Good.{Proper, Good, waits-going, current-within}
+use Rattle.book.proofs.Seeds.{Seeded}
+use Rattle.book.proofs.PerRound.{handings-all, few-handed}
+use Rattle.book.proofs.Good.{Proper, Good, waits-going, current-seeded}
 use Rattle.book.proofs.RunOf.{runOf, State, run-fields, run-bests, sound-run, count-bound}
-use Rattle.book.proofs.Growth.{handedIn}
+use Rattle.book.proofs.Growth.{waitingHanding, handedIn, handingNow}
 use Rattle.book.proofs.Winner.{numbers, winner}
 use Rattle.book.proofs.Walks.{walks}
 use Rattle.book.proofs.Tilts.{all-tried}
@@ -72,13 +80,45 @@ all-handed i b w g o e =
     ∙ ap (λ (j : Inputs). handings j (outcomesIn (entries b)) (suc (j .rounds))) (g .inputs-are))
     (g .finished o)
 
+-- ---- what was handed out, round by round
+waiting-all : (P : Handing → Type 0) (b : Book) → (b .waits ≡ true → P (handingNow b)) → All P (waitingHanding b)
+waiting-all P b f = case (b .waits) (λ w. rw w (f w, tt)) (λ w. rw w tt)
+
+handed-few : (i : Inputs) (b : Book) → Good i b → (k : ℕ) → length (handedInRound (suc k) (handedIn b)) ≤ mostSeeds (b .inputs .one-axis)
+unfolding handedIn
+handed-few i b g k =
+    let ws = map handingOf (b .answered) ++ waitingHanding b in
+    let e : map handingOf (entries b) ++ waitingHanding b ≡ map handingOf (b .earlier) ++ ws =
+    rw (map-append handingOf (b .earlier) (b .answered)) (append-assoc (map handingOf (b .earlier)) (map handingOf (b .answered)) (waitingHanding b)) in
+    let h = g .core in
+    let n : length (map handingOf (b .answered)) ≡ length (b .answered) = length-map (b .answered) handingOf in
+    let m = length-append (map handingOf (b .answered)) (waitingHanding b) in
+    rw e
+    (few-handed b ws (h .per-round) (h .planned)
+    (all-append (λ h. h .round ≡ b .round) (map handingOf (b .answered)) (waitingHanding b) (handings-all (λ h. h .round ≡ b .round) (b .answered) (h .planned .this)) (waiting-all (λ h. h .round ≡ b .round) b (λ w. refl)))
+    (case (b .waits) (λ w. let r = g .room (waits-going i b g w) in let z : length (waitingHanding b) ≡ 1 = rw w in omega arith) (λ w.
+    let z : length (waitingHanding b) ≡ 0 = rw w in
+    case (b .over) (λ o. let f = g .full o in omega arith) (λ o. let r = g .room o in omega arith)))
+    k)
+
+-- each seed that was handed out is one of its round
+abbrev HandedSeed : Inputs → Handing → Type 0
+HandedSeed i h = (s : CandidateSeed) × (h .part ≡ six s) × Seeded i (h .round) s
+
+handed-seeded : (i : Inputs) (b : Book) → Good i b → All (HandedSeed (b .inputs)) (handedIn b)
+unfolding handedIn
+handed-seeded i b g =
+    all-append (HandedSeed (b .inputs)) (map handingOf (entries b)) (waitingHanding b)
+    (handings-all (HandedSeed (b .inputs)) (entries b) (all-map (Proper (b .inputs)) (λ e. HandedSeed (b .inputs) (handingOf e)) (λ e p. (e .seed, refl, p .seeded)) (entries b) (g .core .proper)))
+    (waiting-all (HandedSeed (b .inputs)) b (λ w. (current b, refl, current-seeded b (g .core) (g .room (waits-going i b g w)))))
+
 -- ---- while a seed waits
 answer-open : (i : Inputs) (b : Book) (l : List Float) → State i b l → runOf b .waiting .«is_waiting» ≡ true
     → (f : Finding) (rows : List Float) (flags : List ℕ) → (f ≡ Failed) ⊎ (firstRefusal (rowChecks rows flags) ≡ 0) → answerRefusal (runOf b) (length l) f rows flags ≡ 0
 answer-open i b l s w f rows flags k =
     let g = s .good in
     let q : b .waits ≡ true = simp run-fields at w in
-    let z = not-refused (b .inputs .max) (current b .sensor) f rows flags (g .core .sized .small-bound) (current-within b (g .core) (g .room (waits-going i b g q))) k in
+    let z = not-refused (b .inputs .max) (current b .sensor) f rows flags (g .core .sized .small-bound) (current-seeded b (g .core) (g .room (waits-going i b g q)) .within) k in
     simp (sound-run i b g, run-fields, q, z, le-ltb (length l) (demand (b .inputs)) (s .there .long))
 
 -- ---- of an accepted Start's book
@@ -89,6 +129,7 @@ follows i l cs t =
     let w = walks i (opened i) l cs t in
     let g = w .state .good in
     let p : All (Proper i) (entries b) = rw (g .inputs-are) at (g .core .proper) in
+    let seeded = subst (λ (j : Inputs). All (HandedSeed j) (handedIn b)) (g .inputs-are) (handed-seeded i b g) in
     let same : answers (runOf (opened i)) l cs ≡ entries b = unfold opened in w .same-entries in
     let out : handed (runOf (opened i)) l cs ≡ handedIn b = unfold opened handedIn in w .same-handed in
     record {
@@ -104,6 +145,9 @@ follows i l cs t =
       every-tilt = λ v x y mx my lx hx ly hy.
           let o = is-over i b g (rw (w .run-is) at v) in
           rw (same, out ∙ over-handed b (g .calm o)) (all-tried i b g o x y mx my lx hx ly hy);
+      few-later = λ k. rw out (subst (λ (j : Inputs). length (handedInRound (suc k) (handedIn b)) ≤ mostSeeds (j .one-axis)) (g .inputs-are) (handed-few i b g k));
+      untilted = λ one. rw out (all-map (HandedSeed i) (λ h. eq (tiltY h) plusZero ≡ true) (λ h p. rw (p .1) (unfold untiltedY in p .2 .untilted one)) (handedIn b) seeded);
+      later-untilted = λ one. rw out (all-map (HandedSeed i) (λ h. 0 < h .round → tiltY h ≡ plusZero) (λ h p. rw (p .1) (p .2 .later one)) (handedIn b) seeded);
       few-answers = rw same (count-bound i b g);
       answer-accepted = rw (w .run-is) (answer-open i b (listAfter (runOf (opened i)) l cs) (w .state));
     }

@@ -10,17 +10,16 @@ use Rattle.common.specs.Tests.{both-true}
 use Rattle.common.specs.All.{all-append, all-left, all-right, all-map}
 use Rattle.common.specs.Each.{All}
 use Rattle.float.specs.Order.{lt-irrefl, lt-not-eq, le-of-not-lt}
-use Rattle.seed_rules.specs.Rules.{within, inBound}
+use Rattle.seed_rules.specs.Rules.{within, inBound, untiltedY}
 use Rattle.seed_rules.specs.Bound.{within-order}
-use Rattle.score_outcome.specs.declared.Scoring.{Scoring}
-use Rattle.score_outcome.specs.Facts.{ScoredFacts}
 use Rattle.score_best.specs.declared.Candidate.{Candidate}
 use Rattle.score_best.specs.Best.{beats, chosen, bestOf}
 use Rattle.score_best.specs.Order.{Sound, lower-beats, beats-number, Leads, found-leads}
 use Rattle.book.specs.Book.{Inputs, Entry, scoredOf}
 use Rattle.book.specs.Theorem.{Wins}
 use Rattle.book.proofs.Cases.{case-outcome}
-use Rattle.book.proofs.Good.{Proper, Counted}
+use Rattle.book.proofs.Seeds.{best-among}
+use Rattle.book.proofs.Good.{Proper, ProperCandidate, scored-proper, Counted}
 
 -- the scored ones of entries numbered from k on have numbers from k on, and they rise
 abbrev Rising : List Candidate → Type 0
@@ -108,23 +107,6 @@ module _ (w : Candidate) where
   leads-mem ws l = rw (l .split) (Memᴰ·append-right (l .before) (List·Memᴰ·head refl))
 
 -- ---- the properties of a scored finding
-abbrev scoringOf : Candidate → Scoring
-scoringOf w = record { camera = w .camera; mean = w .«mean_reproj_error»; score = w .score }
-
-abbrev ProperCandidate : Inputs → Candidate → Type 0
-ProperCandidate i w = (inBound (i .max) (w .sensor) ≡ true) × ScoredFacts (w .sensor) (i .center) (scoringOf w)
-
-scored-proper : (i : Inputs) (es : List Entry) → All (Proper i) es → All (ProperCandidate i) (scoredOf es)
-unfolding scoredOf
-scored-proper i [] h = tt
-scored-proper i (e ∷ es) h =
-    let r = scored-proper i es (h .1) in
-    let s = h .0 .stands in
-    case-outcome (e .outcome) (λ m q. simp (scoredOf, q) r) (λ g q. simp (scoredOf, q) ((h .0 .within, rw q at s), r))
-
-leads-proper : (i : Inputs) (ws : List Candidate) (w : Candidate) → All (ProperCandidate i) ws → Leads ws w → ProperCandidate i w
-leads-proper i ws w h l = all-right (ProperCandidate i) (l .before) (w ∷ l .behind) (rw (l .split) at h) .0
-
 -- both sides of the bound
 sides : (max t : Float) → within max t ≡ true → (le (neg max) t ≡ true) × (le t max ≡ true)
 sides max t h = both-true (le (neg max) t) (le t max) (rw within-order at h)
@@ -135,18 +117,18 @@ bound-parts i w h = both-true (within (i .max) (w .sensor .«tilt_x»)) (within 
 
 -- every score is a number
 pub numbers : (i : Inputs) (es : List Entry) → All (Proper i) es → All Sound (scoredOf es)
-numbers i es p = all-map (ProperCandidate i) Sound (λ v q. q .1 .score-number) (scoredOf es) (scored-proper i es p)
+numbers i es p = all-map (ProperCandidate i) Sound (λ v q. q .facts .score-number) (scoredOf es) (scored-proper i es p)
 
 pub winner : (i : Inputs) (es : List Entry) (w : Candidate) → Counted 0 es → All (Proper i) es → bestOf (scoredOf es) ≡ chosen w → Wins i es w
 unfolding AtMost Later
 winner i es w c p e =
     let s = numbers i es p in
     let l = found-leads (scoredOf es) w e in
-    let q = leads-proper i (scoredOf es) w (scored-proper i es p) l in
-    let t = bound-parts i w (q .0) in
+    let q = best-among (ProperCandidate i) (scoredOf es) w (scored-proper i es p) e in
+    let t = bound-parts i w (q .within) in
     let x = sides (i .max) (w .sensor .«tilt_x») (t .0) in
     let y = sides (i .max) (w .sensor .«tilt_y») (t .1) in
-    let f = q .1 in
+    let f = q .facts in
     record {
       is-scored = leads-mem w (scoredOf es) l;
       lowest = all-most w (scoredOf es) s l;
@@ -155,6 +137,7 @@ winner i es w c p e =
       tilt-x-most = x .1;
       tilt-y-least = y .0;
       tilt-y-most = y .1;
+      tilt-y-zero = unfold untiltedY in q .untilted;
       fx-finite = f .fx-finite;
       fy-finite = f .fy-finite;
       fx-positive = f .fx-above;

@@ -12,7 +12,7 @@ use Rattle.float.specs.Literals.{plusZero, half₆₄}
 use Rattle.camera_models.specs.declared.math.Pt2.{Pt2}
 use Rattle.camera_models.specs.declared.intrinsics.FxFyCxCy.{FxFyCxCy}
 use Rattle.seed_rules.specs.declared.CandidateSeed.{CandidateSeed}
-use Rattle.seed_rules.specs.Rules.{initialList, offsets, nextList}
+use Rattle.seed_rules.specs.Rules.{initialList, offsets, yOffsets, nextList}
 use Rattle.seed_rules.specs.Layout.{six, allSeeds}
 use Rattle.score_outcome.specs.declared.Finding.{Finding}
 use Rattle.score_outcome.specs.declared.Outcome.{Outcome}
@@ -28,6 +28,7 @@ pub record Inputs : Type 0 where
   pub rounds : ℕ
   pub step : Float
   pub max : Float
+  pub one-axis : Bool
   pub xs : List Float
   pub ys : List Float
   pub decomposition : List Float
@@ -98,9 +99,9 @@ stepOf (suc (suc n)) s = stepOf (suc n) s *₆₄ half₆₄
 unfoldable pub firstList : Inputs → List CandidateSeed
 firstList i = initialList (allSeeds (i .decomposition)) (i .xs) (i .ys) (i .base) (i .max)
 
--- the list of round r around a candidate: the nine offsets, with that candidate's camera
+-- the list of round r around a candidate: the nine offsets, or those of a one-axis run, with that candidate's camera
 unfoldable pub listAround : Inputs → ℕ → Candidate → List CandidateSeed
-listAround i r w = let d = offsets (stepOf r (i .step)) in nextList d d (w .sensor) (w .camera .k) (i .max)
+listAround i r w = let s = stepOf r (i .step) in nextList (offsets s) (yOffsets (i .one-axis) s) (w .sensor) (w .camera .k) (i .max)
 
 -- ---- how the book changes
 abbrev pub isEmpty : List CandidateSeed → Bool

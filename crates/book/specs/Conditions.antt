@@ -5,7 +5,7 @@ use mathlib.Core.Logic.{_⊎_}
 use mathlib.Core.Bool.{true, false}
 use mathlib.Core.List.{List, [], _∷_}
 use lib.ListN.{length}
-use lib.Ieee.{Float, neg, lt, le}
+use lib.Ieee.{Float, neg, lt, le, eq}
 use Rattle.float.specs.Float.{isFinite}
 use Rattle.float.specs.Literals.{plusZero, half₆₄}
 use Rattle.seed_rules.specs.declared.CandidateSeed.{CandidateSeed}
@@ -52,7 +52,14 @@ BadSeed max s =
     (((((NotPositive (k .fx) ⊎ NotPositive (k .fy)) ⊎ NotFinite (k .cx)) ⊎ NotFinite (k .cy)) ⊎ NotFinite (t .«tilt_x»)) ⊎ NotFinite (t .«tilt_y»))
     ⊎ (Beyond max (t .«tilt_x») ⊎ Beyond max (t .«tilt_y»))
 
--- ---- 01, 'Start', where n numbers are lent, and then 02, E1: a bound above 0.5
+-- a single value, a zero of either sign; and a tilt about y that is no zero
+abbrev pub OnlyZero : List Float → Type 0
+OnlyZero ys = (y : Float) × (ys ≡ y ∷ []) × (eq y plusZero ≡ true)
+
+abbrev pub TiltedY : CandidateSeed → Type 0
+TiltedY s = eq (s .sensor .«tilt_y») plusZero ≡ false
+
+-- ---- 01, 'Start', where n numbers are lent, and then 02: a bound above 0.5 (E1); a one-axis run whose typed y tilts or decomposition say otherwise (E8)
 abbrev pub conditions : Inputs → ℕ → List Condition
 conditions i n =
     (1 provided (i .views < 3))
@@ -64,4 +71,6 @@ conditions i n =
     ∷ (7 provided (Some NotFinite (i .xs) ⊎ Some NotFinite (i .ys)))
     ∷ (8 provided (n < demand i))
     ∷ (27 provided (lt half₆₄ (i .max) ≡ true))
+    ∷ (31 provided ((i .one-axis ≡ true) × (OnlyZero (i .ys) → ⊥)))
+    ∷ (32 provided ((i .one-axis ≡ true) × Some TiltedY (allSeeds (i .decomposition))))
     ∷ []

@@ -12,6 +12,7 @@ use Rattle.float.specs.Float.{absOf, isFinite}
 use Rattle.float.specs.Literals.{plusZero}
 use Rattle.camera_tilt.specs.declared.sensor.ScheimpflugParams.{ScheimpflugParams}
 use Rattle.seed_rules.specs.Rules.{tilts, seedGrid}
+use Rattle.seed_rules.specs.AnyOffsets.{mostSeeds}
 use Rattle.seed_rules.specs.Layout.{six}
 use Rattle.seed_rules.specs.Tried.{Tried}
 use Rattle.score_outcome.specs.declared.Finding.{Finding}
@@ -36,13 +37,13 @@ use Rattle.book.specs.Calls.{Call}
 use Rattle.book.specs.Book.{Inputs, demand, Entry, entries, scoredOf, firstList, opened, replies, after}
 use Rattle.book.specs.Conditions.{FirstHolds, NoneHolds, conditions}
 use Rattle.book.specs.Walk.{walk}
-use Rattle.book.specs.Trace.{Handing, handed, answers, runAfter, listAfter}
+use Rattle.book.specs.Trace.{Handing, tiltY, handedInRound, handed, answers, runAfter, listAfter}
 use Rattle.book.specs.Named.{outcomesIn, handings}
 use Rattle.book.specs.Lent.{Lent, through, accepted, stillLeft, Turn, AllTaken, turns}
 
 -- ---- Start, on the book's inputs and a lent list
 abbrev pub optionsOf : Inputs → Options
-optionsOf i = record { «refine_rounds» = i .rounds; «refine_step» = i .step; «max_abs_tilt» = i .max }
+optionsOf i = record { «refine_rounds» = i .rounds; «refine_step» = i .step; «max_abs_tilt» = i .max; «one_axis» = i .one-axis }
 
 abbrev pub startOf : Inputs → List Float → Started
 startOf i l = startReply (i .views) (optionsOf i) (i .xs) (i .ys) (i .decomposition) (i .base) (i .center) l
@@ -66,6 +67,8 @@ pub record Wins (i : Inputs) (es : List Entry) (w : Candidate) : Type 0 where
   pub tilt-x-most : le (w .sensor .«tilt_x») (i .max) ≡ true
   pub tilt-y-least : le (neg (i .max)) (w .sensor .«tilt_y») ≡ true
   pub tilt-y-most : le (w .sensor .«tilt_y») (i .max) ≡ true
+  -- and in a one-axis run the one about y is a zero
+  pub tilt-y-zero : i .one-axis ≡ true → eq (w .sensor .«tilt_y») plusZero ≡ true
   -- its focal lengths are finite and positive
   pub fx-finite : isFinite (w .camera .k .fx) ≡ true
   pub fy-finite : isFinite (w .camera .k .fy) ≡ true
@@ -109,6 +112,10 @@ pub record Follows (i : Inputs) (r : Run) (l : List Float) (cs : List Call) : Ty
   pub every-tilt : Over (runAfter r l cs) → (x y : Float) → List·Memᴰ x (i .xs) → List·Memᴰ y (i .ys)
       → le (neg (i .max)) x ≡ true → le x (i .max) ≡ true → le (neg (i .max)) y ≡ true → le y (i .max) ≡ true
       → TiltTried i (handed r l cs) (answers r l cs) (tilts x y)
+  -- A later round hands out at most nine seeds, and at most three in a one-axis run; there the tilt about y is a zero, and +0 in later rounds.
+  pub few-later : (k : ℕ) → length (handedInRound (suc k) (handed r l cs)) ≤ mostSeeds (i .one-axis)
+  pub untilted : i .one-axis ≡ true → All (λ h. eq (tiltY h) plusZero ≡ true) (handed r l cs)
+  pub later-untilted : i .one-axis ≡ true → All (λ h. 0 < h .round → tiltY h ≡ plusZero) (handed r l cs)
   -- at most 656 answers are accepted
   pub few-answers : length (answers r l cs) ≤ 656
   -- where a seed waits Answer takes Failed, and Solved with rows that 13 doesn't refuse: 27 comes from a changed list alone

@@ -3,8 +3,9 @@ use Prim.Native.Nat.{ℕ}
 use mathlib.Core.Bool.{cond}
 use mathlib.Core.List.{List, [], _∷_, _++_}
 use lib.Dec.{eqb}
-use lib.ListN.{length, take}
-use lib.Ieee.{Float}
+use lib.ListN.{length, getD, take}
+use lib.Ieee.{Float, nan}
+use Rattle.seed_rules.specs.Merge.{keep}
 use Rattle.score_outcome.specs.Evaluation.{outcomeOf}
 use Rattle.search_record.specs.declared.run.Run.{Run}
 use Rattle.search_calls.specs.declared.next.Handed.{Handed}
@@ -20,6 +21,13 @@ pub record Handing : Type 0 where
   pub round : ℕ
   pub number : ℕ
   pub part : List Float
+
+-- the last of the seed's six numbers, and those that a round handed out
+abbrev pub tiltY : Handing → Float
+tiltY h = getD (h .part) 5 nan
+
+unfoldable pub handedInRound : ℕ → List Handing → List Handing
+handedInRound k hs = keep (λ h. eqb (h .round) k) hs
 
 abbrev pub handing : Run → List Float → Handed → List Handing
 handing r l (Candidate n) = record { round = r .place .round; number = n; part = seedPart r l } ∷ []

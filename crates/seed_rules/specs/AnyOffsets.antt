@@ -5,9 +5,9 @@ use mathlib.Core.Logic.{⊎-elim}
 use mathlib.Core.Bool.{Bool, true, false, cond}
 use mathlib.Core.List.{List, [], _∷_, _++_, List·Memᴰ, List·Memᴰ·not-nil, List·Memᴰ·cases-cons, Memᴰ·map}
 use Prim.Native.Nat.{ℕ, _*_, _≤_}
+use native.Mathlib.Omega.{arith}
 use lib.ListN.{length}
 use lib.Ieee.{Float}
-use Rattle.common.specs.All.{all-map}
 use Rattle.common.specs.Each.{All}
 use Rattle.float.specs.Binary64.{_+₆₄_}
 use Rattle.float.specs.Literals.{plusZero}
@@ -25,19 +25,19 @@ use Rattle.seed_rules.specs.Facts.{pairs-mem, next-all}
 abbrev pub offsetSeed : ScheimpflugParams → FxFyCxCy → Float → Float → CandidateSeed
 offsetSeed centre camera dx dy = seedWith camera (tilts (centre .«tilt_x» +₆₄ dx) (centre .«tilt_y» +₆₄ dy))
 
--- a seed of the list: it lies at an offset of each axis
-pub record AtOffsets (dxs dys : List Float) (centre : ScheimpflugParams) (camera : FxFyCxCy) (s : CandidateSeed) : Type 0 where
+-- a seed of the list: it lies at an offset of each axis, with the one camera, and within the bound
+pub record AtOffsets (dxs dys : List Float) (centre : ScheimpflugParams) (camera : FxFyCxCy) (max : Float) (s : CandidateSeed) : Type 0 where
   pub dx : Float
   pub dy : Float
   pub is-dx : List·Memᴰ dx dxs
   pub is-dy : List·Memᴰ dy dys
   pub seed-is : s ≡ offsetSeed centre camera dx dy
+  pub in-bound : inBound max (s .sensor) ≡ true
 
 pub record RoundOver (dxs dys : List Float) (centre : ScheimpflugParams) (camera : FxFyCxCy) (max : Float) : Type 0 where
-  -- at most one seed for each pair of offsets, each within the bound and at an offset of each axis, with the one camera
+  -- at most one seed for each pair of offsets, and nothing else
   pub few : length (nextList dxs dys centre camera max) ≤ length dxs * length dys
-  pub in-bound : All (λ s. inBound max (s .sensor) ≡ true) (nextList dxs dys centre camera max)
-  pub made : All (AtOffsets dxs dys centre camera) (nextList dxs dys centre camera max)
+  pub made : All (AtOffsets dxs dys centre camera max) (nextList dxs dys centre camera max)
   -- none is near an earlier one, and each pair of offsets within the bound is there, or a seed near it
   pub apart : (before behind : List CandidateSeed) (s : CandidateSeed) → nextList dxs dys centre camera max ≡ before ++ s ∷ behind → hasNear near before s ≡ false
   pub all-tried : (dx dy : Float) → List·Memᴰ dx dxs → List·Memᴰ dy dys → inBound max (offsetSeed centre camera dx dy .sensor) ≡ true
@@ -47,8 +47,7 @@ pub any-offsets : (dxs dys : List Float) (centre : ScheimpflugParams) (camera : 
 unfolding nextList
 any-offsets dxs dys centre camera max = record {
   few = next-length dxs dys centre camera max;
-  in-bound = next-all (λ s. inBound max (s .sensor) ≡ true) dxs dys centre camera max (λ dx dy m n b. b);
-  made = next-all (AtOffsets dxs dys centre camera) dxs dys centre camera max (λ dx dy m n b. record { dx = dx; dy = dy; is-dx = m; is-dy = n; seed-is = refl });
+  made = next-all (AtOffsets dxs dys centre camera max) dxs dys centre camera max (λ dx dy m n b. record { dx = dx; dy = dy; is-dx = m; is-dy = n; seed-is = refl; in-bound = b });
   apart = λ before behind s e. merged-fresh near (seedsWithin max camera ts) before s behind e;
   all-tried = λ dx dy m n b.
       merged-covers near [] (seedsWithin max camera ts)
@@ -69,6 +68,10 @@ any-offsets dxs dys centre camera max = record {
 abbrev pub mostSeeds : Bool → ℕ
 mostSeeds one-axis = cond one-axis 3 9
 
+pub most-nine : (one-axis : Bool) → mostSeeds one-axis ≤ 9
+most-nine true = omega arith
+most-nine false = omega arith
+
 offset-count : (one-axis : Bool) (s : Float) → length (offsets s) * length (yOffsets one-axis s) ≡ mostSeeds one-axis
 unfolding offsets yOffsets
 offset-count true s = refl
@@ -79,20 +82,14 @@ unfolding yOffsets
 only-zero s m = ⊎-elim (λ e. e) (λ n. absurd (List·Memᴰ·not-nil n)) (List·Memᴰ·cases-cons m)
 
 module _ (one-axis : Bool) (s : Float) (centre : ScheimpflugParams) (camera : FxFyCxCy) (max : Float) where
-  abbrev pub aroundList : List CandidateSeed
-  aroundList = nextList (offsets s) (yOffsets one-axis s) centre camera max
-
   pub round-over : RoundOver (offsets s) (yOffsets one-axis s) centre camera max
   round-over = any-offsets (offsets s) (yOffsets one-axis s) centre camera max
 
-  pub round-few : length aroundList ≤ mostSeeds one-axis
+  pub round-few : length (nextList (offsets s) (yOffsets one-axis s) centre camera max) ≤ mostSeeds one-axis
   round-few = rw offset-count at (round-over .few)
 
--- Around a centre that has no tilt about y, of either sign, each seed of a one-axis round has the tilt +0 there.
-pub round-untilted : (s : Float) (centre : ScheimpflugParams) (camera : FxFyCxCy) (max : Float) → untiltedY centre ≡ true
-    → All (λ t. t .sensor .«tilt_y» ≡ plusZero) (aroundList true s centre camera max)
+-- Around a centre that has no tilt about y, of either sign, a seed of a one-axis round has the tilt +0 there.
+pub untilted-around : (dxs : List Float) (s : Float) (centre : ScheimpflugParams) (camera : FxFyCxCy) (max : Float) (t : CandidateSeed) → untiltedY centre ≡ true
+    → AtOffsets dxs (yOffsets true s) centre camera max t → t .sensor .«tilt_y» ≡ plusZero
 unfolding untiltedY
-round-untilted s centre camera max h =
-    all-map (AtOffsets (offsets s) (yOffsets true s) centre camera) (λ t. t .sensor .«tilt_y» ≡ plusZero)
-    (λ t a. rw (a .seed-is, only-zero s (a .is-dy)) (zero-add-plus (centre .«tilt_y») h))
-    (aroundList true s centre camera max) (round-over true s centre camera max .made)
+untilted-around dxs s centre camera max t h a = rw (a .seed-is, only-zero s (a .is-dy)) (zero-add-plus (centre .«tilt_y») h)
