@@ -19,9 +19,8 @@ same-length c = search needs
 
 returns : tie.Need-returns
 returns c =
-    let e = c .before .before .before .start .ensures in
-    let o = c .before .before .before .before .options-of .ensures in
-    (c .start-flat .ensures ∙ ap flatStarted (rw (← o) (e .0)), rw (← o) (e .1))
+    let e = rw (c .before .before .before .before .before .options-of .ensures) at (c .before .before .before .start .ensures) in
+    (c .start-flat .ensures ∙ ap flatStarted (e .0), e .1)
 
 pub jc-start-spec : {M : Type 1} → statement M
 jc-start-spec = tie.close (tie.spec options-of-requires start-requires start-flat-requires same-length returns)
