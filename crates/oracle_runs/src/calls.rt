@@ -149,9 +149,9 @@ fn call_all(run: Run, list: &mut [f64], x: &[f64], at: usize, end: usize, met: u
 }
 
 // Start with the lent list, and the calls that follow where it is accepted.
-fn start_and_call(list: &mut [f64], x: &[f64], end: usize) -> usize {
+fn start_and_call(list: &mut [f64], x: &[f64], end: usize, one_axis: bool) -> usize {
     let at = list_end(x, 0);
-    match start(x, at, list) {
+    match start(x, at, one_axis, list) {
         Started::Refused(number) => met(x, met_whole(x, end, wide(number)), list),
         Started::Accepted(run) => {
             let begun = met(x, met_whole(x, end, 0), list);
@@ -161,11 +161,11 @@ fn start_and_call(list: &mut [f64], x: &[f64], end: usize) -> usize {
 }
 
 // list, Start's inputs, calls = Start's number, list, each call's words
-pub fn calls(x: &[f64], n: usize) -> usize {
+pub fn calls(x: &[f64], n: usize, one_axis: bool) -> usize {
     if start_end(x, list_end(x, 0)) > n {
         return MALFORMED;
     }
     let length = at_most(whole_at(x, 0), 4096);
     let mut list = numbers_at(x, 1, length, false);
-    start_and_call(&mut list[0..length], x, n)
+    start_and_call(&mut list[0..length], x, n, one_axis)
 }

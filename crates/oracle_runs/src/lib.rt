@@ -20,18 +20,19 @@ fn seed_lists(x: &[f64], n: usize) -> usize {
     if n != start_end(x, 0) {
         return MALFORMED;
     }
-    let Started::Accepted(run) = start(x, 0, &mut list) else {
+    let Started::Accepted(run) = start(x, 0, false, &mut list) else {
         return MALFORMED;
     };
     let place = run.place;
     met_seeds(x, n, &list, place.len)
 }
 
-// How far an operation from `SEED_LISTS` up to `CALLS` meets what is expected of its n inputs.
+// How far an operation from `SEED_LISTS` up to `CALLS_ONE_AXIS` meets what is expected of its n inputs.
 pub fn met(operation: usize, x: &[f64], n: usize) -> usize {
     match operation {
         operations::SEED_LISTS => seed_lists(x, n),
         operations::SEARCH => play::search(x, n),
-        _ => calls::calls(x, n),
+        operations::CALLS => calls::calls(x, n, false),
+        _ => calls::calls(x, n, true),
     }
 }

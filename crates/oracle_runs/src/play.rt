@@ -98,7 +98,7 @@ pub fn search(x: &[f64], n: usize) -> usize {
         return MALFORMED;
     }
     let mut list = [0.0; 4096];
-    match start(x, 0, &mut list) {
+    match start(x, 0, false, &mut list) {
         Started::Refused(number) => met_whole(x, n, wide(number)),
         Started::Accepted(run) => play(run, &mut list, x, at, n),
     }

@@ -11,24 +11,23 @@ use oracle_leaves::structs::point_at;
 use search_record::run::Options;
 use search_start::Started;
 
-// The stored searches are about two axes.
-fn options_of(x: &[f64], at: usize) -> Options {
+fn options_of(x: &[f64], at: usize, one_axis: bool) -> Options {
     Options {
         refine_rounds: whole_at(x, at),
         refine_step: number_at(x, plus(at, 1)),
         max_abs_tilt: number_at(x, plus(at, 2)),
-        one_axis: false,
+        one_axis,
     }
 }
 
-// Start with the inputs at `at`.
-pub fn start(x: &[f64], at: usize, list: &mut [f64]) -> Started {
+// Start with the inputs at `at`. Whether the run is about one axis is the operation's to say.
+pub fn start(x: &[f64], at: usize, one_axis: bool, list: &mut [f64]) -> Started {
     let tilt_x = plus(at, 1);
     let options = options_at(x, at);
     let base = base_at(x, at);
     search_start::start(
         whole_at(x, at),
-        options_of(x, options),
+        options_of(x, options, one_axis),
         list_at(x, tilt_x),
         list_at(x, list_end(x, tilt_x)),
         list_at(x, plus(options, 3)),

@@ -43,25 +43,23 @@ pub record RoundOver (dxs dys : List Float) (centre : ScheimpflugParams) (camera
   pub all-tried : (dx dy : Float) → List·Memᴰ dx dxs → List·Memᴰ dy dys → inBound max (offsetSeed centre camera dx dy .sensor) ≡ true
       → Covered near (nextList dxs dys centre camera max) (offsetSeed centre camera dx dy)
 
+offsets-tried : (dxs dys : List Float) (centre : ScheimpflugParams) (camera : FxFyCxCy) (max dx dy : Float) → List·Memᴰ dx dxs → List·Memᴰ dy dys
+    → inBound max (offsetSeed centre camera dx dy .sensor) ≡ true → Covered near (nextList dxs dys centre camera max) (offsetSeed centre camera dx dy)
+unfolding nextList
+offsets-tried dxs dys centre camera max dx dy m n b =
+    let xs = moved (centre .«tilt_x») dxs in
+    let ys = moved (centre .«tilt_y») dys in
+    merged-covers near [] (seedsWithin max camera (pairs xs ys))
+    (Memᴰ·map (seedWith camera) (mem-keep (inBound max) (pairs xs ys) (pairs-mem xs ys (Memᴰ·map (λ d. centre .«tilt_x» +₆₄ d) m) (Memᴰ·map (λ d. centre .«tilt_y» +₆₄ d) n)) b))
+
 pub any-offsets : (dxs dys : List Float) (centre : ScheimpflugParams) (camera : FxFyCxCy) (max : Float) → RoundOver dxs dys centre camera max
 unfolding nextList
 any-offsets dxs dys centre camera max = record {
   few = next-length dxs dys centre camera max;
   made = next-all (AtOffsets dxs dys centre camera max) dxs dys centre camera max (λ dx dy m n b. record { dx = dx; dy = dy; is-dx = m; is-dy = n; seed-is = refl; in-bound = b });
-  apart = λ before behind s e. merged-fresh near (seedsWithin max camera ts) before s behind e;
-  all-tried = λ dx dy m n b.
-      merged-covers near [] (seedsWithin max camera ts)
-      (Memᴰ·map (seedWith camera) (mem-keep (inBound max) ts (pairs-mem xs ys (Memᴰ·map (λ d. centre .«tilt_x» +₆₄ d) m) (Memᴰ·map (λ d. centre .«tilt_y» +₆₄ d) n)) b));
+  apart = λ before behind s e. merged-fresh near (seedsWithin max camera (pairs (moved (centre .«tilt_x») dxs) (moved (centre .«tilt_y») dys))) before s behind e;
+  all-tried = offsets-tried dxs dys centre camera max;
 }
-  where
-    xs : List Float
-    xs = moved (centre .«tilt_x») dxs
-
-    ys : List Float
-    ys = moved (centre .«tilt_y») dys
-
-    ts : List ScheimpflugParams
-    ts = pairs xs ys
 
 -- ---- the two instances
 -- the most seeds of a later round: three offsets by three, or by one

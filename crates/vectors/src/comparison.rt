@@ -26,7 +26,7 @@ fn met(operation: usize, guess: u64, x: &[f64], n: usize) -> usize {
     if operation <= operations::LOCAL_SEED_GRID {
         return oracle_leaves::lists::met(operation, x, n);
     }
-    if operation <= operations::CALLS {
+    if operation <= operations::CALLS_ONE_AXIS {
         return oracle_runs::met(operation, x, n);
     }
     if operation == operations::KNOWN_PLATE {

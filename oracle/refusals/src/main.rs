@@ -66,6 +66,7 @@ fn files() -> Vec<(String, String)> {
 fn cases() -> Vec<(&'static str, &'static str, Vec<Case>)> {
     vec![
         ("calls", "calls", runs::calls()),
+        ("calls_one_axis", "calls_one_axis", runs::one_axis()),
         ("untilt_points_into", "untilt_points_into", points::untilt()),
         ("ideal_points_into", "ideal_points_into", points::ideal()),
         ("normalize_points_2d_into", "normalize_points_2d_into", points::normalize()),

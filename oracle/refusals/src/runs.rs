@@ -468,6 +468,92 @@ fn tilts() -> Vec<Case> {
     cases
 }
 
+// ---- runs about one axis (02, E8)
+
+/// The number above 0.
+const LEAST: f64 = 5e-324;
+
+/// What Start refuses of a one-axis run, alone and with what is refused before or after it.
+fn one_axis_starts() -> Vec<Case> {
+    let ways: [(u64, Change); 15] = [
+        (2, |s| s.tilt_y = vec![]),
+        (5, |s| s.tilt_y = vec![0.0; 17]),
+        (6, |s| (s.decomposition, s.tilt_y) = (seed(0.0, 0.375), vec![0.125])),
+        (7, |s| s.tilt_y = vec![f64::NAN]),
+        (8, |s| (s.room, s.tilt_y) = (53, vec![0.125])),
+        (27, |s| (s.bound, s.tilt_y) = (1.0, vec![0.125])),
+        (31, |s| s.tilt_y = vec![0.125]),
+        (31, |s| s.tilt_y = vec![-LEAST]),
+        (31, |s| s.tilt_y = vec![0.0, 0.0]),
+        (31, |s| s.tilt_y = vec![-0.0, 0.125]),
+        (31, |s| (s.tilt_y, s.decomposition) = (vec![0.125], seed(0.0, 0.125))),
+        (32, |s| s.decomposition = seed(0.0, 0.125)),
+        (32, |s| s.decomposition = seed(0.125, LEAST)),
+        (32, |s| s.decomposition = [seed(0.125, -0.0), seed(0.0, -0.125)].concat()),
+        (27, |s| (s.bound, s.decomposition) = (BEYOND, seed(0.0, 0.125))),
+    ];
+    let refused = |(number, change): (u64, Change)| {
+        let mut start = accepted();
+        change(&mut start);
+        start.refused(number)
+    };
+    ways.map(refused).into()
+}
+
+/// Round 0 keeps the sign of its zeros; round 1, around (0.25, -0), has the y tilt +0, and its third
+/// seed lies beyond the bound.
+fn one_axis_rounds() -> Case {
+    let start = Start {
+        tilt_x: vec![0.25],
+        tilt_y: vec![-0.0],
+        decomposition: seed(0.0, -0.0),
+        rounds: 1,
+        step: 0.125,
+        ..accepted()
+    };
+    let list = [seed(0.0, -0.0), seed(0.25, -0.0)].concat();
+    let better = Finding { rows: vec![([0.0, 0.0, 320.0, 240.0], 1)], ..solved() };
+    let calls = [
+        next_hands_out(54, 0),
+        seed_is(54, &seed(0.0, -0.0)),
+        answer_scores(54, &solved(), 5.0),
+        next_hands_out(54, 1),
+        seed_is(54, &seed(0.25, -0.0)),
+        answer_scores(54, &better, 0.015625),
+        next_hands_out(54, 2),
+        seed_is(54, &seed(0.125, 0.0)),
+        answer_scores(54, &better, 0.00390625),
+        next_hands_out(54, 3),
+        seed_is(54, &seed(0.25, 0.0)),
+        answer_skips(54, &failed(), 1),
+        next_says_over(54),
+        result_is(2, [0.125, 0.0, 0.0, 0.00390625]),
+    ];
+    start.followed(&list, &calls)
+}
+
+/// Of x - s, x, x + s the first is kept where s is 2^-42, which is below 1e-12.
+fn one_axis_merged() -> Case {
+    let step = 2f64.powi(-42);
+    let start = Start { rounds: 1, step, ..accepted() };
+    let calls = [
+        next_hands_out(54, 0),
+        answer_scores(54, &solved(), 5.0),
+        next_hands_out(54, 1),
+        seed_is(54, &seed(-step, 0.0)),
+        answer_skips(54, &failed(), 1),
+        next_says_over(54),
+        result_is(0, [0.0, 0.0, 5.0, 5.0]),
+    ];
+    start.followed(&seed(0.0, 0.0), &calls)
+}
+
+pub fn one_axis() -> Vec<Case> {
+    let mut cases = one_axis_starts();
+    cases.extend([one_axis_rounds(), one_axis_merged()]);
+    cases
+}
+
 pub fn calls() -> Vec<Case> {
     let over = || {
         vec![
