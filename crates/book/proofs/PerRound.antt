@@ -1,7 +1,7 @@
 -- How many seeds each later round has handed out: no more than its list has. Assumes nothing.
 use Prim.Native.Nat.{ℕ, suc, _≤_, _<_}
 use native.Mathlib.Omega.{arith}
-use mathlib.Core.Path.{_≡_, refl, ap, _∙_}
+use mathlib.Core.Path.{_≡_, refl}
 use mathlib.Core.List.{List, [], _∷_, _++_, map, append-nil, map-append}
 use borrow.Author.Tests.{eqb-true, eqb-false, ne-eqb}
 use lib.Dec.{eqb}
@@ -13,7 +13,7 @@ use Rattle.seed_rules.specs.declared.CandidateSeed.{CandidateSeed}
 use Rattle.seed_rules.specs.Merge.{keep}
 use Rattle.seed_rules.specs.MergeLaws.{keep-append, keep-length}
 use Rattle.seed_rules.specs.AnyOffsets.{mostSeeds}
-use Rattle.book.specs.Book.{Entry, Book, entries, withRound}
+use Rattle.book.specs.Book.{Entry, Book, withRound}
 use Rattle.book.specs.Trace.{Handing, handedInRound}
 use Rattle.book.proofs.Planned.{handingOf, Planned}
 

@@ -1,12 +1,12 @@
 -- What the seeds of a book are in their round, and that those of the list around a chosen candidate are. Assumes nothing.
-use Prim.Native.Nat.{ℕ, suc, _≤_, _<_}
+use Prim.Native.Nat.{ℕ, _≤_, _<_}
 use native.Mathlib.Omega.{arith}
-use mathlib.Core.Path.{_≡_, refl}
-use mathlib.Core.Bool.{Bool, true}
-use mathlib.Core.List.{List, [], _∷_}
+use mathlib.Core.Path.{_≡_}
+use mathlib.Core.Bool.{true}
+use mathlib.Core.List.{List, _∷_}
 use lib.ListN.{length}
 use lib.Ieee.{ofBits, eq}
-use Rattle.common.specs.All.{all-left, all-right, all-map}
+use Rattle.common.specs.All.{all-right, all-map}
 use Rattle.common.specs.Each.{All}
 use Rattle.float.specs.Literals.{plusZero}
 use Rattle.camera_tilt.specs.declared.sensor.ScheimpflugParams.{ScheimpflugParams}

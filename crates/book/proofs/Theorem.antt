@@ -22,7 +22,6 @@ use Rattle.score_outcome.specs.declared.Finding.the-variants.{Failed}
 use Rattle.score_outcome.specs.Evaluation.{rowChecks}
 use Rattle.score_best.specs.declared.Candidate.{Candidate}
 use Rattle.score_best.specs.Best.{chosen}
-use Rattle.search_calls.specs.declared.next.Handed.the-variants as handed-as
 use Rattle.search_calls.specs.declared.result.Resulted.the-variants.{Result, Refused}
 use Rattle.search_answer.specs.Answer.{answerRefusal}
 use Rattle.search_calls.specs.Result.{resultDef}

@@ -7,7 +7,6 @@ use lib.ListN.{length}
 use lib.Ieee.{Float, ofBits, add, sub, neg, lt, le, eq}
 use Rattle.common.specs.Each.{All, every}
 use Rattle.float.specs.Float.{absOf, isFinite}
-use Rattle.camera_models.specs.declared.intrinsics.FxFyCxCy.{FxFyCxCy}
 use Rattle.seed_rules.specs.Merge.{keep, hasNear, push, mergedInto}
 use Rattle.seed_rules.specs.Rules.{closer, tiltNear, cameraNear, near, within, inBound, untiltedY, tilts, pairs, seedWith, offsets, yOffsets, nextList}
 use Rattle.seed_rules.specs.Layout.{readFrom}
