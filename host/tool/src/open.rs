@@ -2,7 +2,7 @@
 
 use crate::residuals::Fit;
 use crate::solve::Host;
-use jinnychair::{FxFyCxCy, ScheimpflugParams, Seed, Winner};
+use jinnychair::{FxFyCxCy, ScheimpflugParams, Seed, TiltTrig, Winner};
 
 /// How far from the winner its errors are looked at, in radians.
 const ASIDE: f64 = 0.002;
@@ -61,6 +61,8 @@ fn noise(host: &Host, seed: &Seed) -> Option<[f64; 2]> {
     let squares = |dx: f64, dy: f64| {
         let ScheimpflugParams { tilt_x, tilt_y } = seed.sensor;
         let sensor = ScheimpflugParams { tilt_x: tilt_x + ASIDE * dx, tilt_y: tilt_y + ASIDE * dy };
+        // Beyond half a radian there is no sine, and no fit.
+        TiltTrig::try_from(sensor).ok()?;
         host.fit(&Seed { sensor, ..*seed }).map(|fit| view_squares(&fit))
     };
     let sum = |squares: &[f64]| squares.iter().sum::<f64>();

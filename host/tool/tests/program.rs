@@ -367,6 +367,15 @@ fn a_winner_at_an_edge_is_told() {
 }
 
 #[test]
+fn a_winner_at_half_a_radian_is_doubtful() {
+    let here = folder("half-a-radian");
+    let words = ["search", "--bound=0.5rad", "--tilts-x=0.5rad", "--tilts-y=0", "--rounds=0"];
+    let words = [&words[..], &["--no-decomposition"]].concat();
+    let noise = "noise in the pixels leaves the tilts open by any amount";
+    assert_said(&here, &words, 3, &["tilt x          +28.6479°", noise]);
+}
+
+#[test]
 fn limits_of_service_decide() {
     let here = folder("limits");
     said(&here, &small(&["--max-tilt=1.5deg", "--max-mean=0.1"]), 0);
