@@ -72,7 +72,7 @@ static void scores(void) {
 }
 
 static void search(void) {
-    jc_options options = {1, 0.005, 0.02};
+    jc_options options = {1, 0.005, 0.02, 0};
     jc_pt2 center = {640, 480};
     double list[JC_MOST_LIST], seed[JC_SEED_NUMBERS];
     size_t len = JC_LIST_LEN(0, 2, 2);
@@ -80,7 +80,7 @@ static void search(void) {
     jc_start_flat s = jc_start(3, options, TILTS, 2, TILTS, 2, TILTS, 0, K, center, list, len);
     claim(s.number == 0 && s.run.place.len == 4, "an empty decomposition is any array with the length 0");
     claim(jc_start(3, options, TILTS, 2, TILTS, 2, TILTS, 0, K, center, list, len - 1).number == JC_LIST_TOO_SHORT, "8");
-    jc_options degrees = {1, 0.005, 3.0};
+    jc_options degrees = {1, 0.005, 3.0, 0};
     claim(jc_start(3, degrees, TILTS, 2, TILTS, 2, TILTS, 0, K, center, list, len).number == JC_TILT_TOO_LARGE, "27");
     claim(jc_next(s.run, list, len - 1).number == JC_LIST_SHORTENED, "10");
     claim(jc_result(s.run).number == JC_NOT_OVER, "14");
@@ -104,6 +104,27 @@ static void search(void) {
     claim(jc_answer(a.run, 1, solved, row, 4, one, 1, list, len).number == JC_NO_SEED_WAITING, "12");
 }
 
+static void one_axis(void) {
+    jc_options options = {1, 0.005, 0.02, 7};
+    jc_pt2 center = {640, 480};
+    const double level[] = {-0.0}, leaning[] = {1000, 900, 640, 480, 0, 0.01};
+    double list[54];
+    jc_start_flat s = jc_start(3, options, TILTS, 2, level, 1, TILTS, 0, K, center, list, 54);
+    claim(s.number == 0 && s.run.place.len == 2 && s.run.options.one_axis == 1, "any one_axis but 0 is one axis");
+    claim(same(list[5], -0.0), "round 0 keeps the sign of a zero");
+    claim(jc_start(3, options, TILTS, 2, TILTS, 2, TILTS, 0, K, center, list, 54).number == JC_TILTS_OFF_AXIS, "31");
+    claim(jc_start(3, options, TILTS, 2, level, 1, leaning, 6, K, center, list, 54).number == JC_SEED_OFF_AXIS, "32");
+
+    jc_run_record run = s.run;
+    jc_pinhole_camera solved = {K, {0, 0, 0, 0, 0}};
+    const double row[] = {0, 0, 643, 484};
+    const uint8_t one[] = {1};
+    for (int i = 0; i < 2; i++) run = jc_answer(jc_next(run, list, 54).run, 1, solved, row, 4, one, 1, list, 54).run;
+    claim(run.place.round == 1 && run.place.len == 3, "a later round has three seeds");
+    claim(list[4] == -0.01 - 0.005 && list[10] == -0.01 && list[16] == -0.01 + 0.005, "x - step, x, x + step");
+    claim(same(list[5], 0.0) && same(list[11], 0.0) && same(list[17], 0.0), "with a tilt y of 0");
+}
+
 /* Each limit is taken, and one more is refused. */
 static void limits(void) {
     static double list[JC_MOST_LIST], numbers[JC_ROW_NUMBERS * (JC_MOST_ROWS + 1)];
@@ -117,7 +138,7 @@ static void limits(void) {
         double seed[JC_SEED_NUMBERS] = {1000.0 + i, 900, 640, 480, 0, 0};
         memcpy(seeds + JC_SEED_NUMBERS * i, seed, sizeof seed);
     }
-    jc_options most = {JC_MOST_ROUNDS, 0.01, 0.3}, more = {JC_MOST_ROUNDS + 1, 0.01, 0.3};
+    jc_options most = {JC_MOST_ROUNDS, 0.01, 0.3, 0}, more = {JC_MOST_ROUNDS + 1, 0.01, 0.3, 0};
     jc_pt2 center = {640, 480};
     const size_t of_seeds = JC_SEED_NUMBERS * JC_MOST_SEEDS;
     claim(JC_LIST_LEN(JC_MOST_SEEDS, JC_MOST_TILTS, JC_MOST_TILTS) == JC_MOST_LIST, "JC_MOST_LIST");
@@ -144,6 +165,7 @@ int main(void) {
     geometry();
     scores();
     search();
+    one_axis();
     limits();
     if (!failed) printf("the header's words hold\n");
     return failed;

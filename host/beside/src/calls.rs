@@ -1,7 +1,7 @@
 //! Whole lists of calls, in right and wrong orders, on the library and on the plain book.
 
 use crate::findings::Sent;
-use crate::inputs::for_library;
+use crate::inputs::{for_library, on_one_axis};
 use crate::record_words::{of_book, of_run};
 use book::{Book, Inputs};
 use jinnychair::record::{Run, answer, next, result, seed, start};
@@ -12,8 +12,8 @@ use words::{float_words, word};
 /// What was compared.
 #[derive(Clone, Copy, Debug)]
 pub struct Tally {
-    /// Runs that Start accepted.
-    pub runs: usize,
+    /// Runs that Start accepted: on two axes, on one.
+    pub runs: [usize; 2],
     /// Calls on sound records, Start included.
     pub calls: usize,
     /// Of these, the refused ones by their number.
@@ -29,7 +29,7 @@ pub struct Tally {
 impl Default for Tally {
     fn default() -> Self {
         Self {
-            runs: 0,
+            runs: [0; 2],
             calls: 0,
             refused: [0; 64],
             entered: [0; 1 + SkipReason::ALL.len()],
@@ -59,7 +59,7 @@ pub fn play(mut inputs: Inputs, random: &mut Random, tally: &mut Tally) -> Resul
         spoil(&mut inputs, random);
     }
     let Some(mut pair) = Pair::start(&inputs, random, tally)? else { return Ok(()) };
-    tally.runs += 1;
+    tally.runs[usize::from(inputs.one_axis)] += 1;
     // Enough calls to end most runs, some of them far beyond their end.
     let calls = random.below(40) + if random.once_in(2) { 400 } else { 0 };
     let mut past_end = 0;
@@ -82,7 +82,7 @@ pub fn play(mut inputs: Inputs, random: &mut Random, tally: &mut Tally) -> Resul
 /// Inputs that Start may refuse.
 fn spoil(inputs: &mut Inputs, random: &mut Random) {
     let odd = random.pick(&[f64::NAN, f64::INFINITY, 0.0, -0.0, -1.0, f64::MAX, 1e-310]);
-    match random.below(9) {
+    match random.below(11) {
         0 => inputs.views = random.below(4),
         1 => inputs.tilt_x_seeds.clear(),
         2 => inputs.tilt_y_seeds.resize(random.pick(&[0, 16, 17]), 0.125),
@@ -91,12 +91,25 @@ fn spoil(inputs: &mut Inputs, random: &mut Random) {
         5 => inputs.rounds = random.pick(&[0, 16, 17, usize::MAX]),
         6 => inputs.decomposition.push(odd),
         7 => inputs.decomposition.resize(6 * random.pick(&[255, 256, 257]), 0.01),
+        8 => inputs.one_axis = true,
+        9 => lean_aside(inputs, random),
         _ => inputs.tilt_x_seeds.push(odd),
     }
     if !inputs.decomposition.is_empty() && random.once_in(2) {
         let place = random.below(inputs.decomposition.len());
         inputs.decomposition[place] = odd;
     }
+}
+
+/// A run on one axis, mostly with a tilt about y that isn't 0, or with one too many.
+fn lean_aside(inputs: &mut Inputs, random: &mut Random) {
+    *inputs = on_one_axis(inputs.clone(), random);
+    if random.once_in(3) {
+        let lists: [&[f64]; 4] = [&[0.0, -0.0], &[5e-324], &[-0.01], &[f64::NAN]];
+        inputs.tilt_y_seeds = random.pick(&lists).to_vec();
+    }
+    inputs.decomposition.extend(inputs.base);
+    inputs.decomposition.extend([0.01, random.pick(&[-5e-324, 0.01, -0.0])]);
 }
 
 fn differ<T: PartialEq + std::fmt::Debug>(what: &str, library: T, book: T) -> Result<(), String> {
@@ -294,9 +307,10 @@ fn unsound(pair: &Pair, random: &mut Random, tally: &mut Tally) -> Result<(), St
 
 /// A flag is read as 0 or not 0, and comes back as 0 or 1.
 fn with_plain_flags(mut run: Run) -> Run {
-    let Run { place, waiting, round_best, run_best, .. } = &mut run;
-    let flags =
-        [&mut place.over, &mut waiting.is_waiting, &mut round_best.found, &mut run_best.found];
+    let Run { options, place, waiting, round_best, run_best, .. } = &mut run;
+    let bests = [&mut round_best.found, &mut run_best.found];
+    let others = [&mut options.one_axis, &mut place.over, &mut waiting.is_waiting];
+    let flags = others.into_iter().chain(bests);
     for flag in flags {
         *flag = (*flag).min(1);
     }

@@ -5,9 +5,26 @@ use jinnychair::record;
 use jinnychair::{FxFyCxCy, Pt2};
 use random::Random;
 
-/// Inputs that Start mostly takes: few tilts, some of them alike or beyond the bound, and few rounds.
+/// Inputs that Start mostly takes, of a run on one axis once in three.
 #[must_use]
 pub fn draw(random: &mut Random) -> Inputs {
+    let inputs = draw_two_axes(random);
+    if random.once_in(3) { on_one_axis(inputs, random) } else { inputs }
+}
+
+/// The same inputs for a run on one axis: each tilt about y is 0, of either sign.
+#[must_use]
+pub fn on_one_axis(mut inputs: Inputs, random: &mut Random) -> Inputs {
+    inputs.one_axis = true;
+    inputs.tilt_y_seeds = vec![random.pick(&[0.0, -0.0])];
+    for seed in inputs.decomposition.chunks_exact_mut(6) {
+        seed[5] = random.pick(&[0.0, -0.0]);
+    }
+    inputs
+}
+
+/// Few tilts, some of them alike or beyond the bound, and few rounds.
+fn draw_two_axes(random: &mut Random) -> Inputs {
     let max_abs_tilt = random.pick(&[0.05, 0.2, 0.25, 0.5]);
     let tilts = |random: &mut Random| -> Vec<f64> {
         (0..1 + random.below(5)).map(|_| tilt(max_abs_tilt, random)).collect()
@@ -27,6 +44,7 @@ pub fn draw(random: &mut Random) -> Inputs {
         rounds: random.below(4),
         refine_step: random.pick(&[0.1, 0.03, 0.01, 1e-11, 1e-12, 1e-13]),
         max_abs_tilt,
+        one_axis: false,
         decomposition,
         base,
         centre: [
@@ -52,6 +70,7 @@ pub fn for_library(inputs: &Inputs) -> record::Inputs<'_> {
             refine_rounds: inputs.rounds,
             refine_step: inputs.refine_step,
             max_abs_tilt: inputs.max_abs_tilt,
+            one_axis: inputs.one_axis.into(),
         },
         tilt_x_seeds: &inputs.tilt_x_seeds,
         tilt_y_seeds: &inputs.tilt_y_seeds,

@@ -80,7 +80,7 @@ impl Book {
     ///
     /// # Errors
     ///
-    /// The number 1 to 8 or 27 with which Start refuses; then nothing is written.
+    /// The number 1 to 8, 27, 31 or 32 with which Start refuses; then nothing is written.
     pub fn start(inputs: Inputs, lent: &mut [f64]) -> Result<Self, u8> {
         if let Some(number) = inputs.refusal(lent.len()) {
             return Err(number);

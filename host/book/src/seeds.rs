@@ -54,6 +54,8 @@ pub struct Inputs {
     pub refine_step: f64,
     /// The bound on either tilt.
     pub max_abs_tilt: f64,
+    /// Whether the tilt about y is fixed at 0.
+    pub one_axis: bool,
     /// The host's decomposition seeds, six numbers each.
     pub decomposition: Vec<f64>,
     /// The camera of the grid's seeds.
@@ -86,7 +88,7 @@ impl Inputs {
                 || !(seed.k[0] > 0.0 && seed.k[1] > 0.0)
                 || !self.is_within_bound(seed.tilts)
         };
-        let refusals: [(u8, &dyn Fn() -> bool); 9] = [
+        let refusals: [(u8, &dyn Fn() -> bool); 11] = [
             (1, &|| self.views < 3),
             (2, &|| grids.iter().any(|grid| grid.is_empty())),
             (3, &|| !is_positive(self.max_abs_tilt)),
@@ -96,6 +98,9 @@ impl Inputs {
             (7, &|| grids.iter().any(|grid| grid.iter().any(|tilt| !tilt.is_finite()))),
             (8, &|| list_len < self.demand()),
             (27, &|| self.max_abs_tilt > 0.5),
+            // A zero of either sign equals 0.
+            (31, &|| self.one_axis && self.tilt_y_seeds != [0.0]),
+            (32, &|| self.one_axis && self.decomposition_seeds().any(|seed| seed.tilts[1] != 0.0)),
         ];
         refusals.iter().find(|(_, holds)| holds()).map(|(number, _)| *number)
     }
@@ -127,12 +132,19 @@ impl Inputs {
         list
     }
 
+    /// What is added to the tilt about x, and to that about y, for the list of the given round.
+    fn offsets(&self, round: usize) -> [Vec<f64>; 2] {
+        let s = self.step(round);
+        let both_ways = vec![-s, 0.0, s];
+        [both_ways.clone(), if self.one_axis { vec![0.0] } else { both_ways }]
+    }
+
     /// The list of the given round, at least 1, around the best one's tilts with its camera.
     pub fn next_list(&self, round: usize, k: [f64; 4], around: [f64; 2]) -> Vec<Seed> {
-        let s = self.step(round);
+        let [x_offsets, y_offsets] = self.offsets(round);
         let mut list = Vec::new();
-        for dx in [-s, 0.0, s] {
-            for dy in [-s, 0.0, s] {
+        for dx in x_offsets {
+            for &dy in &y_offsets {
                 let tilts = [around[0] + dx, around[1] + dy];
                 if self.is_within_bound(tilts) {
                     push(&mut list, Seed { k, tilts }, Seed::is_near);

@@ -11,6 +11,7 @@ fn inputs(x: &[f64], y: &[f64]) -> Inputs {
         rounds: 1,
         refine_step: 0.125,
         max_abs_tilt: 0.25,
+        one_axis: false,
         decomposition: Vec::new(),
         base: [2.0, 2.0, 0.0, 0.0],
         centre: [0.0, 0.0],
@@ -71,6 +72,48 @@ fn start_refuses_by_the_first_number() {
     assert_eq!(refusal(|i| i.max_abs_tilt = 1.0, 53), Some(8));
     assert_eq!(refusal(|i| i.max_abs_tilt = 1.0, 54), Some(27));
     assert_eq!(refusal(|i| i.max_abs_tilt = 0.5, 54), None);
+}
+
+#[test]
+fn one_axis_wants_tilt_y_to_be_0_of_either_sign() {
+    let refusal = |y: &[f64], seeds: &[f64], max_abs_tilt: f64| {
+        let decomposition = seeds.iter().flat_map(|y| [2.0, 2.0, 0.0, 0.0, 0.1, *y]).collect();
+        let inputs = Inputs { one_axis: true, max_abs_tilt, decomposition, ..inputs(&[0.0], y) };
+        inputs.refusal(inputs.demand())
+    };
+    assert_eq!(refusal(&[0.0], &[0.0, -0.0], 0.25), None);
+    assert_eq!(refusal(&[-0.0], &[], 0.25), None);
+    assert_eq!(refusal(&[0.0, 0.0], &[], 0.25), Some(31));
+    assert_eq!(refusal(&[5e-324], &[0.1], 0.25), Some(31));
+    assert_eq!(refusal(&[0.0], &[0.0, -5e-324], 0.25), Some(32));
+    // What both kinds of run refuse comes first.
+    assert_eq!(refusal(&[], &[], 0.25), Some(2));
+    assert_eq!(refusal(&[0.0], &[0.3], 0.25), Some(6));
+    assert_eq!(refusal(&[f64::NAN], &[], 0.25), Some(7));
+    assert_eq!(refusal(&[0.1, 0.1], &[0.1], 0.6), Some(27));
+}
+
+#[test]
+fn one_axis_list_has_three_seeds_with_tilt_y_0() {
+    let inputs = Inputs { one_axis: true, ..inputs(&[0.0], &[-0.0]) };
+    assert!(inputs.first_list()[0].tilts[1].is_sign_negative());
+    let tilts = |around: [f64; 2]| -> Vec<_> {
+        inputs.next_list(1, [1.0; 4], around).iter().map(|seed| seed.tilts).collect()
+    };
+    let list = tilts([0.0, -0.0]);
+    assert_eq!(list, [[-0.125, 0.0], [0.0, 0.0], [0.125, 0.0]]);
+    assert!(list.iter().all(|tilts| tilts[1].is_sign_positive()));
+    assert_eq!(tilts([0.25, 0.0]), [[0.125, 0.0], [0.25, 0.0]]);
+    // A list that the host changed.
+    assert_eq!(tilts([0.0, 0.125]), [[-0.125, 0.125], [0.0, 0.125], [0.125, 0.125]]);
+    assert!(tilts([0.0, 0.375]).is_empty());
+}
+
+#[test]
+fn one_axis_step_below_the_merging_distance_leaves_the_first() {
+    let inputs = Inputs { one_axis: true, refine_step: 1e-13, ..inputs(&[0.0], &[0.0]) };
+    let list = inputs.next_list(1, [1.0; 4], [0.0; 2]);
+    assert_eq!(list.iter().map(|seed| seed.tilts).collect::<Vec<_>>(), [[-1e-13, 0.0]]);
 }
 
 #[test]

@@ -3,6 +3,7 @@
 //!     compare [LEAF CASES] [SEARCHES] [SEED]
 
 use beside::calls::{Tally, play};
+use beside::inputs::on_one_axis;
 use compare::blocks;
 use compare::library::answer_words;
 use oracle::generate::{Endless, endless};
@@ -90,30 +91,43 @@ fn compare_with_oracle(family: Endless, count: usize, differences: &mut Differen
     println!("{operation:28}{count} cases");
 }
 
+/// Start's inputs as the oracle drew them, on two axes or, once in three, on one.
+fn book_inputs(input: &[u64], random: &mut Random) -> book::Inputs {
+    let drawn = Inputs::read(&mut Reader::new(input)).expect("the oracle answered them");
+    let inputs = book::Inputs {
+        views: drawn.views,
+        tilt_x_seeds: drawn.tilt_x_seeds,
+        tilt_y_seeds: drawn.tilt_y_seeds,
+        rounds: drawn.rounds,
+        refine_step: drawn.refine_step,
+        max_abs_tilt: drawn.max_abs_tilt,
+        one_axis: false,
+        decomposition: drawn.decomposition,
+        base: drawn.base,
+        centre: drawn.center,
+    };
+    if random.once_in(3) { on_one_axis(inputs, random) } else { inputs }
+}
+
 fn compare_with_book(count: usize, seed: &str, differences: &mut Differences) {
     let lists = endless(&format!("{seed}, calls")).into_iter();
     let lists = lists.filter(|family| family.operation == "seed_lists").flat_map(|f| f.cases);
     let mut random = Random::named(&format!("calls, {seed}"));
     let mut tally = Tally::default();
     for (i, (input, _)) in lists.take(count).enumerate() {
-        let inputs = Inputs::read(&mut Reader::new(&input)).expect("the oracle answered them");
-        let inputs = book::Inputs {
-            views: inputs.views,
-            tilt_x_seeds: inputs.tilt_x_seeds,
-            tilt_y_seeds: inputs.tilt_y_seeds,
-            rounds: inputs.rounds,
-            refine_step: inputs.refine_step,
-            max_abs_tilt: inputs.max_abs_tilt,
-            decomposition: inputs.decomposition,
-            base: inputs.base,
-            centre: inputs.center,
-        };
-        if let Err(fault) = play(inputs, &mut random.fork(), &mut tally) {
-            differences.add(&format!("list of calls {i}, {}: {fault}", line(&input)));
+        let inputs = book_inputs(&input, &mut random);
+        if let Err(fault) = play(inputs.clone(), &mut random.fork(), &mut tally) {
+            differences.add(&format!("list of calls {i}, {inputs:?}: {fault}"));
         }
     }
     println!("lists of calls              {count} cases");
-    println!("  {} accepted Starts, {} calls in all", tally.runs, tally.calls);
+    print_tally(&tally);
+}
+
+fn print_tally(tally: &Tally) {
+    let [two_axes, one_axis] = tally.runs;
+    println!("  {two_axes} accepted Starts on two axes, {one_axis} on one");
+    println!("  {} calls in all", tally.calls);
     let [scored, skipped @ ..] = tally.entered;
     println!("  {scored} answers scored, skipped, by reason: {skipped:?}");
     let refused = tally.refused.iter().enumerate().filter(|(_, times)| **times > 0);

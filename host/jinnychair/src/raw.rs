@@ -137,7 +137,7 @@ laid_out! {
     Conic: 48 { b11: 0, b12: 8, b22: 16, b13: 24, b23: 32, b33: 40 }
     Seed: 48 { reference_k: 0, sensor: 32 }
     Winner: 112 { number: 0, camera: 8, sensor: 80, mean_reproj_error: 96, score: 104 }
-    Options: 24 { refine_rounds: 0, refine_step: 8, max_abs_tilt: 16 }
+    Options: 32 { refine_rounds: 0, refine_step: 8, max_abs_tilt: 16, one_axis: 24 }
     SumReply: 16 { number: 0, value: 8 }
     FlatMatrix: 72 { rows: 0 }
     InverseReply: 80 { number: 0, inverse: 8 }
@@ -149,10 +149,10 @@ laid_out! {
     Place: 56 { demand: 0, round: 8, step: 16, len: 24, at: 32, number: 40, over: 48 }
     Waiting: 56 { is_waiting: 0, seed: 8 }
     Best: 120 { found: 0, candidate: 8 }
-    Run: 392 { options: 0, center: 24, place: 40, waiting: 96, round_best: 152, run_best: 272 }
-    StartReply: 400 { number: 0, run: 8 }
-    NextReply: 408 { number: 0, over: 1, candidate: 8, run: 16 }
-    AnswerReply: 408 { number: 0, skipped: 1, score: 8, run: 16 }
+    Run: 400 { options: 0, center: 32, place: 48, waiting: 104, round_best: 160, run_best: 280 }
+    StartReply: 408 { number: 0, run: 8 }
+    NextReply: 416 { number: 0, over: 1, candidate: 8, run: 16 }
+    AnswerReply: 416 { number: 0, skipped: 1, score: 8, run: 16 }
     ResultReply: 120 { number: 0, candidate: 8 }
 }
 
@@ -491,6 +491,7 @@ mod tests {
                 refine_rounds: self.whole(),
                 refine_step: self.float(),
                 max_abs_tilt: self.float(),
+                one_axis: self.byte(),
             }
         }
 

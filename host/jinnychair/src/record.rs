@@ -19,6 +19,8 @@ pub struct Options {
     pub refine_step: f64,
     /// The bound on either tilt, in radians.
     pub max_abs_tilt: f64,
+    /// Not 0 where the tilt about y is fixed at 0.
+    pub one_axis: u8,
 }
 
 /// How far a run has come.

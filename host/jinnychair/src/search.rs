@@ -28,10 +28,19 @@ pub struct Options {
     pub refine_step: f64,
     /// The bound on either tilt, in radians; at most 0.5, which is 28.6°.
     pub max_abs_tilt: f64,
+    /// Whether the sensor leans about x alone, as on a hinge. Tilt y is then fixed at 0: its list is 0 alone, the
+    /// decomposition seeds have no other, and each round after round 0 tries x − step, x and x + step.
+    ///
+    /// ```
+    /// let mut options = jinnychair::Options::default();
+    /// (options.one_axis, options.tilt_y_seeds) = (true, vec![0.0]);
+    /// ```
+    pub one_axis: bool,
 }
 
 impl Default for Options {
-    /// Those of calibration-rs: a grid of about ±9° by ±2°, then two rounds from 0.02 radians on, within 0.3 radians.
+    /// Those of calibration-rs: a grid of about ±9° by ±2°, then two rounds from 0.02 radians on, within 0.3 radians, on both
+    /// axes.
     fn default() -> Self {
         Self {
             tilt_x_seeds: vec![-0.16, -0.12, -0.08, -0.04, 0.0, 0.04, 0.08, 0.12, 0.16],
@@ -39,6 +48,19 @@ impl Default for Options {
             refine_rounds: 2,
             refine_step: 0.02,
             max_abs_tilt: 0.3,
+            one_axis: false,
+        }
+    }
+}
+
+impl Options {
+    /// Those beside the tilts of the grid.
+    fn numbers(&self) -> record::Options {
+        record::Options {
+            refine_rounds: self.refine_rounds,
+            refine_step: self.refine_step,
+            max_abs_tilt: self.max_abs_tilt,
+            one_axis: self.one_axis.into(),
         }
     }
 }
@@ -218,11 +240,7 @@ impl Search {
         let run = record::start(
             &record::Inputs {
                 views: inputs.views,
-                options: record::Options {
-                    refine_rounds: options.refine_rounds,
-                    refine_step: options.refine_step,
-                    max_abs_tilt: options.max_abs_tilt,
-                },
+                options: options.numbers(),
                 tilt_x_seeds: &options.tilt_x_seeds,
                 tilt_y_seeds: &options.tilt_y_seeds,
                 decomposition: &decomposition,

@@ -120,6 +120,49 @@ fn degrees_for_radians_are_refused_and_told() {
     assert_eq!(TiltTrig::try_from(beyond), Err(TrigError::TiltTooLarge));
 }
 
+/// Options of a search on one axis: a grid of nine tilts about x.
+fn one_axis() -> Options {
+    let mut options = Options::default();
+    (options.one_axis, options.tilt_y_seeds) = (true, vec![0.0]);
+    options
+}
+
+#[test]
+fn one_axis_leaves_tilt_y_at_0() {
+    let options = one_axis();
+    let mut rounds = vec![0; 1 + options.refine_rounds];
+    let winner = search(&options)
+        .run_watched(
+            |seed| Some(solution(seed)),
+            |tried| {
+                assert_eq!(tried.seed.sensor.tilt_y.to_bits(), 0.0_f64.to_bits());
+                rounds[tried.round] += 1;
+            },
+        )
+        .unwrap();
+    assert_eq!(rounds, [9, 3, 3]);
+    assert!((winner.sensor.tilt_x + 0.05).abs() <= 0.01);
+}
+
+#[test]
+fn one_axis_is_refused_where_a_tilt_y_is_not_0() {
+    let start = |y: &[f64], seed_y: f64| {
+        let mut options = one_axis();
+        options.tilt_y_seeds = y.to_vec();
+        let sensor = ScheimpflugParams { tilt_x: 0.0, tilt_y: seed_y };
+        let (decomposition, center) = ([Seed { reference_k: K, sensor }], Pt2 { x: K.cx, y: K.cy });
+        let decomposition = &decomposition;
+        Search::start(&Inputs { views: 3, options: &options, decomposition, base: K, center })
+            .map(|_| ())
+    };
+    assert_eq!(start(&[-0.0], -0.0), Ok(()));
+    assert_eq!(start(&[0.0, 0.0], 0.1), Err(StartError::TiltsOffAxis));
+    assert_eq!(start(&[0.0], 0.1), Err(StartError::SeedOffAxis));
+    let told = [StartError::TiltsOffAxis, StartError::SeedOffAxis].map(|error| error.to_string());
+    assert!(told[0].contains("(31). Give `0` alone for y"), "{}", told[0]);
+    assert!(told[1].contains("(32). Set tilt y of such seeds to 0"), "{}", told[1]);
+}
+
 #[test]
 fn undistorted_takes_twenty_steps() {
     let lens = BrownConrady5 { k1: -0.2, k2: 0.04, k3: 0.0, p1: 0.001, p2: -0.001 };

@@ -1,8 +1,11 @@
 //! A search as a picture, in SVG: every tried tilt, two enlarged parts around the winner, the score along lines through
-//! it, and what was asked and found, so that the sheet can be filed. Each mark tells more when it is pointed at.
+//! it, and what was asked and found, so that the sheet can be filed. A search on one axis is drawn as the score over tilt
+//! x. Each mark tells more when it is pointed at.
 
 mod legend;
+mod one_axis;
 mod part;
+mod plot;
 mod section;
 mod svg;
 
@@ -19,7 +22,8 @@ pub use svg::HEAD;
 const COLUMNS: [f64; 3] = [70.0, 455.0, 840.0];
 const PARTS_TOP: f64 = 128.0;
 const SECTIONS_TOP: f64 = PARTS_TOP + PART + 122.0;
-const SECTIONS_BOTTOM: f64 = SECTIONS_TOP + section::HEIGHT + 36.0;
+/// The room that a plot's axis takes below it.
+const UNDER_A_PLOT: f64 = 36.0;
 
 const WIDTH: f64 = 1180.0;
 const LINE: f64 = 17.0;
@@ -36,18 +40,33 @@ pub fn chart(record: &Record) -> String {
     let bound = bound.filter(|bound| bound.is_finite() && *bound > 0.0).map(f64::to_degrees);
     heading(&mut svg, record, winner);
     let parts = parts(tried, winner);
+    let one_axis = record.is_one_axis();
+    let draw = if one_axis { one_axis::draw } else { two_axes };
+    let plots = draw(&mut svg, tried, winner, bound, &parts);
+    let top = if one_axis { PARTS_TOP } else { SECTIONS_TOP };
+    let legend = Legend { tried, bound, one_axis, left: COLUMNS[2], top }.draw(&mut svg);
+    let bottom = notes(&mut svg, record, legend.max(plots) + 32.0);
+    svg.finish([WIDTH, bottom + 24.0])
+}
+
+/// Parts of the plane of tilts, and the score along two lines through the winner; gives where they end.
+fn two_axes(
+    svg: &mut Svg,
+    tried: &[Tried],
+    winner: Option<&Tried>,
+    bound: Option<f64>,
+    parts: &[Part],
+) -> f64 {
     for (i, part) in parts.iter().enumerate() {
-        part.draw(&mut svg, tried, winner, bound, parts.get(i + 1));
+        part.draw(svg, tried, winner, bound, parts.get(i + 1));
     }
+    let range = parts.get(1).unwrap_or(&parts[0]);
     if let Some(winner) = winner {
-        let range = parts.get(1).unwrap_or(&parts[0]);
         for (axis, left) in [0, 1].into_iter().zip(COLUMNS) {
-            Section::new(tried, winner, axis, range).draw(&mut svg, [left, SECTIONS_TOP]);
+            Section::new(tried, winner, axis, range, [left, SECTIONS_TOP]).draw(svg);
         }
     }
-    let legend = Legend { tried, bound, left: COLUMNS[2], top: SECTIONS_TOP }.draw(&mut svg);
-    let bottom = notes(&mut svg, record, legend.max(SECTIONS_BOTTOM) + 32.0);
-    svg.finish([WIDTH, bottom + 24.0])
+    SECTIONS_TOP + section::HEIGHT + UNDER_A_PLOT
 }
 
 fn degrees(one: &Tried) -> [f64; 2] {
@@ -82,7 +101,8 @@ fn heading(svg: &mut Svg, record: &Record, winner: Option<&Tried>) {
         let errors = winner.scored.map_or(String::new(), |scored| {
             format!(", mean error {:.3} px, RMS {:.3} px", scored.mean, scored.rms)
         });
-        format!("Winner: no. {}, tilt x {x}°, tilt y {y}°{errors}.", winner.number)
+        let y = if record.is_one_axis() { "held at 0".into() } else { format!("{y}°") };
+        format!("Winner: no. {}, tilt x {x}°, tilt y {y}{errors}.", winner.number)
     });
     let rounds = last_round(tried);
     let summary = format!(

@@ -13,6 +13,7 @@ pub const NAMES: &[(&str, &str)] = &[
     ("centre-within", "PX"),
     ("tilts-x", "ANGLE,ANGLE,..."),
     ("tilts-y", "ANGLE,ANGLE,..."),
+    ("one-axis", ""),
     ("bound", "ANGLE"),
     ("step", "ANGLE"),
     ("rounds", "N"),
@@ -33,6 +34,8 @@ pub struct Choices {
     pub centre_within: Option<f64>,
     /// The grid's tilts, in radians.
     pub tilts: [Option<Vec<f64>>; 2],
+    /// Whether tilt y is held at 0.
+    pub one_axis: Option<()>,
     /// The bound on either tilt, in radians.
     pub bound: Option<f64>,
     /// The first step, in radians.
@@ -68,6 +71,7 @@ impl Choices {
             }
             "tilts-x" => put(&mut self.tilts[0], tilts(&value()?)?),
             "tilts-y" => put(&mut self.tilts[1], tilts(&value()?)?),
+            "one-axis" => put(&mut self.one_axis, ()),
             "bound" => put(&mut self.bound, above_0(angle::parse(&value()?)?)?),
             "step" => put(&mut self.step, above_0(angle::parse(&value()?)?)?),
             "rounds" => put(&mut self.rounds, rounds(&value()?)?),
@@ -130,6 +134,7 @@ impl Choices {
             guess_centre: self.guess_centre.or(other.guess_centre),
             centre_within: self.centre_within.or(other.centre_within),
             tilts: [x.or(other_x), y.or(other_y)],
+            one_axis: self.one_axis.or(other.one_axis),
             bound: self.bound.or(other.bound),
             step: self.step.or(other.step),
             rounds: self.rounds.or(other.rounds),
@@ -140,10 +145,31 @@ impl Choices {
         }
     }
 
-    /// The search's options: by default the usual grid, and six rounds, which narrow it to 0.04°.
+    /// Whether the choices go together.
+    ///
+    /// # Errors
+    ///
+    /// Names those that don't, and what to do.
+    pub fn check(&self) -> Result<(), String> {
+        let typed = self.tilts[1].as_ref().filter(|typed| **typed != [0.0]);
+        match (self.one_axis, typed) {
+            (Some(()), Some(_)) => Err(
+                "one-axis holds tilt y at 0, and tilts-y has other tilts. Leave one of the two out"
+                    .into(),
+            ),
+            _ => Ok(()),
+        }
+    }
+
+    /// The search's options: by default the usual grid, and six rounds, which narrow it to 0.04°. On one axis the y list
+    /// is 0 alone.
     #[must_use]
     pub fn options(&self) -> Options {
         let mut options = Options::default();
+        options.one_axis = self.one_axis.is_some();
+        if options.one_axis {
+            options.tilt_y_seeds = vec![0.0];
+        }
         let [x, y] = self.tilts.clone();
         options.tilt_x_seeds = x.unwrap_or(options.tilt_x_seeds);
         options.tilt_y_seeds = y.unwrap_or(options.tilt_y_seeds);
@@ -202,11 +228,15 @@ fn tilts(text: &str) -> Result<Vec<f64>, String> {
 /// # Errors
 ///
 /// Names the line, what was read and what is expected.
-pub fn parse_seeds(text: &str, base: FxFyCxCy, bound: f64) -> Result<Vec<(Source, Seed)>, String> {
+pub fn parse_seeds(
+    text: &str,
+    base: FxFyCxCy,
+    options: &Options,
+) -> Result<Vec<(Source, Seed)>, String> {
     let lines =
         text.lines().enumerate().map(|(i, line)| (i, line.split('#').next().unwrap_or("").trim()));
     let seeds = lines.filter(|(_, line)| !line.is_empty()).map(|(i, line)| {
-        let seed = seed(line, base, bound)
+        let seed = seed(line, base, options)
             .map_err(|fault| format!("line {}: read `{line}`; {fault}", i + 1))?;
         Ok((Source::SeedFile, seed))
     });
@@ -218,7 +248,7 @@ pub fn parse_seeds(text: &str, base: FxFyCxCy, bound: f64) -> Result<Vec<(Source
     }
 }
 
-fn seed(line: &str, base: FxFyCxCy, bound: f64) -> Result<Seed, String> {
+fn seed(line: &str, base: FxFyCxCy, options: &Options) -> Result<Seed, String> {
     let words: Vec<&str> = line.split_whitespace().collect();
     let (k, x, y) = match words[..] {
         [x, y] => (base, x, y),
@@ -239,6 +269,10 @@ fn seed(line: &str, base: FxFyCxCy, bound: f64) -> Result<Seed, String> {
         }
     };
     let [tilt_x, tilt_y] = [angle::parse(x)?, angle::parse(y)?];
+    if options.one_axis && tilt_y != 0.0 {
+        return Err("one-axis holds tilt y at 0. Write 0 as the second tilt".into());
+    }
+    let bound = options.max_abs_tilt;
     if tilt_x.abs() > bound || tilt_y.abs() > bound {
         return Err(format!(
             "a tilt is beyond the bound, {}°. Leave the seed out, or raise --bound",
@@ -284,8 +318,9 @@ mod tests {
     #[test]
     fn seeds_are_read_with_their_faults() {
         let base = FxFyCxCy { fx: 1.0, fy: 1.0, cx: 0.0, cy: 0.0 };
+        let mut options = Options::default();
         let seeds =
-            parse_seeds("-1deg 0 # one\n900 900 640 480 0.01rad 2deg\n", base, 0.3).unwrap();
+            parse_seeds("-1deg 0 # one\n900 900 640 480 0.01rad 2deg\n", base, &options).unwrap();
         assert_eq!(seeds[0].1.reference_k, base);
         assert_eq!(seeds[1].1.numbers()[..5], [900.0, 900.0, 640.0, 480.0, 0.01]);
         for (text, fault) in [
@@ -295,8 +330,23 @@ mod tests {
             ("0 900 640 480 0 0", "it isn't above 0"),
             ("# none", "no seed in it"),
         ] {
-            let told = parse_seeds(text, base, 0.3).unwrap_err();
+            let told = parse_seeds(text, base, &options).unwrap_err();
             assert!(told.contains(fault), "{told}");
         }
+        options.one_axis = true;
+        assert_eq!(parse_seeds("-1deg -0", base, &options).map(|seeds| seeds.len()), Ok(1));
+        let told = parse_seeds("0 0\n-1deg 0.1deg", base, &options).unwrap_err();
+        assert!(told.contains("line 2: read `-1deg 0.1deg`; one-axis holds tilt y at 0"), "{told}");
+    }
+
+    #[test]
+    fn one_axis_has_a_y_list_of_its_own() {
+        let choices = |text: &str| Choices::parse(text).unwrap();
+        assert_eq!(choices("one-axis").options().tilt_y_seeds, [0.0]);
+        assert!(choices("one-axis\ntilts-x 1deg").options().one_axis);
+        assert_eq!(choices("one-axis\ntilts-y 0").check(), Ok(()));
+        assert_eq!(choices("tilts-y 0, 1deg").check(), Ok(()));
+        let told = choices("one-axis").or(choices("tilts-y 0, 1deg")).check().unwrap_err();
+        assert!(told.contains("Leave one of the two out"), "{told}");
     }
 }

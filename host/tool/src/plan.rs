@@ -12,6 +12,8 @@ const NEAR: f64 = 1e-12;
 pub struct Axis {
     /// `x` or `y`.
     pub name: &'static str,
+    /// Whether it is held at 0.
+    pub is_held: bool,
     /// The typed tilts that are tried, in order of size.
     pub kept: Vec<f64>,
     /// Those beyond the bound.
@@ -43,11 +45,10 @@ impl Plan {
             let from = if *source == Source::SeedFile { "the file's" } else { "by decomposition" };
             format!("{from} {}° {}°", degrees(seed.sensor.tilt_x), degrees(seed.sensor.tilt_y))
         });
+        let x = Axis::new("x", &options.tilt_x_seeds, &tilts(|seed| seed.sensor.tilt_x), options);
+        let y = Axis::new("y", &options.tilt_y_seeds, &tilts(|seed| seed.sensor.tilt_y), options);
         Self {
-            axes: [
-                Axis::new("x", &options.tilt_x_seeds, &tilts(|seed| seed.sensor.tilt_x), options),
-                Axis::new("y", &options.tilt_y_seeds, &tilts(|seed| seed.sensor.tilt_y), options),
-            ],
+            axes: [x, if options.one_axis { Axis::held("y") } else { y }],
             seeds: words.collect(),
             options: options.clone(),
         }
@@ -64,10 +65,11 @@ impl Plan {
             0 => "  rounds        none after the grid".into(),
             _ => format!(
                 "  rounds        {rounds} after the grid, steps from {}° down to {}°; they reach {}° from a seed \
-                 in each tilt",
+                 in {}",
                 degrees(self.options.refine_step),
                 degrees(last_step(&self.options)),
-                degrees(reach(&self.options))
+                degrees(reach(&self.options)),
+                if self.options.one_axis { "tilt x" } else { "each tilt" }
             ),
         });
         lines.push("what can be missed".into());
@@ -82,13 +84,14 @@ impl Plan {
     }
 
     /// How near a winner is to the best tilt by the steps alone, for x and y, in radians: the last step, or without
-    /// rounds the largest gap of the list.
+    /// rounds the largest gap of the list; 0 for one that is held.
     #[must_use]
     pub fn steps(&self) -> [f64; 2] {
-        if self.options.refine_rounds > 0 {
-            return [last_step(&self.options); 2];
-        }
-        [0, 1].map(|i| self.axes[i].largest_gap().map_or(0.0, |[a, b]| b - a))
+        [0, 1].map(|i| match &self.axes[i] {
+            axis if axis.is_held => 0.0,
+            _ if self.options.refine_rounds > 0 => last_step(&self.options),
+            axis => axis.largest_gap().map_or(0.0, |[a, b]| b - a),
+        })
     }
 }
 
@@ -113,7 +116,12 @@ impl Axis {
         let within =
             |tilt: Option<&f64>, by: f64| tilt.map_or(0.0, |tilt| (tilt + by).clamp(-bound, bound));
         let ends = [within(starts.first(), -reach), within(starts.last(), reach)];
-        Self { name, kept, dropped, merged, holes, ends }
+        Self { name, is_held: false, kept, dropped, merged, holes, ends }
+    }
+
+    fn held(name: &'static str) -> Self {
+        let (dropped, merged, holes) = (vec![], vec![], vec![]);
+        Self { name, is_held: true, kept: vec![0.0], dropped, merged, holes, ends: [0.0; 2] }
     }
 
     fn largest_gap(&self) -> Option<[f64; 2]> {
@@ -123,6 +131,9 @@ impl Axis {
 
     fn tried_lines(&self) -> Vec<String> {
         let name = self.name;
+        if self.is_held {
+            return vec![format!("  tilt {name}        held at 0: one axis")];
+        }
         let list = |tilts: &[f64]| {
             tilts.iter().map(|tilt| format!("{}°", degrees(*tilt))).collect::<Vec<_>>().join(", ")
         };
@@ -141,6 +152,9 @@ impl Axis {
 
     fn missed_lines(&self, rounds: usize) -> Vec<String> {
         let name = self.name;
+        if self.is_held {
+            return vec![format!("  tilt {name}        every lean about {name}: it is held at 0")];
+        }
         let mut lines = vec![];
         if let Some([a, b]) = self.largest_gap() {
             lines.push(format!(
@@ -173,13 +187,17 @@ impl Axis {
 mod tests {
     use super::*;
 
-    fn plan(x: &[f64], y: &[f64], rounds: usize) -> Plan {
+    fn options(x: &[f64], y: &[f64], rounds: usize) -> Options {
         let mut options = Options::default();
         let radians = |degrees: &[f64]| degrees.iter().map(|d: &f64| d.to_radians()).collect();
         (options.tilt_x_seeds, options.tilt_y_seeds) = (radians(x), radians(y));
         (options.refine_rounds, options.refine_step) = (rounds, 1f64.to_radians());
         options.max_abs_tilt = 15f64.to_radians();
-        Plan::new(&options, &[])
+        options
+    }
+
+    fn plan(x: &[f64], y: &[f64], rounds: usize) -> Plan {
+        Plan::new(&options(x, y, rounds), &[])
     }
 
     #[test]
@@ -215,5 +233,20 @@ mod tests {
         let plan = plan(&[-2.0, 0.0, 3.0], &[0.0], 0);
         assert!((plan.steps()[0].to_degrees() - 3.0).abs() < 1e-12 && plan.steps()[1] == 0.0);
         assert!(plan.text().contains("none after the grid") && !plan.text().contains("HOLE"));
+    }
+
+    #[test]
+    fn one_axis_holds_the_other() {
+        for rounds in [0, 3] {
+            let mut options = options(&[-2.0, 0.0, 3.0], &[0.0], rounds);
+            options.one_axis = true;
+            let plan = Plan::new(&options, &[]);
+            let text = plan.text();
+            assert!(text.contains("  tilt y        held at 0: one axis\n"), "{text}");
+            assert!(text.contains("  tilt y        every lean about y: it is held at 0"), "{text}");
+            assert!(!text.contains("tilt y        nothing below"), "{text}");
+            assert_eq!(text.contains("they reach 1.750° from a seed in tilt x\n"), rounds > 0);
+            assert!(plan.steps()[0] > 0.0 && plan.steps()[1] == 0.0);
+        }
     }
 }

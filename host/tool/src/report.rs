@@ -2,7 +2,7 @@
 
 use crate::angle::degrees;
 use crate::drive::{Finished, Tried};
-use crate::open::Open;
+use crate::open::{Held, Open};
 use crate::residuals::Fit;
 use crate::table::source_text;
 use crate::verdict::Point;
@@ -27,7 +27,8 @@ pub fn winner(finished: &Finished, winner: &Winner, one: &Tried, fit: &Fit, open
             source_text(one.source)
         ),
         format!("tilt x          {}", tilt(sensor.tilt_x, total[0])),
-        format!("tilt y          {}", tilt(sensor.tilt_y, total[1])),
+        open.held
+            .map_or_else(|| format!("tilt y          {}", tilt(sensor.tilt_y, total[1])), held),
         left_open(open),
         format!("focal lengths   {:.3} px  {:.3} px", k.fx, k.fy),
         format!("centre          {:.3} px  {:.3} px  (held)", k.cx, k.cy),
@@ -41,8 +42,19 @@ pub fn winner(finished: &Finished, winner: &Winner, one: &Tried, fit: &Fit, open
     lines.join("\n")
 }
 
+/// A tilt y that is held at 0, beside what the views want.
+fn held(held: Held) -> String {
+    let wanted = held.wanted.map_or(String::new(), |[tilt, open]| {
+        format!("; let free, it would be {:+.4}° ± {}°", tilt.to_degrees(), degrees(open))
+    });
+    format!("tilt y          0° (held: one axis{wanted})")
+}
+
 fn left_open(open: &Open) -> String {
-    let both = |[x, y]: [f64; 2]| format!("±{}° x, ±{}° y", degrees(x), degrees(y));
+    let both = |[x, y]: [f64; 2]| match open.held {
+        None => format!("±{}° x, ±{}° y", degrees(x), degrees(y)),
+        Some(_) => format!("±{}° x", degrees(x)),
+    };
     let noise = open.noise.map_or("not determined".into(), both);
     let centre = open.by_centre().map_or(
         "not known: give the centre's tolerance with --centre-within PX".into(),
@@ -51,11 +63,15 @@ fn left_open(open: &Open) -> String {
         },
     );
     let [x, y] = open.per_pixel.map(degrees);
+    let of_y = match open.held {
+        None => format!(", 1 px of its x moves tilt y by {y}°"),
+        Some(_) => String::new(),
+    };
     [
         format!("  by the steps  {}", both(open.steps)),
         format!("  by noise      {noise} (two standard deviations)"),
         format!("  by the centre {centre}"),
-        format!("                1 px of the centre's y moves tilt x by {x}°, 1 px of its x moves tilt y by {y}°"),
+        format!("                1 px of the centre's y moves tilt x by {x}°{of_y}"),
     ]
     .join("\n")
 }

@@ -96,9 +96,19 @@ impl Host {
     /// The tilts that explain why a camera with a free centre isn't centred where it should be; nothing where no
     /// camera is found. They may lie beyond any bound.
     pub fn decomposition(&self) -> Option<Seed> {
+        self.explained(|seen| ((seen.cx - self.held[0]) / seen.fx).atan())
+    }
+
+    /// The same with tilt y held at 0: the tilt about x explains the centre's y alone.
+    pub fn decomposition_on_one_axis(&self) -> Option<Seed> {
+        self.explained(|_| 0.0)
+    }
+
+    /// A tilt y of a camera with a free centre, and the tilt x that goes with it.
+    fn explained(&self, tilt_y: impl Fn(&FxFyCxCy) -> f64) -> Option<Seed> {
         let seen = camera(&self.homographies, self.frame())?;
         let [cx, cy] = self.held;
-        let tilt_y = ((seen.cx - cx) / seen.fx).atan();
+        let tilt_y = tilt_y(&seen);
         let tilt_x = ((cy - seen.cy) / seen.fy * tilt_y.cos()).atan();
         let shortening = tilt_x.cos() * tilt_y.cos();
         let seed = Seed {

@@ -6,6 +6,9 @@ use jinnychair::{BrownConrady5, FxFyCxCy, Outcome, PinholeCamera, Seed, SkipReas
 /// How a table begins.
 pub const HEAD: &str = "# Every tilt that a search of jinnychair tried.";
 
+/// What a table says of its axes where tilt y was held.
+pub const ONE_AXIS: &str = "x alone; tilt y is held at 0";
+
 /// The names of the fields, with their units.
 pub const FIELDS: &str = "number,round,source,tilt_x_deg,tilt_y_deg,outcome,score,mean_px,rms_px,counted_rows,rows,\
                           fx_px,fy_px,cx_px,cy_px,p1,p2,tilt_x_rad,tilt_y_rad,\
@@ -39,6 +42,12 @@ impl Record {
     #[must_use]
     pub fn about(&self, name: &str) -> Option<&str> {
         self.all_about(name).next()
+    }
+
+    /// Whether tilt y was held at 0.
+    #[must_use]
+    pub fn is_one_axis(&self) -> bool {
+        self.about("axes") == Some(ONE_AXIS)
     }
 
     /// All texts of a name.

@@ -299,7 +299,8 @@ pub fn of_centre(
 pub fn of_limits(winner: &Winner, open: &Open, limits: Limits) -> Vec<Point> {
     let mut points = vec![];
     let total = open.total();
-    for i in 0..2 {
+    let axes = if open.held.is_some() { 0..1 } else { 0..2 };
+    for i in axes {
         let (axis, tilt) = (["x", "y"][i], tilts(winner.sensor)[i]);
         if let Some(limit) = limits.tilt.filter(|limit| tilt.abs() + total[i] > *limit) {
             let (tilt, open, limit) = (degrees(tilt), degrees(total[i]), degrees(limit));
@@ -317,14 +318,36 @@ pub fn of_limits(winner: &Winner, open: &Open, limits: Limits) -> Vec<Point> {
     }
     let noise = open.noise.map(|noise| noise.map(f64::to_degrees));
     if noise.is_none_or(|noise| noise.iter().any(|open| *open > MOST_OPEN)) {
-        let by = noise.map_or("any amount".into(), |[x, y]| format!("±{x:.2}° and ±{y:.2}°"));
-        let what = format!("noise in the pixels leaves the tilts open by {by}");
+        let by = noise.map_or("any amount".into(), |[x, y]| match open.held {
+            None => format!("±{x:.2}° and ±{y:.2}°"),
+            Some(_) => format!("±{x:.2}°"),
+        });
+        let tilts = if open.held.is_some() { "tilt x" } else { "the tilts" };
+        let what = format!("noise in the pixels leaves {tilts} open by {by}");
         points.push(point(
             what,
             "Take more views, with the plate turned by 20° to 40°, about both axes.",
         ));
     }
     points
+}
+
+/// A tilt y that is held at 0 while the views want another: by more than the steps, twice the noise and the centre's
+/// tolerance explain.
+#[must_use]
+pub fn of_held(open: &Open) -> Option<Point> {
+    let [wanted, noise] = open.held?.wanted?;
+    let by_centre = open.by_centre().unwrap_or_default()[1];
+    (wanted.abs() > open.steps[0] + 2.0 * noise + by_centre).then(|| {
+        let what = format!(
+            "tilt y is held at 0, and the views want {}° ± {}°: the sensor leans about y too, or the centre's x is off by \
+             {:.1} px",
+            degrees(wanted),
+            degrees(noise),
+            wanted.abs() / open.per_pixel[1]
+        );
+        point(what, "Search without --one-axis; or check the centre, and state its tolerance with --centre-within PX.")
+    })
 }
 
 /// Holes in the lab's own lists.

@@ -66,37 +66,79 @@ fn finished(rounds: usize) -> Finished {
     search(&options(rounds), moody)
 }
 
+/// The same on one axis: tilts about x of 0.04 and 0.08 have the outcomes of tilts about y.
+fn on_one_axis(rounds: usize) -> (Finished, Record) {
+    let mut options = options(rounds);
+    (options.one_axis, options.tilt_y_seeds) = (true, vec![0.0]);
+    let finished = search(&options, |seed| {
+        let tilt_x = seed.sensor.tilt_x;
+        let outcomes_of = [(0.04, -0.04), (0.08, 0.04)];
+        let tilt_y = outcomes_of.iter().find(|(x, _)| *x == tilt_x).map_or(0.0, |(_, y)| *y);
+        moody(&Seed { sensor: ScheimpflugParams { tilt_x, tilt_y }, ..*seed })
+    });
+    let mut record = record(&finished);
+    record.add("axes", table::ONE_AXIS);
+    (finished, record)
+}
+
+/// Every tried tilt is in the chart and tells its number, the skipped ones are counted, and the picture is well formed.
+fn assert_drawn(svg: &str, finished: &Finished) {
+    for (_, letter, words) in table::SKIPS {
+        let skipped = finished.tried.iter().filter(|t| table::letter(&t.outcome) == *letter);
+        let count = skipped.count();
+        assert!(count > 0, "{words}");
+        assert!(svg.contains(&format!("{words}: {count}<")), "{words}");
+    }
+    assert!(svg.contains(&format!("{} tilts tried", finished.tried.len())));
+    assert!(!svg.contains("NaN") && !svg.contains("inf"), "a coordinate isn't a number");
+    for element in ["svg", "g", "title", "text"] {
+        let begun = [' ', '>'].map(|next| svg.matches(&format!("<{element}{next}")).count());
+        let ended = svg.matches(&format!("</{element}>")).count();
+        assert_eq!(begun[0] + begun[1], ended, "{element}");
+    }
+    for one in &finished.tried {
+        assert!(svg.contains(&format!("<title>no. {}, round {} (", one.number, one.round)));
+    }
+    assert!(svg.contains("a&lt;b&gt;&amp; # verdict: good, 3 views"));
+    assert!(svg.contains("Verdict: doubtful: one point"));
+    assert_eq!(best(&finished.tried).unwrap().number, finished.winner.unwrap().number);
+}
+
+fn write_picture(name: &str, svg: &str) {
+    std::fs::write(format!("{}/{name}.svg", env!("CARGO_TARGET_TMPDIR")), svg).unwrap();
+}
+
 #[test]
 fn chart_shows_every_tilt_and_counts_the_skipped() {
     for rounds in [0, 3, 16] {
         let finished = finished(rounds);
         let svg = chart(&record(&finished));
-        std::fs::write(format!("{}/moody-{rounds}.svg", env!("CARGO_TARGET_TMPDIR")), &svg)
-            .unwrap();
-        for (_, letter, words) in table::SKIPS {
-            let skipped = finished.tried.iter().filter(|t| table::letter(&t.outcome) == *letter);
-            let count = skipped.count();
-            assert!(count > 0);
-            assert!(svg.contains(&format!("{words}: {count}<")), "{words}");
-        }
-        assert!(svg.contains(&format!("{} tilts tried", finished.tried.len())));
-        assert!(!svg.contains("NaN") && !svg.contains("inf"), "a coordinate isn't a number");
-        for element in ["svg", "g", "title", "text"] {
-            let begun = [' ', '>'].map(|next| svg.matches(&format!("<{element}{next}")).count());
-            assert_eq!(
-                begun[0] + begun[1],
-                svg.matches(&format!("</{element}>")).count(),
-                "{element}"
-            );
-        }
-        // Every tried tilt tells its number when it is pointed at, in the whole search at least.
-        for one in &finished.tried {
-            assert!(svg.contains(&format!("<title>no. {}, round {} (", one.number, one.round)));
-        }
-        assert!(svg.contains("a&lt;b&gt;&amp; # verdict: good, 3 views"));
-        assert!(svg.contains("Verdict: doubtful: one point") && svg.contains("Score along tilt x"));
-        assert_eq!(best(&finished.tried).unwrap().number, finished.winner.unwrap().number);
+        write_picture(&format!("moody-{rounds}"), &svg);
+        assert_drawn(&svg, &finished);
+        assert!(svg.contains("Score along tilt x") && svg.contains(">tilt y"));
     }
+}
+
+#[test]
+fn chart_of_one_axis_is_the_score_over_tilt_x() {
+    for rounds in [0, 3, 16] {
+        let (finished, record) = on_one_axis(rounds);
+        let svg = chart(&record);
+        write_picture(&format!("one-axis-{rounds}"), &svg);
+        assert_drawn(&svg, &finished);
+        assert!(svg.contains("tilt y held at 0") && svg.contains(">tilt x (degrees)<"));
+        assert!(!svg.contains(">tilt y") && !svg.contains("Score along"));
+        assert_eq!(svg.contains("Part A"), rounds > 0);
+        let read = Record::parse(&record.table()).unwrap();
+        assert!(read.is_one_axis() && chart(&read) == svg);
+    }
+    // Nothing scored, and nothing tried.
+    let mut empty = Record::default();
+    empty.add("axes", table::ONE_AXIS);
+    assert!(chart(&empty).contains("No winner."));
+    empty.tried = search(&options(1), |_| None).tried;
+    let svg = chart(&empty);
+    assert!(svg.contains("the host found no camera: 45<") && !svg.contains("NaN"));
 }
 
 #[test]

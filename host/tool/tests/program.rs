@@ -1,6 +1,7 @@
 //! The program as a user meets it: its words, its exit codes, and what is in its files.
 #![allow(missing_docs)]
 
+use jinnychair::ScheimpflugParams;
 use std::ffi::{OsStr, OsString};
 use std::fs::{self, File};
 use std::os::unix::ffi::OsStringExt;
@@ -91,6 +92,11 @@ fn words_are_explained_and_wrong_ones_end_with_2() {
         (&["search", "--step=-1deg"], "--step: it isn't above 0"),
         (&["search", "--no-decomposition=1"], "--no-decomposition takes no value"),
         (&["search", "--bound=1deg", "--bound=1deg"], "--bound: it is stated twice"),
+        (&["search", "--one-axis=x"], "--one-axis takes no value"),
+        (
+            &["search", "--one-axis", "--tilts-y=0,1deg"],
+            "one-axis holds tilt y at 0, and tilts-y has other",
+        ),
         (&["search", "--out=a", "--out=b"], "--out: it is stated twice"),
         (&["chart"], "no table is named"),
         (&["chart", "a", "--bound"], "what is `--bound`?"),
@@ -375,6 +381,55 @@ fn a_winner_at_half_a_radian_is_doubtful() {
     assert_said(&here, &words, 3, &["tilt x          +28.6479°", noise]);
 }
 
+/// A plate that is seen by a sensor that leans about x alone.
+fn hinged(noise: f64) -> Plate {
+    let sensor = ScheimpflugParams { tilt_x: (-1.2f64).to_radians(), tilt_y: 0.0 };
+    Truth { sensor, noise, ..BUILT_IN }.plate()
+}
+
+#[test]
+fn a_module_with_a_hinge_is_searched_on_one_axis() {
+    let here = folder("one-axis");
+    fs::write(here.join("views.txt"), hinged(BUILT_IN.noise).text()).unwrap();
+    let words = ["search", "views.txt", "--one-axis", "--centre-within=2", "--max-tilt=1.5deg"];
+    let expected = [
+        "  tilt y        held at 0: one axis\n",
+        "  tilt y        every lean about y: it is held at 0\n",
+        "they reach 2.256° from a seed in tilt x\n",
+        "\ntilt x          -1.1",
+        "\ntilt y          0° (held: one axis; let free, it would be ",
+        "° x for a centre within 2 px\n",
+        "moves tilt x by 0.041°\n",
+        "verdict         good",
+    ];
+    assert_said(&here, &words, 0, &expected);
+    let table = file(here.join("tilts.csv"));
+    assert!(table.contains("\n# axes: x alone; tilt y is held at 0\n"), "{table}");
+    let tilt_y = |line: &str| line.split(',').nth(4).map(str::to_owned);
+    let tilts: Vec<_> = table.lines().skip_while(|l| l.starts_with('#')).skip(1).collect();
+    // The grid's nine and the decomposition's, then three a round.
+    assert_eq!(tilts.len(), 10 + 6 * 3);
+    assert!(tilts.iter().all(|line| tilt_y(line).as_deref() == Some("0.000000")), "{table}");
+    let drawn = file(here.join("tilts.svg"));
+    assert!(drawn.contains("tilt y held at 0") && !drawn.contains("Score along tilt y"));
+    said(&here, &["chart", "tilts.csv", "--out=again.svg"], 0);
+    assert!(file(here.join("again.svg")) == drawn, "the chart differs");
+}
+
+#[test]
+fn a_lean_about_the_held_axis_is_told() {
+    // The built-in plate leans about y by -0.4°, as if its centre were 10 px to the left.
+    let wanted = "tilt y is held at 0, and the views want -0.40";
+    let words = ["--one-axis", "--tilts-x=-2deg,-1deg,0", "--rounds=5", "--step=0.5deg"];
+    let here = folder("held");
+    let words = [&["search"], &words[..]].concat();
+    assert_said(&here, &words, 3, &[wanted, "or the centre's x is off by 10.0 px"]);
+    assert!(file(here.join("tilts.svg")).contains(wanted));
+    fs::write(here.join("seeds.txt"), "-1deg 0\n-1deg -0.4deg\n").unwrap();
+    let fault = "seeds.txt: line 2: read `-1deg -0.4deg`; one-axis holds tilt y at 0. Write 0";
+    assert_said(&here, &["search", "--one-axis", "--seeds=seeds.txt"], 1, &[fault]);
+}
+
 #[test]
 fn limits_of_service_decide() {
     let here = folder("limits");
@@ -587,5 +642,9 @@ fn without_noise_and_with_little_of_it_a_good_plate_is_good() {
         let truth = Truth { noise, ..BUILT_IN };
         fs::write(here.join("views.txt"), truth.plate().text()).unwrap();
         said(&here, &small(&["views.txt"]), 0);
+        fs::write(here.join("hinged.txt"), hinged(noise).text()).unwrap();
+        let one_axis = ["search", "hinged.txt", "--one-axis", "--tilts-x=-2deg,-1deg,0"];
+        said(&here, &one_axis, 0);
+        said(&here, &[&one_axis[..], &["--no-decomposition"]].concat(), 0);
     }
 }

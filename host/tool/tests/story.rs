@@ -8,6 +8,7 @@ use jinnychair::{
 };
 use tool::drive::{last_step, run};
 use tool::open::Open;
+use tool::plan::Plan;
 use tool::solve::Host;
 use tool::synthetic::{BUILT_IN, Truth};
 
@@ -86,6 +87,19 @@ fn example_host_finds_small_negative_tilts_from_the_grid_alone() {
 }
 
 #[test]
+fn one_axis_finds_small_negative_tilts() {
+    let mut options = options(8);
+    (options.one_axis, options.tilt_y_seeds) = (true, vec![0.0]);
+    for planted in PLANTED.map(about_x) {
+        let host = Host::new(Truth { sensor: planted, noise: 0.0, ..BUILT_IN }.plate()).unwrap();
+        assert_found(&search_with(&host, &options, &[]), planted, &options);
+        let seed = host.decomposition_on_one_axis().unwrap();
+        assert!((seed.sensor.tilt_x - planted.tilt_x).abs() < 1e-9 && seed.sensor.tilt_y == 0.0);
+        assert_found(&search_with(&host, &options, &[seed]), planted, &options);
+    }
+}
+
+#[test]
 fn example_host_finds_small_negative_tilts_in_noise() {
     // The last step is 0.07°: noise of 0.1 pixels leaves the tilt open by some hundredths of a degree.
     let options = options(5);
@@ -115,7 +129,8 @@ fn a_centre_that_is_off_moves_the_tilts_as_told() {
         let host = Host::new(plate).unwrap();
         let winner = search_with(&host, &options(6), &[host.decomposition().unwrap()]);
         let seed = Seed { reference_k: winner.camera.k, sensor: winner.sensor };
-        (winner.sensor, Open::new(&host, &winner, &seed, [0.0; 2], Some(10.0)).by_centre().unwrap())
+        let open = Open::new(&host, &winner, &seed, &Plan::new(&options(6), &[]), Some(10.0));
+        (winner.sensor, open.by_centre().unwrap())
     };
     let [cx, cy] = [truth.k.cx, truth.k.cy];
     let (here, told) = found([cx, cy]);
@@ -139,7 +154,8 @@ fn noise_leaves_the_tilts_open_as_told() {
         let host = Host::new(Truth { noise: 0.3, ..BUILT_IN }.plate_held(&held)).unwrap();
         let winner = search_with(&host, &options(6), &[]);
         let seed = Seed { reference_k: winner.camera.k, sensor: winner.sensor };
-        let [x, y] = Open::new(&host, &winner, &seed, [0.0; 2], None).noise.unwrap();
+        let plan = Plan::new(&options(6), &[]);
+        let [x, y] = Open::new(&host, &winner, &seed, &plan, None).noise.unwrap();
         told += 0.5 * (x + y) / PLATES as f64;
         let [x, y] = [
             winner.sensor.tilt_x - BUILT_IN.sensor.tilt_x,

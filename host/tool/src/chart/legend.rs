@@ -12,6 +12,7 @@ const ROW: f64 = 22.0;
 pub struct Legend<'a> {
     pub tried: &'a [Tried],
     pub bound: Option<f64>,
+    pub one_axis: bool,
     pub left: f64,
     pub top: f64,
 }
@@ -22,6 +23,9 @@ impl Legend<'_> {
         let y = self.rounds(svg, self.top - 10.0);
         let y = self.reasons(svg, y + 12.0);
         let y = self.marks(svg, y + 14.0);
+        if self.one_axis {
+            return y;
+        }
         let part = (1.0 / BESIDE).round();
         let text = format!("Score along a tilt: beside the line by at most 1/{part}");
         svg.text([self.left, y], "start", 11.0, INK, &text);
@@ -34,7 +38,8 @@ impl Legend<'_> {
     }
 
     fn rounds(&self, svg: &mut Svg, y: f64) -> f64 {
-        svg.text([self.left, y], "start", 13.0, INK, "Round (colours: score within each part)");
+        let colours = if self.one_axis { "" } else { " (colours: score within each part)" };
+        svg.text([self.left, y], "start", 13.0, INK, &format!("Round{colours}"));
         let last = last_round(self.tried);
         for round in 0..=last {
             let x = self.left + 8.0 + 35.0 * (round % SHAPES) as f64;
@@ -71,7 +76,11 @@ impl Legend<'_> {
         }
         if let Some(bound) = self.bound {
             let style = format!(r#"fill="none" stroke="{INK}" stroke-dasharray="7 4""#);
-            svg.rectangle([self.left, y - 9.0], [28.0, 18.0], &style);
+            if self.one_axis {
+                svg.line([self.left + 14.0, y - 11.0], [self.left + 14.0, y + 11.0], &style);
+            } else {
+                svg.rectangle([self.left, y - 9.0], [28.0, 18.0], &style);
+            }
             self.text(svg, y, &format!("the bound, ±{}°", trimmed(bound)));
             y += 28.0;
         }

@@ -20,7 +20,7 @@ const COLOURS: [[f64; 3]; 5] =
 /// A part of the plane of tilts, in degrees, and where it is drawn.
 #[derive(Clone, Copy, Debug)]
 pub struct Part {
-    name: &'static str,
+    pub name: &'static str,
     corner: [f64; 2],
     pub centre: [f64; 2],
     pub half: [f64; 2],
@@ -229,13 +229,13 @@ impl Part {
 }
 
 /// The ticks of an axis, in degrees, and what its name ends with.
-struct Ticks {
-    all: Vec<(f64, String)>,
-    unit: String,
+pub struct Ticks {
+    pub all: Vec<(f64, String)>,
+    pub unit: String,
 }
 
 impl Ticks {
-    fn new(centre: f64, half: f64) -> Self {
+    pub fn new(centre: f64, half: f64) -> Self {
         if half >= FINE {
             let (values, digits) = ticks(centre - half, centre + half, tick_step(2.0 * half, 7.0));
             let all = values.into_iter().map(|tick| (tick, signed(tick, digits))).collect();

@@ -54,6 +54,7 @@ impl Asked {
             let fault = |fault: String| format!("{}: {fault}", path.display());
             asked.choices = asked.choices.or(Choices::parse(&read(path)?).map_err(fault)?);
         }
+        asked.choices.check().map_err(Fault::Usage)?;
         Ok(asked)
     }
 
@@ -159,7 +160,7 @@ impl Case {
         };
         let base = host.base().ok_or_else(nothing)?;
         let options = choices.options();
-        let seeds = seeds(&host, &choices, base, options.max_abs_tilt, screen)?;
+        let seeds = seeds(&host, &choices, base, &options, screen)?;
         let plan = Plan::new(&options, &seeds);
         Ok(Self { input, host, is_guessed, base, choices, options, seeds, plan })
     }
@@ -220,8 +221,7 @@ impl Case {
             .host
             .fit(&one.seed)
             .ok_or("the winner's camera can't be solved for again".to_owned())?;
-        let open =
-            Open::new(&self.host, winner, &one.seed, self.plan.steps(), self.choices.centre_within);
+        let open = Open::new(&self.host, winner, &one.seed, &self.plan, self.choices.centre_within);
         let noise = open.noise.unwrap_or_default();
         let apart = [0, 1].map(|i| (4.0 * open.steps[i]).max(2.0 * noise[i]));
         let [middle, half] = self.host.seen();
@@ -229,6 +229,7 @@ impl Case {
             verdict::of_centre(self.host.held_centre(), self.is_guessed, middle, half),
             verdict::of_plan(&self.plan, &self.options),
             verdict::of_search(finished, winner, &self.options, apart),
+            verdict::of_held(&open).into_iter().collect(),
             verdict::of_fit(&self.host, &fit),
             verdict::of_limits(winner, &open, self.choices.limits()),
         ];
@@ -249,25 +250,29 @@ impl Case {
             ),
         );
         record.add("centre", &centre_text(&self.host, self.is_guessed));
+        if self.options.one_axis {
+            record.add("axes", table::ONE_AXIS);
+        }
+        record.add("bound_rad", &self.options.max_abs_tilt.to_string());
+        record.add("options", &self.options_text());
+        record
+    }
+
+    fn options_text(&self) -> String {
         let options = &self.options;
-        record.add("bound_rad", &options.max_abs_tilt.to_string());
         let list =
             |tilts: &[f64]| tilts.iter().map(|tilt| degrees(*tilt)).collect::<Vec<_>>().join(" ");
         let own = self.seeds.iter().filter(|(source, _)| *source == Source::SeedFile).count();
-        record.add(
-            "options",
-            &format!(
-                "tilts x {}; tilts y {}; bound {}; step {} (degrees); rounds {}; {}{}",
-                list(&options.tilt_x_seeds),
-                list(&options.tilt_y_seeds),
-                degrees(options.max_abs_tilt),
-                degrees(options.refine_step),
-                options.refine_rounds,
-                if self.seeds.len() > own { "decomposition seed" } else { "no decomposition seed" },
-                if own > 0 { format!("; {own} seeds of a file") } else { String::new() }
-            ),
-        );
-        record
+        format!(
+            "tilts x {}; tilts y {}; bound {}; step {} (degrees); rounds {}; {}{}",
+            list(&options.tilt_x_seeds),
+            list(&options.tilt_y_seeds),
+            degrees(options.max_abs_tilt),
+            degrees(options.refine_step),
+            options.refine_rounds,
+            if self.seeds.len() > own { "decomposition seed" } else { "no decomposition seed" },
+            if own > 0 { format!("; {own} seeds of a file") } else { String::new() }
+        )
     }
 }
 
@@ -310,14 +315,19 @@ fn seeds(
     host: &Host,
     choices: &Choices,
     base: FxFyCxCy,
-    bound: f64,
+    options: &Options,
     screen: &mut Screen,
 ) -> Result<Vec<(Source, Seed)>, Fault> {
     let mut seeds = vec![];
     if choices.no_decomposition.is_none() {
+        let bound = options.max_abs_tilt;
         let is_within =
             |seed: &Seed| seed.sensor.tilt_x.abs() <= bound && seed.sensor.tilt_y.abs() <= bound;
-        match host.decomposition() {
+        let seed = match options.one_axis {
+            true => host.decomposition_on_one_axis(),
+            false => host.decomposition(),
+        };
+        match seed {
             Some(seed) if is_within(&seed) => seeds.push((Source::Decomposition, seed)),
             Some(seed) => screen.say(format!(
                 "left out        the decomposition's seed, {}° {}°: beyond the bound",
@@ -329,7 +339,7 @@ fn seeds(
     }
     if let Some(path) = &choices.seeds {
         let fault = |fault: String| format!("{}: {fault}", path.display());
-        seeds.extend(parse_seeds(&read(path)?, base, bound).map_err(fault)?);
+        seeds.extend(parse_seeds(&read(path)?, base, options).map_err(fault)?);
     }
     Ok(seeds)
 }
