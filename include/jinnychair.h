@@ -43,8 +43,8 @@ extern "C" {
 
 /* ---- version ---- */
 
-/* The version that this header is for: 65,536 times the major, 256 times the minor, and the patch number, here 0.3.0. */
-#define JC_VERSION 0x0300u
+/* The version that this header is for: 65,536 times the major, 256 times the minor, and the patch number, here 0.4.0. */
+#define JC_VERSION 0x0400u
 
 /* That of the linked archive. */
 uint32_t jc_version(void);
@@ -82,8 +82,8 @@ enum {
     JC_SOURCE_COLLINEAR = 24,      /* the source points lie on a line */
     JC_DESTINATION_COLLINEAR = 25, /* the destination points lie on a line */
     JC_TILT_TOO_LARGE = 27,        /* max_abs_tilt is above 0.5 radians (28.6 degrees), or a tilt is NaN or beyond that */
-    JC_TILT_Y_NOT_ZERO = 31,       /* a one-axis run's y tilts aren't the single value 0, of either sign */
-    JC_SEED_Y_NOT_ZERO = 32,       /* a decomposition seed of a one-axis run has a tilt y other than 0 */
+    JC_TILTS_OFF_AXIS = 31,        /* a one-axis run's y tilts aren't the single value 0, of either sign */
+    JC_SEED_OFF_AXIS = 32,         /* a decomposition seed of a one-axis run has a tilt y other than 0 */
     JC_NO_SHARED_POWER = 34        /* no power of two makes whole numbers in their ranges of a camera's four */
 };
 
