@@ -23,6 +23,7 @@ use Rattle.score_best.specs.Best.{Chosen, nothing, chosen}
 use Rattle.book.specs.Book.{Inputs, demand, Entry, Book, entries, noSeed, current, roundBest, runBest, orElse, stepOf, listAround, withWaiting, withEntry, withRound, withEnd, bookEnter}
 use Rattle.book.proofs.Moves.{entry, Stands, Closing, close-by, enter-by, Steps}
 use Rattle.book.proofs.Planned.{Planned, await-planned, end-planned, entry-planned, open-planned}
+use Rattle.book.proofs.Made.{Made, await-made, end-made, entry-made, open-made}
 
 -- ---- what a seed and an entry are
 abbrev pub Within : Inputs → CandidateSeed → Type 0
@@ -57,6 +58,7 @@ pub record Core (b : Book) : Type 0 where
   pub proper : All (Proper (b .inputs)) (entries b)
   pub numbered : Counted 0 (entries b)
   pub planned : Planned b
+  pub made : Made b
 
 -- of a book between the calls: a seed is left just until the run is over, and none waits once it is; a run that is over has had every round, or nothing was scored
 pub record Good (i : Inputs) (b : Book) : Type 0 where
@@ -73,7 +75,7 @@ waits-going i b g w = case (b .over) (λ o. absurd (true≢false (sym w ∙ g .c
 -- ---- Next
 await-core : (b : Book) → Core b → Core (withWaiting b)
 unfolding withWaiting
-await-core b h = record { sized = h .sized; in-rounds = h .in-rounds; few = h .few; fits = h .fits; seeds = h .seeds; proper = h .proper; numbered = h .numbered; planned = unfold withWaiting in await-planned b (h .planned) }
+await-core b h = record { sized = h .sized; in-rounds = h .in-rounds; few = h .few; fits = h .fits; seeds = h .seeds; proper = h .proper; numbered = h .numbered; planned = unfold withWaiting in await-planned b (h .planned); made = unfold withWaiting in await-made b (h .made) }
 
 await-good : (i : Inputs) (b : Book) → b .over ≡ false → Good i b → Good i (withWaiting b)
 unfolding withWaiting
@@ -96,7 +98,7 @@ record Ending (i : Inputs) (k : ℕ) (b : Book) : Type 0 where
 
 end-core : (b : Book) → Core b → Core (withEnd b)
 unfolding withEnd
-end-core b h = record { sized = h .sized; in-rounds = h .in-rounds; few = h .few; fits = h .fits; seeds = h .seeds; proper = h .proper; numbered = h .numbered; planned = end-planned b (h .planned) }
+end-core b h = record { sized = h .sized; in-rounds = h .in-rounds; few = h .few; fits = h .fits; seeds = h .seeds; proper = h .proper; numbered = h .numbered; planned = end-planned b (h .planned); made = end-made b (h .made) }
 
 else-nothing : (a c : Chosen) → orElse a c ≡ nothing → c ≡ nothing
 else-nothing nothing c e = e
@@ -143,6 +145,7 @@ round-core i k b w ss c q e =
       proper = rw append-nil (h .proper);
       numbered = rw append-nil (h .numbered);
       planned = open-planned b w ss (h .planned) f c q;
+      made = open-made b w ss (h .planned) c q;
     }
 
 skip-ending : (i : Inputs) (k : ℕ) (b : Book) → Core (withRound b []) → Ending i (suc k) b → Ending i k (withRound b [])
@@ -195,6 +198,7 @@ module _ (b : Book) (o : Outcome) where
         proper = rw e (all-append (Proper (b .inputs)) (entries b) (entry b o ∷ []) (h .proper) (own, tt));
         numbered = rw e (counted-more 0 (entries b) (entry b o) (h .numbered) (omega arith));
         planned = entry-planned b o (h .planned) r;
+        made = entry-made b o (h .made);
       }
 
   entry-same : (withEntry b o .over ≡ b .over) × (withEntry b o .inputs ≡ b .inputs) × (length (withEntry b o .list) ≡ length (b .list)) × (length (withEntry b o .answered) ≡ length (b .answered) + 1) × (withEntry b o .waits ≡ false)

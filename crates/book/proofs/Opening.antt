@@ -31,6 +31,7 @@ use Rattle.book.proofs.Refusals.{none-hold, start-decided}
 use Rattle.book.proofs.Starts.{refusal, openingRun, accepted, list-is}
 use Rattle.book.proofs.Lists.{Front, write-front}
 use Rattle.book.proofs.Planned.{planned-opened}
+use Rattle.book.proofs.Made.{made-opened}
 use Rattle.book.proofs.Good.{Within, Core}
 use Rattle.book.proofs.RunOf.{runOf, State}
 
@@ -139,6 +140,7 @@ module _ (i : Inputs) (l : List Float) (z : refusal i l ≡ 0) where
     proper = tt;
     numbered = tt;
     planned = planned-opened i;
+    made = made-opened i;
   }
 
   none-left : (ss : List CandidateSeed) → isEmpty ss ≡ true → 0 ≡ length ss

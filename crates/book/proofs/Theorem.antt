@@ -34,6 +34,8 @@ use Rattle.book.proofs.Winner.{numbers, winner}
 use Rattle.book.proofs.Walks.{walks}
 use Rattle.book.proofs.Tilts.{all-tried}
 use Rattle.book.proofs.Taken.{not-refused}
+use Rattle.book.proofs.Simulation.{progress-is}
+use Rattle.book.proofs.Lengths.{later-round}
 use Rattle.book.proofs.Starts.{starts}
 use Rattle.book.proofs.Opening.{opens}
 use Rattle.book.proofs.Ending.{opened-lasts, run-ends}
@@ -106,6 +108,7 @@ follows i l cs t =
           rw (same, out ∙ over-handed b (g .calm o)) (all-tried i b g o x y mx my lx hx ly hy);
       few-answers = rw same (count-bound i b g);
       answer-accepted = rw (w .run-is) (answer-open i b (listAfter (runOf (opened i)) l cs) (w .state));
+      later-round = rw (w .run-is, same, progress-is i b g) (later-round i b g);
     }
 
 opened-number : (i : Inputs) → runOf (opened i) .place .number ≡ 0
