@@ -82,6 +82,8 @@ enum {
     JC_SOURCE_COLLINEAR = 24,      /* the source points lie on a line */
     JC_DESTINATION_COLLINEAR = 25, /* the destination points lie on a line */
     JC_TILT_TOO_LARGE = 27,        /* max_abs_tilt is above 0.5 radians (28.6 degrees), or a tilt is NaN or beyond that */
+    JC_TILT_Y_NOT_ZERO = 31,       /* a one-axis run's y tilts aren't the single value 0, of either sign */
+    JC_SEED_Y_NOT_ZERO = 32,       /* a decomposition seed of a one-axis run has a tilt y other than 0 */
     JC_NO_SHARED_POWER = 34        /* no power of two makes whole numbers in their ranges of a camera's four */
 };
 
@@ -173,10 +175,13 @@ typedef struct {
 } jc_candidate;
 
 /* What a search is asked for, beside the tilts of its grid: how many rounds follow round 0, each around the best candidate of the round
- * before; the first of these rounds' step, in radians, which halves from round to round; and the bound on either tilt, in radians, at most 0.5. */
+ * before; the first of these rounds' step, in radians, which halves from round to round; the bound on either tilt, in radians, at most 0.5; and
+ * whether the module leans about the x axis alone. Where one_axis is not 0 every tilt y is 0, and a later round has at most three seeds: tilt x
+ * minus the step, tilt x, and tilt x plus the step. */
 typedef struct {
     size_t refine_rounds;
     double refine_step, max_abs_tilt;
+    uint8_t one_axis;
 } jc_options;
 
 /* 0 and the sine or the cosine, or JC_TILT_TOO_LARGE. */
@@ -361,7 +366,7 @@ double jc_mean_reproj_error(jc_pinhole_camera camera, jc_trig trig, const double
 /* ---- the search ---- */
 
 /* Starts a run and writes round 0's seeds to the front of the list: the decomposition's, then the grid of the tilts (radians) with the base
- * camera. 0, or 1 to 8, or 27. The list needs JC_LIST_LEN numbers, and the calls below are lent as many (10). A decomposition without seeds is any
+ * camera. 0, or 1 to 8, or 27, 31, 32. The list needs JC_LIST_LEN numbers, and the calls below are lent as many (10). A decomposition without seeds is any
  * array with the length 0. */
 jc_start_flat jc_start(size_t views, jc_options options, const double *tilt_x_seeds, size_t tilt_x_seeds_len,
                        const double *tilt_y_seeds, size_t tilt_y_seeds_len, const double *decomposition, size_t decomposition_len,
@@ -465,9 +470,10 @@ JC_ASSERT(offsetof(jc_candidate, camera) == 8);
 JC_ASSERT(offsetof(jc_candidate, sensor) == 80);
 JC_ASSERT(offsetof(jc_candidate, mean_reproj_error) == 96);
 JC_ASSERT(offsetof(jc_candidate, score) == 104);
-JC_ASSERT(sizeof(jc_options) == 24);
+JC_ASSERT(sizeof(jc_options) == 32);
 JC_ASSERT(offsetof(jc_options, refine_step) == 8);
 JC_ASSERT(offsetof(jc_options, max_abs_tilt) == 16);
+JC_ASSERT(offsetof(jc_options, one_axis) == 24);
 JC_ASSERT(sizeof(jc_matrix) == 72);
 JC_ASSERT(offsetof(jc_matrix, m01) == 8);
 JC_ASSERT(offsetof(jc_matrix, m02) == 16);
@@ -502,19 +508,19 @@ JC_ASSERT(sizeof(jc_waiting_record) == 56);
 JC_ASSERT(offsetof(jc_waiting_record, seed) == 8);
 JC_ASSERT(sizeof(jc_best_record) == 120);
 JC_ASSERT(offsetof(jc_best_record, candidate) == 8);
-JC_ASSERT(sizeof(jc_run_record) == 392);
-JC_ASSERT(offsetof(jc_run_record, center) == 24);
-JC_ASSERT(offsetof(jc_run_record, place) == 40);
-JC_ASSERT(offsetof(jc_run_record, waiting) == 96);
-JC_ASSERT(offsetof(jc_run_record, round_best) == 152);
-JC_ASSERT(offsetof(jc_run_record, run_best) == 272);
-JC_ASSERT(sizeof(jc_start_flat) == 400);
+JC_ASSERT(sizeof(jc_run_record) == 400);
+JC_ASSERT(offsetof(jc_run_record, center) == 32);
+JC_ASSERT(offsetof(jc_run_record, place) == 48);
+JC_ASSERT(offsetof(jc_run_record, waiting) == 104);
+JC_ASSERT(offsetof(jc_run_record, round_best) == 160);
+JC_ASSERT(offsetof(jc_run_record, run_best) == 280);
+JC_ASSERT(sizeof(jc_start_flat) == 408);
 JC_ASSERT(offsetof(jc_start_flat, run) == 8);
-JC_ASSERT(sizeof(jc_next_flat) == 408);
+JC_ASSERT(sizeof(jc_next_flat) == 416);
 JC_ASSERT(offsetof(jc_next_flat, over) == 1);
 JC_ASSERT(offsetof(jc_next_flat, candidate) == 8);
 JC_ASSERT(offsetof(jc_next_flat, run) == 16);
-JC_ASSERT(sizeof(jc_answer_flat) == 408);
+JC_ASSERT(sizeof(jc_answer_flat) == 416);
 JC_ASSERT(offsetof(jc_answer_flat, skipped) == 1);
 JC_ASSERT(offsetof(jc_answer_flat, score) == 8);
 JC_ASSERT(offsetof(jc_answer_flat, run) == 16);

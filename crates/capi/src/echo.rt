@@ -15,6 +15,7 @@ use capi_records::lists::LineReply;
 use capi_records::lists::NormalizeReply;
 use capi_records::plate::PlateReply;
 use capi_records::record::BestRecord;
+use capi_records::record::OptionsRecord;
 use capi_records::record::PlaceRecord;
 use capi_records::record::RunRecord;
 use capi_records::record::WaitingRecord;
@@ -26,7 +27,6 @@ use score_best::Candidate;
 use score_camera::pinhole::PinholeCamera;
 use score_rows::TiltTrig;
 use search_calls::progress::ProgressReply;
-use search_record::run::Options;
 use seed_rules::CandidateSeed;
 use zhang::Conic;
 
@@ -115,7 +115,7 @@ pub extern "C" fn jc_echo_candidate(x: Candidate) -> Candidate
 }
 
 #[no_mangle]
-pub extern "C" fn jc_echo_options(x: Options) -> Options
+pub extern "C" fn jc_echo_options(x: OptionsRecord) -> OptionsRecord
     ensures { λ r. ⌜ r ≡ x ⌝ }
 {
     x

@@ -5,11 +5,13 @@ ghost use Rattle.search_calls.specs.Next.{nextDef, seedPart};
 ghost use Rattle.search_answer.specs.Answer.{answerDef};
 ghost use Rattle.search_calls.specs.Result.{resultDef};
 ghost use Rattle.search_calls.specs.Progress.{progressDef};
-ghost use Rattle.capi_records.specs.Record.{runFrom};
+ghost use Rattle.capi_records.specs.Record.{optionsFrom, runFrom};
 ghost use Rattle.capi_records.specs.Run.{flatStarted, flatNext, flatAnswer, flatResult, findingOf, copied, copyCount};
 use camera_models::intrinsics::FxFyCxCy;
 use camera_models::math::Pt2;
+use capi_records::record::OptionsRecord;
 use capi_records::record::RunRecord;
+use capi_records::record::options_of;
 use capi_records::record::run_of;
 use capi_records::run::AnswerFlat;
 use capi_records::run::NextFlat;
@@ -23,13 +25,12 @@ use capi_records::run::result_flat;
 use capi_records::run::start_flat;
 use score_camera::pinhole::PinholeCamera;
 use search_calls::progress::ProgressReply;
-use search_record::run::Options;
 
 // Start: round 0's list is written to the front of `list`.
 #[no_mangle]
 pub extern "C" fn jc_start(
     views: usize,
-    options: Options,
+    options: OptionsRecord,
     tilt_x_seeds: &[f64],
     tilt_y_seeds: &[f64],
     decomposition: &[f64],
@@ -37,12 +38,12 @@ pub extern "C" fn jc_start(
     center: Pt2,
     list: &mut [f64],
 ) -> StartFlat
-    ensures reply { λ r. ⌜ r ≡ flatStarted (startReply views options (now («tilt_x_seeds» .entry)) (now («tilt_y_seeds» .entry)) (now (decomposition .entry)) base center (now (list .entry))) ⌝ }
-    ensures written { λ _. ⌜ now (list .exit) ≡ startList views options (now («tilt_x_seeds» .entry)) (now («tilt_y_seeds» .entry)) (now (decomposition .entry)) base center (now (list .entry)) ⌝ }
+    ensures reply { λ r. ⌜ r ≡ flatStarted (startReply views (optionsFrom options) (now («tilt_x_seeds» .entry)) (now («tilt_y_seeds» .entry)) (now (decomposition .entry)) base center (now (list .entry))) ⌝ }
+    ensures written { λ _. ⌜ now (list .exit) ≡ startList views (optionsFrom options) (now («tilt_x_seeds» .entry)) (now («tilt_y_seeds» .entry)) (now (decomposition .entry)) base center (now (list .entry)) ⌝ }
 {
     start_flat(search_start::start(
         views,
-        options,
+        options_of(options),
         tilt_x_seeds,
         tilt_y_seeds,
         decomposition,

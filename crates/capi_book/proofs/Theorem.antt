@@ -37,7 +37,7 @@ use Rattle.book.specs.Walk.{Step, handedReply, answeredReply, resultedReply, pr
 use Rattle.book.specs.Theorem.{optionsOf, startOf, startedList}
 use Rattle.book.proofs.Theorem.{search-is-book}
 use Rattle.capi_book.specs.Exported.{Exported, jc-next, jc-seed, jc-answer, jc-result, jc-progress, callOf, readNext, readAnswer, readResult, readProgress, FlatStep, flatCall, flatWalk}
-use Rattle.capi_book.specs.Theorem.{flatStart, ExportedIsWalk, ExportedIsBook}
+use Rattle.capi_book.specs.Theorem.{ExportedIsWalk, ExportedIsBook}
 
 -- ---- the record in a reply
 next-run : (h : Handed) (r : Run) → flatHanded h r .run ≡ flatRun r
@@ -143,11 +143,11 @@ accepts n r h =
     (λ a. simp a)
     (λ a. let k : n ≡ 0 = simp a at h in absurd (true≢false (rw k at a)))
 
-accepted : (i : Inputs) (l : List Float) → flatStart i l .number ≡ 0 → (r : Run) × (startOf i l ≡ Accepted r)
+accepted : (i : Inputs) (l : List Float) → flatStarted (startOf i l) .number ≡ 0 → (r : Run) × (startOf i l ≡ Accepted r)
 unfolding startReply
 accepted i l h = (_, accepts (startRefusal (i .views) (optionsOf i) (i .xs) (i .ys) (i .decomposition) (length l)) _ h)
 
 pub exported-is-book : ExportedIsBook
-exported-is-book i l h cs =
-    let a = accepted i l h in
-    rw (a .1) (exported-is-walk (a .0) (startedList i l) cs ∙ search-is-book i l .follows (a .0) (a .1) (map callOf cs) .same-replies)
+exported-is-book i o l e h cs =
+    let a = accepted i l (rw e at h) in
+    rw (e, a .1) (exported-is-walk (a .0) (startedList i l) cs ∙ search-is-book i l .follows (a .0) (a .1) (map callOf cs) .same-replies)

@@ -3,23 +3,28 @@ use mathlib.Core.Path.{_≡_}
 use mathlib.Core.List.{List, map}
 use lib.Ieee.{Float}
 use Rattle.search_record.specs.declared.run.Run.{Run}
+use Rattle.search_start.specs.Start.{startReply, startList}
+use Rattle.capi_records.specs.declared.record.OptionsRecord.{OptionsRecord}
 use Rattle.capi_records.specs.declared.run.StartFlat.{StartFlat}
-use Rattle.capi_records.specs.Record.{flatRun}
+use Rattle.capi_records.specs.Record.{optionsFrom, flatRun}
 use Rattle.capi_records.specs.Run.{flatStarted}
 use Rattle.book.specs.Book.{Inputs, opened, replies}
 use Rattle.book.specs.Walk.{walk}
-use Rattle.book.specs.Theorem.{startOf, startedList}
+use Rattle.book.specs.Theorem.{optionsOf}
 use Rattle.capi_book.specs.Exported.{Exported, callOf, flatWalk}
 
--- jc_start's reply
-abbrev pub flatStart : Inputs → List Float → StartFlat
-flatStart i l = flatStarted (startOf i l)
+-- jc_start's reply, and the list after it; the options are a record with a flag
+abbrev pub flatStart : Inputs → OptionsRecord → List Float → StartFlat
+flatStart i o l = flatStarted (startReply (i .views) (optionsFrom o) (i .xs) (i .ys) (i .decomposition) (i .base) (i .center) l)
+
+abbrev pub flatStartList : Inputs → OptionsRecord → List Float → List Float
+flatStartList i o l = startList (i .views) (optionsFrom o) (i .xs) (i .ys) (i .decomposition) (i .base) (i .center) l
 
 -- From any run on, the exported calls are the walk's.
 abbrev pub ExportedIsWalk : Type 0
 ExportedIsWalk = (r : Run) (l : List Float) (cs : List Exported) → flatWalk (flatRun r) l cs ≡ walk r l (map callOf cs)
 
--- After a jc_start that refuses nothing, every reply of every list of exported calls is the book's.
+-- After a jc_start that refuses nothing, every reply of every list of exported calls is the book's, with any options record that reads as the book's options.
 abbrev pub ExportedIsBook : Type 0
-ExportedIsBook = (i : Inputs) (l : List Float) → flatStart i l .number ≡ 0
-    → (cs : List Exported) → flatWalk (flatStart i l .run) (startedList i l) cs ≡ replies (opened i) (map callOf cs)
+ExportedIsBook = (i : Inputs) (o : OptionsRecord) (l : List Float) → optionsFrom o ≡ optionsOf i → flatStart i o l .number ≡ 0
+    → (cs : List Exported) → flatWalk (flatStart i o l .run) (flatStartList i o l) cs ≡ replies (opened i) (map callOf cs)

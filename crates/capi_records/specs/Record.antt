@@ -6,9 +6,11 @@ use Rattle.float.specs.Literals.{plusZero}
 use Rattle.score_best.specs.declared.Best.{Best}
 use Rattle.score_best.specs.Best.{noBest}
 use Rattle.search_record.specs.Record.{nobody}
+use Rattle.search_record.specs.declared.run.Options.{Options}
 use Rattle.search_record.specs.declared.run.Place.{Place}
 use Rattle.search_record.specs.declared.run.Waiting.{Waiting}
 use Rattle.search_record.specs.declared.run.Run.{Run}
+use Rattle.capi_records.specs.declared.record.OptionsRecord.{OptionsRecord}
 use Rattle.capi_records.specs.declared.record.PlaceRecord.{PlaceRecord}
 use Rattle.capi_records.specs.declared.record.WaitingRecord.{WaitingRecord}
 use Rattle.capi_records.specs.declared.record.BestRecord.{BestRecord}
@@ -19,6 +21,12 @@ flagOf b = cond b 1 0
 
 abbrev pub isSet : ℕ → Bool
 isSet n = not (eqb n 0)
+
+abbrev pub optionsFrom : OptionsRecord → Options
+optionsFrom o = record { «refine_rounds» = o .«refine_rounds»; «refine_step» = o .«refine_step»; «max_abs_tilt» = o .«max_abs_tilt»; «one_axis» = isSet (o .«one_axis») }
+
+abbrev pub flatOptions : Options → OptionsRecord
+flatOptions o = record { «refine_rounds» = o .«refine_rounds»; «refine_step» = o .«refine_step»; «max_abs_tilt» = o .«max_abs_tilt»; «one_axis» = flagOf (o .«one_axis») }
 
 abbrev pub placeFrom : PlaceRecord → Place
 placeFrom p = record { demand = p .demand; round = p .round; step = p .step; len = p .len; at = p .at; number = p .number; over = isSet (p .over) }
@@ -40,7 +48,7 @@ flatBest b = record { found = flagOf (b .found); candidate = b .candidate }
 
 abbrev pub runFrom : RunRecord → Run
 runFrom r = record {
-  options = r .options;
+  options = optionsFrom (r .options);
   center = r .center;
   place = placeFrom (r .place);
   waiting = waitingFrom (r .waiting);
@@ -50,7 +58,7 @@ runFrom r = record {
 
 abbrev pub flatRun : Run → RunRecord
 flatRun r = record {
-  options = r .options;
+  options = flatOptions (r .options);
   center = r .center;
   place = flatPlace (r .place);
   waiting = flatWaiting (r .waiting);
@@ -61,7 +69,7 @@ flatRun r = record {
 -- all zeros
 abbrev pub noRun : RunRecord
 noRun = record {
-  options = record { «refine_rounds» = 0; «refine_step» = plusZero; «max_abs_tilt» = plusZero };
+  options = record { «refine_rounds» = 0; «refine_step» = plusZero; «max_abs_tilt» = plusZero; «one_axis» = 0 };
   center = record { x = plusZero; y = plusZero };
   place = record { demand = 0; round = 0; step = plusZero; len = 0; at = 0; number = 0; over = 0 };
   waiting = flatWaiting nobody;

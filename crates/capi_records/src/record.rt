@@ -1,6 +1,6 @@
 // The run's record with its flags as bytes, and the ways there and back.
 ghost use mathlib.Core.Path.{_≡_};
-ghost use Rattle.capi_records.specs.Record.{flagOf, placeFrom, flatPlace, waitingFrom, flatWaiting, bestFrom, flatBest, runFrom, flatRun, noRun};
+ghost use Rattle.capi_records.specs.Record.{flagOf, optionsFrom, flatOptions, placeFrom, flatPlace, waitingFrom, flatWaiting, bestFrom, flatBest, runFrom, flatRun, noRun};
 use camera_models::math::Pt2;
 use score_best::Best;
 use score_best::Candidate;
@@ -9,6 +9,14 @@ use search_record::run::Place;
 use search_record::run::Run;
 use search_record::run::Waiting;
 use seed_rules::CandidateSeed;
+
+#[repr(C)]
+pub struct OptionsRecord {
+    pub refine_rounds: usize,
+    pub refine_step: f64,
+    pub max_abs_tilt: f64,
+    pub one_axis: u8,
+}
 
 #[repr(C)]
 pub struct PlaceRecord {
@@ -35,7 +43,7 @@ pub struct BestRecord {
 
 #[repr(C)]
 pub struct RunRecord {
-    pub options: Options,
+    pub options: OptionsRecord,
     pub center: Pt2,
     pub place: PlaceRecord,
     pub waiting: WaitingRecord,
@@ -47,6 +55,28 @@ pub fn flag(b: bool) -> u8
     ensures { λ r. ⌜ r ≡ flagOf b ⌝ }
 {
     if b { 1 } else { 0 }
+}
+
+pub fn options_of(o: OptionsRecord) -> Options
+    ensures { λ r. ⌜ r ≡ optionsFrom o ⌝ }
+{
+    Options {
+        refine_rounds: o.refine_rounds,
+        refine_step: o.refine_step,
+        max_abs_tilt: o.max_abs_tilt,
+        one_axis: o.one_axis != 0,
+    }
+}
+
+fn options_record(o: Options) -> OptionsRecord
+    ensures { λ r. ⌜ r ≡ flatOptions o ⌝ }
+{
+    OptionsRecord {
+        refine_rounds: o.refine_rounds,
+        refine_step: o.refine_step,
+        max_abs_tilt: o.max_abs_tilt,
+        one_axis: flag(o.one_axis),
+    }
 }
 
 fn place_of(p: PlaceRecord) -> Place
@@ -120,10 +150,9 @@ fn best_record(b: Best) -> BestRecord
 pub fn run_of(r: RunRecord) -> Run
     ensures { λ s. ⌜ s ≡ runFrom r ⌝ }
 {
-    let options = r.options;
     let center = r.center;
     Run {
-        options,
+        options: options_of(r.options),
         center,
         place: place_of(r.place),
         waiting: waiting_of(r.waiting),
@@ -135,10 +164,9 @@ pub fn run_of(r: RunRecord) -> Run
 pub fn run_record(r: Run) -> RunRecord
     ensures { λ s. ⌜ s ≡ flatRun r ⌝ }
 {
-    let options = r.options;
     let center = r.center;
     RunRecord {
-        options,
+        options: options_record(r.options),
         center,
         place: place_record(r.place),
         waiting: waiting_record(r.waiting),
@@ -152,10 +180,11 @@ pub fn no_run() -> RunRecord
     ensures { λ s. ⌜ s ≡ noRun ⌝ }
 {
     RunRecord {
-        options: Options {
+        options: OptionsRecord {
             refine_rounds: 0,
             refine_step: 0.0,
             max_abs_tilt: 0.0,
+            one_axis: 0,
         },
         center: Pt2 { x: 0.0, y: 0.0 },
         place: PlaceRecord {

@@ -1,23 +1,27 @@
 -- The theorem at the run through three rounds, whose condition holds there: what it says of what was handed out and of the winner; and at a run that is over with 11: a
--- negative tilt was tried. Assumes nothing.
+-- negative tilt was tried; and at a one-axis run. Assumes nothing.
+use Prim.Native.Nat.{_≤_}
 use mathlib.Core.Path.{_≡_, refl}
 use mathlib.Core.Logic.{inr}
 use mathlib.Core.Bool.{true}
 use mathlib.Core.List.{List, List·Memᴰ·head, List·Memᴰ·tail}
-use lib.Ieee.{Float, ofBits, add, sub, neg, lt, le}
-use Rattle.common.specs.Each.{every}
+use lib.ListN.{length}
+use lib.Ieee.{Float, ofBits, add, sub, neg, lt, le, eq}
+use Rattle.common.specs.Each.{All, every}
 use Rattle.float.specs.Float.{absOf, isFinite}
+use Rattle.float.specs.Literals.{plusZero}
 use Rattle.seed_rules.specs.Merge.{keep, hasNear, push, mergedInto}
-use Rattle.seed_rules.specs.Rules.{closer, tiltNear, cameraNear, near, within, inBound, pairs, tilts, seedGrid, initialList}
+use Rattle.seed_rules.specs.Rules.{closer, tiltNear, cameraNear, near, within, inBound, untiltedY, pairs, tilts, seedGrid, initialList}
 use Rattle.seed_rules.specs.Layout.{readFrom}
 use Rattle.search_start.specs.declared.Started.the-variants.{Accepted}
-use Rattle.search_start.specs.Start.{goodSeed, tooMany, demandOf, startReply}
-use Rattle.book.specs.Trace.{handed, answers}
+use Rattle.search_start.specs.Start.{goodSeed, onlyZero, tooMany, demandOf, startReply}
+use Rattle.book.specs.Trace.{tiltY, handedInRound, handed, answers}
 use Rattle.book.specs.Named.{outcomesIn, handings}
 use Rattle.book.specs.Theorem.{startOf, startedList, Wins, TiltTried, Follows}
 use Rattle.book.proofs.Theorem.{search-is-book}
 use Rattle.cases.specs.Words.{bits, f0, quarter, sixty}
 use Rattle.cases.specs.Lost.{allLostInputs, allLostRun, allLostCalls}
+use Rattle.cases.specs.OneAxis.{axisInputs, axisRun, axisCalls, axisWinner}
 use Rattle.cases.specs.Whole.{wholeInputs, wholeRun, wholeCalls, wholeWinner}
 use Rattle.cases.proofs.OnWalk.{on-walk}
 
@@ -55,3 +59,20 @@ all-lost-tried =
   where
     negative : neg quarter ≡ bits 0xbfd0_0000_0000_0000
     negative = unfold neg ofBits in refl
+
+-- ---- the one-axis run: its two later rounds have at most three seeds each, no tilt about y was handed out, and the winner has none
+axis-accepted : startOf axisInputs sixty ≡ Accepted axisRun
+unfolding startReply every goodSeed onlyZero untiltedY tooMany demandOf initialList seedGrid pairs keep mergedInto push hasNear tiltNear cameraNear near closer within inBound readFrom absOf isFinite add sub neg lt le eq ofBits
+axis-accepted = refl
+
+pub axis-follows : Follows axisInputs axisRun (startedList axisInputs sixty) axisCalls
+axis-follows = search-is-book axisInputs sixty .follows axisRun axis-accepted axisCalls
+
+pub axis-few : length (handedInRound 2 (handed axisRun (startedList axisInputs sixty) axisCalls)) ≤ 3
+axis-few = axis-follows .few-later 1
+
+pub axis-untilted : All (λ h. eq (tiltY h) plusZero ≡ true) (handed axisRun (startedList axisInputs sixty) axisCalls)
+axis-untilted = axis-follows .untilted refl
+
+pub axis-wins : Wins axisInputs (answers axisRun (startedList axisInputs sixty) axisCalls) axisWinner
+axis-wins = axis-follows .wins axisWinner (on-walk .one-axis-result)

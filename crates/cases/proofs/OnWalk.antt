@@ -10,7 +10,7 @@ use Rattle.camera_tilt.specs.Matrix.{productOf, firstOther, secondOther, minorO
 use Rattle.camera_tilt.specs.Sensor.{tiltProjectionMatrix, tiltVerdict, forwardDepth, inverseDepth, applyHomography, applyHomographyInverse}
 use Rattle.camera_models.specs.Distortion.{radialFactor, tangentialX, tangentialY, distorted, jacobianRadial, radialDerivative, jacobianAt}
 use Rattle.seed_rules.specs.Merge.{keep, hasNear, push, mergedInto}
-use Rattle.seed_rules.specs.Rules.{closer, tiltNear, cameraNear, near, within, inBound, pairs, seedGrid, initialList, offsets, nextList}
+use Rattle.seed_rules.specs.Rules.{closer, tiltNear, cameraNear, near, within, inBound, pairs, seedGrid, initialList, untiltedY, offsets, yOffsets, nextList}
 use Rattle.seed_rules.specs.Layout.{laid, readFrom}
 use Rattle.score_camera.specs.Camera.{damped, finiteIntrinsics, finiteDistortion, validCamera}
 use Rattle.score_camera.specs.Penalties.{distortionPenalty, tiltPenalty, centrePenalty, scoreOf}
@@ -18,7 +18,7 @@ use Rattle.score_rows.specs.Rows.{rowsOf, tiltMatrix, projected, rowError, isCo
 use Rattle.score_outcome.specs.Evaluation.{anyAboveOne, solvedRefusal, findingRefusal, trigOf, meanWith, scoringOf, evaluated, outcomeOf}
 use Rattle.score_best.specs.Best.{beats, unbeaten, firstUnbeaten, bestOf, noBest, isBetter, improved}
 use Rattle.search_record.specs.Record.{hasPlace, sound, awaiting, withOutcome, entered, nextStep, roundOpened, ended}
-use Rattle.search_start.specs.Start.{goodSeed, tooMany, demandOf, openingOf, startReply, startList}
+use Rattle.search_start.specs.Start.{goodSeed, onlyZero, tooMany, demandOf, openingOf, startReply, startList}
 use Rattle.search_calls.specs.Next.{nextDef, seedLent, seedPart}
 use Rattle.search_answer.specs.Answer.{nextSeeds, closeRound, enterDef, answerDef}
 use Rattle.search_calls.specs.declared.result.Resulted.the-variants.{Result, Refused}
@@ -29,6 +29,7 @@ use Rattle.book.specs.Theorem.{startedList}
 use Rattle.cases.specs.Words.{sixty, walkFrom}
 use Rattle.cases.specs.Whole.{wholeInputs, wholeRun, wholeCalls, wholeWinner, wholeReplies}
 use Rattle.cases.specs.Lost.{lostInputs, firstCalls, firstReplies, betweenCalls, betweenReplies, allLostInputs, allLostRun, allLostCalls, allLostReplies}
+use Rattle.cases.specs.OneAxis.{axisInputs, axisRun, axisCalls, axisWinner, axisReplies}
 use Rattle.cases.specs.Ended.{emptyInputs, emptyCalls, emptyReplies, failedInputs, failedCalls, failedReplies}
 
 pub record OnWalk : Type 0 where
@@ -38,9 +39,11 @@ pub record OnWalk : Type 0 where
   pub first-lost : walkFrom lostInputs firstCalls ≡ firstReplies
   pub between-lost : walkFrom lostInputs betweenCalls ≡ betweenReplies
   pub all-lost : walkFrom allLostInputs allLostCalls ≡ allLostReplies
+  pub one-axis : walkFrom axisInputs axisCalls ≡ axisReplies
   pub all-lost-result : resultDef (runAfter allLostRun (startedList allLostInputs sixty) allLostCalls) ≡ Refused 11
+  pub one-axis-result : resultDef (runAfter axisRun (startedList axisInputs sixty) axisCalls) ≡ Result axisWinner
   pub whole-result : resultDef (runAfter wholeRun (startedList wholeInputs sixty) wholeCalls) ≡ Result wholeWinner
 
 pub on-walk : OnWalk
-unfolding coefficientOf hornerOf seriesOf beyondHalf trigOf every absOf isFinite minOf maxOf clampOf rootIn isqrt rootOf root productOf firstOther secondOther minorOf cofactorOf determinantOf inverseOf tiltProjectionMatrix tiltVerdict forwardDepth inverseDepth applyHomography applyHomographyInverse radialFactor tangentialX tangentialY distorted jacobianRadial radialDerivative jacobianAt keep hasNear push mergedInto closer tiltNear cameraNear near within inBound pairs seedGrid initialList offsets nextList laid readFrom damped finiteIntrinsics finiteDistortion validCamera distortionPenalty tiltPenalty centrePenalty scoreOf rowsOf tiltMatrix projected rowError isCounted countedErrors summed errorSum meanOf anyAboveOne solvedRefusal findingRefusal meanWith scoringOf evaluated outcomeOf beats unbeaten firstUnbeaten bestOf noBest isBetter improved hasPlace sound awaiting withOutcome entered nextStep roundOpened ended goodSeed tooMany demandOf openingOf startReply startList nextDef seedLent seedPart nextSeeds closeRound enterDef answerDef resultDef runCall walk runAfter add sub mul div neg lt le eq isNan ofBits ofInt sum round units odd size span climb
-on-walk = record { empty = refl; failed = refl; whole = refl; first-lost = refl; between-lost = refl; all-lost = refl; all-lost-result = refl; whole-result = refl }
+unfolding coefficientOf hornerOf seriesOf beyondHalf trigOf every absOf isFinite minOf maxOf clampOf rootIn isqrt rootOf root productOf firstOther secondOther minorOf cofactorOf determinantOf inverseOf tiltProjectionMatrix tiltVerdict forwardDepth inverseDepth applyHomography applyHomographyInverse radialFactor tangentialX tangentialY distorted jacobianRadial radialDerivative jacobianAt keep hasNear push mergedInto closer tiltNear cameraNear near within inBound pairs seedGrid initialList untiltedY offsets yOffsets nextList laid readFrom damped finiteIntrinsics finiteDistortion validCamera distortionPenalty tiltPenalty centrePenalty scoreOf rowsOf tiltMatrix projected rowError isCounted countedErrors summed errorSum meanOf anyAboveOne solvedRefusal findingRefusal meanWith scoringOf evaluated outcomeOf beats unbeaten firstUnbeaten bestOf noBest isBetter improved hasPlace sound awaiting withOutcome entered nextStep roundOpened ended goodSeed onlyZero tooMany demandOf openingOf startReply startList nextDef seedLent seedPart nextSeeds closeRound enterDef answerDef resultDef runCall walk runAfter add sub mul div neg lt le eq isNan ofBits ofInt sum round units odd size span climb
+on-walk = record { empty = refl; failed = refl; whole = refl; first-lost = refl; between-lost = refl; all-lost = refl; one-axis = refl; all-lost-result = refl; one-axis-result = refl; whole-result = refl }

@@ -1,4 +1,5 @@
 -- Two runs that end with nothing: round 0 is empty; and nothing is scored. Definitions only.
+use mathlib.Core.Bool.{false}
 use mathlib.Core.List.{List, [], _∷_, _++_}
 use Rattle.score_outcome.specs.declared.Finding.the-variants.{Failed}
 use Rattle.book.specs.Calls.{Call, next, seed, answer, ask, Reply, candidate, part, skipped, refused}
@@ -12,6 +13,7 @@ emptyInputs = record {
   rounds = 2;
   step = bits 0x3fc0_0000_0000_0000;
   max = quarter;
+  one-axis = false;
   xs = bits 0x3fe0_0000_0000_0000 ∷ [];
   ys = f0 ∷ [];
   decomposition = [];
@@ -32,6 +34,7 @@ failedInputs = record {
   rounds = 2;
   step = bits 0x3fc0_0000_0000_0000;
   max = quarter;
+  one-axis = false;
   xs = f0 ∷ bits 0xbfd0_0000_0000_0000 ∷ [];
   ys = f0 ∷ [];
   decomposition = [];

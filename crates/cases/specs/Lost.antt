@@ -1,4 +1,5 @@
 -- Runs with scores that aren't numbers: the first, one between two others, and all of them. Definitions only.
+use mathlib.Core.Bool.{false}
 use mathlib.Core.List.{List, [], _∷_, _++_}
 use Prim.Native.Nat.{ℕ}
 use lib.Ieee.{Float}
@@ -18,6 +19,7 @@ lostInputs = record {
   rounds = 0;
   step = f0;
   max = quarter;
+  one-axis = false;
   xs = f0 ∷ quarter ∷ bits 0xbfd0_0000_0000_0000 ∷ [];
   ys = f0 ∷ [];
   decomposition = [];
@@ -76,6 +78,7 @@ allLostInputs = record {
   rounds = 2;
   step = bits 0x3fc0_0000_0000_0000;
   max = quarter;
+  one-axis = false;
   xs = f0 ∷ bits 0xbfd0_0000_0000_0000 ∷ [];
   ys = f0 ∷ [];
   decomposition = [];

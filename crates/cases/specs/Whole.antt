@@ -1,5 +1,6 @@
 -- A run through three rounds: decomposition and grid seeds, a merged seed and one beyond the bound, equal scores, a round that scores nothing, every
 -- skip reason, a scored candidate with a tangential coefficient, and refused calls in between. Definitions only.
+use mathlib.Core.Bool.{false}
 use mathlib.Core.List.{List, [], _∷_, _++_}
 use lib.Ieee.{Float}
 use Rattle.score_outcome.specs.declared.Finding.the-variants.{Failed}
@@ -22,6 +23,7 @@ wholeInputs = record {
   rounds = 2;
   step = bits 0x3fc0_0000_0000_0000;
   max = quarter;
+  one-axis = false;
   xs = quarter ∷ half ∷ [];
   ys = f0 ∷ [];
   decomposition = f100 ∷ f100 ∷ f50 ∷ f50 ∷ f0 ∷ f0 ∷ f100 ∷ f100 ∷ f50 ∷ f50 ∷ f0 ∷ f0 ∷ [];

@@ -1,7 +1,10 @@
--- `capi_records::record::run_of` meets its contract, by those of `place_of`, `waiting_of` and `best_of`. Assumes nothing.
+-- `capi_records::record::run_of` meets its contract, by those of `options_of`, `place_of`, `waiting_of` and `best_of`. Assumes nothing.
 use borrow.Author.Needs.{needs}
 use Rattle.capi_records.proofs.record.run_of.Statement.{statement}
 use Rattle.capi_records.proofs.record.run_of.Tie as tie
+
+options-of-requires : tie.Need-options-of-requires
+options-of-requires c κs = search needs
 
 place-of-requires : tie.Need-place-of-requires
 place-of-requires c κs = search needs
@@ -16,9 +19,9 @@ best-of-requires-2 : tie.Need-best-of-requires-2
 best-of-requires-2 c κs = search needs
 
 returns : tie.Need-returns
-returns c = rw (c .best-of2 .ensures, c .before .best-of .ensures, c .before .before .waiting-of .ensures, c .before .before .before .place-of .ensures)
+returns c = rw (c .best-of2 .ensures, c .before .best-of .ensures, c .before .before .waiting-of .ensures, c .before .before .before .place-of .ensures, c .before .before .before .before .options-of .ensures)
 
 pub run-of-spec : {M : Type 1} → statement M
 run-of-spec =
     tie.close
-    (tie.spec place-of-requires waiting-of-requires best-of-requires best-of-requires-2 returns)
+    (tie.spec options-of-requires place-of-requires waiting-of-requires best-of-requires best-of-requires-2 returns)

@@ -1,7 +1,10 @@
--- `capi_records::record::run_record` meets its contract, by those of `place_record`, `waiting_record` and `best_record`. Assumes nothing.
+-- `capi_records::record::run_record` meets its contract, by those of `options_record`, `place_record`, `waiting_record` and `best_record`. Assumes nothing.
 use borrow.Author.Needs.{needs}
 use Rattle.capi_records.proofs.record.run_record.Statement.{statement}
 use Rattle.capi_records.proofs.record.run_record.Tie as tie
+
+options-record-requires : tie.Need-options-record-requires
+options-record-requires c κs = search needs
 
 place-record-requires : tie.Need-place-record-requires
 place-record-requires c κs = search needs
@@ -16,12 +19,13 @@ best-record-requires-2 : tie.Need-best-record-requires-2
 best-record-requires-2 c κs = search needs
 
 returns : tie.Need-returns
-returns c = rw (c .best-record2 .ensures, c .before .best-record .ensures, c .before .before .waiting-record .ensures, c .before .before .before .place-record .ensures)
+returns c = rw (c .best-record2 .ensures, c .before .best-record .ensures, c .before .before .waiting-record .ensures, c .before .before .before .place-record .ensures, c .before .before .before .before .options-record .ensures)
 
 pub run-record-spec : {M : Type 1} → statement M
 run-record-spec =
     tie.close
     (tie.spec
+    options-record-requires
     place-record-requires
     waiting-record-requires
     best-record-requires
