@@ -1,16 +1,15 @@
 -- How large a rounded value is at least, where the exact one is that large; so two floats near fractions that lie far apart have a rounded difference that isn't below
 -- what the fractions leave of that distance. No error bound is needed, since rounding keeps the order. Assumes nothing.
 use mathlib.Core.Path.{_≡_, ap, _∙_}
-use mathlib.Core.Bool.{Bool, true, false, cond}
+use mathlib.Core.Bool.{false}
 use Prim.Native.Nat.{ℕ, _+_, _*_, _≤_, _<_}
 use native.Mathlib.Nat.{mul-add, mul-comm, mul-pos, mul-le-mul-right, mul-le-mul-left, le-of-mul-le-mul-right}
 use native.Mathlib.Omega.{arith}
-use lib.IntN.{ℤ}
 use lib.Ieee.{Float, binary64, round, sub, lt}
 use lib.Ieee.Fits.{down-pos}
 use Rattle.float.specs.Float.{absOf}
 use Rattle.float_laws.specs.Fraction.{Fraction, near-sym, ring}
-use Rattle.float_laws.specs.Rounded.{value, Within, within, Rounds, sub-rounds}
+use Rattle.float_laws.specs.Rounded.{Within, within, Rounds, sub-rounds}
 use Rattle.float_laws.specs.Reaches.{rounds-in-order}
 use Rattle.float_laws.specs.Apart.{distance, size-of}
 use Rattle.float_laws.specs.Exceeds.{Exceeds, near-exceeds}

@@ -3,7 +3,7 @@
 -- (Counts.antt). Assumes nothing.
 use mathlib.Core.Path.{_≡_}
 use mathlib.Core.Bool.{Bool, true, false}
-use mathlib.Core.List.{List, [], _∷_}
+use mathlib.Core.List.{[], _∷_}
 use lib.ListN.{length}
 use lib.Ieee.{Float, lt, le}
 use Rattle.float.specs.Literals.{plusZero, half₆₄}
