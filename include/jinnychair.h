@@ -286,6 +286,12 @@ typedef struct {
     jc_candidate candidate;
 } jc_result_flat;
 
+/* How far a run has come, as a progress bar shows it: the round, the rounds asked for after round 0, of this round's list the answered seeds and
+ * all of them, and the answered seeds of the whole run. */
+typedef struct {
+    size_t round, rounds, answered, total, answered_in_run;
+} jc_progress_reply;
+
 /* ---- root, camera, tilt, distortion ---- */
 
 /* The correctly rounded square root. */
@@ -375,6 +381,10 @@ jc_answer_flat jc_answer(jc_run_record run, uint8_t is_solved, jc_pinhole_camera
                          const uint8_t *flags, size_t flags_len, double *list, size_t list_len);
 /* The best candidate of a run that is over. 14, 11. */
 jc_result_flat jc_result(jc_run_record run);
+/* How far the run has come; once it is over, the last round's numbers. After round 0, with a step of this round from 1e-11 to 1, the total is
+ * exactly the number of x tilts times the number of y tilts that lie within the bound, of x - s, x, x + s and y - s, y, y + s around the best
+ * of the round before, each sum rounded. Refuses nothing; of a record that no call returned all numbers are 0. */
+jc_progress_reply jc_progress(jc_run_record run);
 
 /* ---- for tests only: each struct as it came, to see that both sides lay it out alike ---- */
 
@@ -406,6 +416,7 @@ jc_start_flat jc_echo_start_flat(jc_start_flat x);
 jc_next_flat jc_echo_next_flat(jc_next_flat x);
 jc_answer_flat jc_echo_answer_flat(jc_answer_flat x);
 jc_result_flat jc_echo_result_flat(jc_result_flat x);
+jc_progress_reply jc_echo_progress_reply(jc_progress_reply x);
 
 #ifdef __cplusplus
 }
@@ -515,6 +526,11 @@ JC_ASSERT(offsetof(jc_answer_flat, score) == 8);
 JC_ASSERT(offsetof(jc_answer_flat, run) == 16);
 JC_ASSERT(sizeof(jc_result_flat) == 120);
 JC_ASSERT(offsetof(jc_result_flat, candidate) == 8);
+JC_ASSERT(sizeof(jc_progress_reply) == 40);
+JC_ASSERT(offsetof(jc_progress_reply, rounds) == 8);
+JC_ASSERT(offsetof(jc_progress_reply, answered) == 16);
+JC_ASSERT(offsetof(jc_progress_reply, total) == 24);
+JC_ASSERT(offsetof(jc_progress_reply, answered_in_run) == 32);
 
 #undef JC_ASSERT
 

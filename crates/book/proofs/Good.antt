@@ -27,6 +27,7 @@ use Rattle.book.proofs.Moves.{entry, Stands, Closing, close-by, enter-b
 use Rattle.book.proofs.Planned.{Planned, await-planned, end-planned, entry-planned, open-planned}
 use Rattle.book.proofs.Seeds.{Seeded, best-among, around-seeded, around-few, nine}
 use Rattle.book.proofs.PerRound.{FewPerRound, few-opened}
+use Rattle.book.proofs.Made.{Made, await-made, end-made, entry-made, open-made}
 
 -- ---- what an entry and a scored candidate are
 pub record Proper (i : Inputs) (e : Entry) : Type 0 where
@@ -76,6 +77,7 @@ pub record Core (b : Book) : Type 0 where
   pub numbered : Counted 0 (entries b)
   pub planned : Planned b
   pub per-round : FewPerRound b
+  pub made : Made b
 
 -- of a book between the calls: a seed is left just until the run is over, and none waits once it is; a run that is over has had every round, or nothing was scored
 pub record Good (i : Inputs) (b : Book) : Type 0 where
@@ -102,6 +104,7 @@ await-core b h = record {
   numbered = h .numbered;
   planned = unfold withWaiting in await-planned b (h .planned);
   per-round = record { listed = h .per-round .listed; before = h .per-round .before };
+  made = unfold withWaiting in await-made b (h .made);
 }
 
 await-good : (i : Inputs) (b : Book) → b .over ≡ false → Good i b → Good i (withWaiting b)
@@ -135,6 +138,7 @@ end-core b h = record {
   numbered = h .numbered;
   planned = end-planned b (h .planned);
   per-round = record { listed = h .per-round .listed; before = h .per-round .before };
+  made = end-made b (h .made);
 }
 
 else-nothing : (a c : Chosen) → orElse a c ≡ nothing → c ≡ nothing
@@ -189,6 +193,7 @@ round-core i k b w ss c q e =
       numbered = rw append-nil (h .numbered);
       planned = open-planned b w ss (h .planned) f c q;
       per-round = unfold withRound in few-opened b ss (h .per-round) (h .planned) f most;
+      made = open-made b w ss (h .planned) c q;
     }
 
 skip-ending : (i : Inputs) (k : ℕ) (b : Book) → Core (withRound b []) → Ending i (suc k) b → Ending i k (withRound b [])
@@ -242,6 +247,7 @@ module _ (b : Book) (o : Outcome) where
         numbered = rw e (counted-more 0 (entries b) (entry b o) (h .numbered) (omega arith));
         planned = entry-planned b o (h .planned) r;
         per-round = record { listed = h .per-round .listed; before = h .per-round .before };
+        made = entry-made b o (h .made);
       }
 
   entry-same : (withEntry b o .over ≡ b .over) × (withEntry b o .inputs ≡ b .inputs) × (length (withEntry b o .list) ≡ length (b .list)) × (length (withEntry b o .answered) ≡ length (b .answered) + 1) × (withEntry b o .waits ≡ false)

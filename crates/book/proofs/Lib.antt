@@ -4,11 +4,13 @@ pub mod Moves
 pub mod Planned
 pub mod Seeds
 pub mod PerRound
+pub mod Made
 pub mod Good
 pub mod RunOf
 pub mod Simulation
 pub mod Growth
 pub mod Taken
+pub mod Lengths
 pub mod Winner
 pub mod Refusals
 pub mod Starts

@@ -35,6 +35,7 @@ use Rattle.book.proofs.Starts.{refusal, openingRun, accepted, list-is}
 use Rattle.book.proofs.Lists.{Front, write-front}
 use Rattle.book.proofs.Planned.{planned-opened}
 use Rattle.book.proofs.Seeds.{Seeded}
+use Rattle.book.proofs.Made.{made-opened}
 use Rattle.book.proofs.Good.{Core}
 use Rattle.book.proofs.RunOf.{runOf, State}
 
@@ -161,6 +162,7 @@ module _ (i : Inputs) (l : List Float) (z : refusal i l ≡ 0) where
     numbered = tt;
     planned = planned-opened i;
     per-round = record { listed = λ p. absurd (omega arith); before = λ k. unfold handedInRound keep in omega arith };
+    made = made-opened i;
   }
 
   none-left : (ss : List CandidateSeed) → isEmpty ss ≡ true → 0 ≡ length ss

@@ -28,13 +28,14 @@ use Rattle.search_record.specs.Record as rec
 use Rattle.search_calls.specs.Next.{nextDef, seedLent, seedPart}
 use Rattle.search_answer.specs.Answer as ans
 use Rattle.search_calls.specs.Result.{resultDef}
-use Rattle.book.specs.Calls.{Call, next, seed, answer, ask, Reply, over, part, result, refused}
-use Rattle.book.specs.Book.{Inputs, demand, Entry, Book, entries, number, current, scoredOf, roundBest, runBest, orElse, stepOf, listAround, withWaiting, withEntry, withRound, withEnd, closeRound, bookEnter, Kept, kept, bookNext, bookSeed, replyTo, bookAnswer, bookResult, bookCall}
+use Rattle.search_calls.specs.Progress.{progressDef}
+use Rattle.book.specs.Calls.{Call, next, seed, answer, ask, progress, Reply, over, part, result, bar, refused}
+use Rattle.book.specs.Book.{Inputs, demand, Entry, Book, entries, number, current, scoredOf, roundBest, runBest, orElse, stepOf, listAround, withWaiting, withEntry, withRound, withEnd, closeRound, bookEnter, Kept, kept, bookNext, bookSeed, replyTo, bookAnswer, bookResult, bookProgress, bookCall}
 use Rattle.book.specs.Walk.{Step, runCall, answeredReply}
 use Rattle.book.proofs.Cases.{case-chosen, case-list, case-outcome}
 use Rattle.book.proofs.Moves.{entry}
 use Rattle.book.proofs.Seeds.{nine}
-use Rattle.book.proofs.Good.{waits-going}
+use Rattle.book.proofs.Good.{Good, waits-going}
 use Rattle.book.proofs.RunOf.{runOf, State, run-waiting, run-round-best, run-run-best, run-max, run-one-axis, run-fields, run-bests, sound-run}
 use Rattle.book.proofs.Lists.{seed-at, part-at, Front, lend, give-back, write-front, no-front, short}
 
@@ -104,6 +105,16 @@ result-agrees i b l f =
     case (b .over)
     (λ o. case-chosen (runBest b) (λ e. simp (run-fields, run-bests, t, o, e) (unmoved b l (f .there) (refused 11))) (λ v e. simp (run-fields, run-bests, t, o, e) (unmoved b l (f .there) (result v))))
     (λ o. simp (run-fields, t, o) (unmoved b l (f .there) (refused 14)))
+
+-- ---- the progress call
+pub progress-is : (i : Inputs) (b : Book) → Good i b
+    → progressDef (runOf b) ≡ record { round = b .round; rounds = b .inputs .rounds; answered = length (b .answered); total = length (b .list); «answered_in_run» = number b }
+unfolding progressDef
+progress-is i b g = simp (run-fields, sound-run i b g)
+
+progress-agrees : (i : Inputs) (b : Book) (l : List Float) → State i b l → Agrees (runCall (runOf b) l progress) (bookProgress b)
+unfolding runCall bookProgress
+progress-agrees i b l f = simp (progress-is i b (f .good)) (unmoved b l (f .there) (bar _))
 
 -- ---- the end of a round
 -- the run and the list that go with a book
@@ -320,3 +331,4 @@ call-agrees i b l (next n) f = next-agrees i b l n f
 call-agrees i b l (seed n) f = seed-agrees i b l n f
 call-agrees i b l (answer n f rows flags) g = answer-agrees i b l n f rows flags g
 call-agrees i b l ask f = result-agrees i b l f
+call-agrees i b l progress f = progress-agrees i b l f

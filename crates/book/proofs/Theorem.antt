@@ -41,6 +41,8 @@ use Rattle.book.proofs.Winner.{numbers, winner}
 use Rattle.book.proofs.Walks.{walks}
 use Rattle.book.proofs.Tilts.{all-tried}
 use Rattle.book.proofs.Taken.{not-refused}
+use Rattle.book.proofs.Simulation.{progress-is}
+use Rattle.book.proofs.Lengths.{later-round}
 use Rattle.book.proofs.Starts.{starts}
 use Rattle.book.proofs.Opening.{opens}
 use Rattle.book.proofs.Ending.{opened-lasts, run-ends}
@@ -149,6 +151,7 @@ follows i l cs t =
       later-untilted = λ one. rw out (all-map (HandedSeed i) (λ h. 0 < h .round → tiltY h ≡ plusZero) (λ h p. rw (p .1) (p .2 .later one)) (handedIn b) seeded);
       few-answers = rw same (count-bound i b g);
       answer-accepted = rw (w .run-is) (answer-open i b (listAfter (runOf (opened i)) l cs) (w .state));
+      later-round = rw (w .run-is, same, progress-is i b g) (later-round i b g);
     }
 
 opened-number : (i : Inputs) → runOf (opened i) .place .number ≡ 0

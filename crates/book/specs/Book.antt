@@ -20,7 +20,7 @@ use Rattle.score_outcome.specs.declared.Outcome.the-variants.{Skipped, Scored}
 use Rattle.score_outcome.specs.Evaluation.{outcomeOf, findingRefusal}
 use Rattle.score_best.specs.declared.Candidate.{Candidate}
 use Rattle.score_best.specs.Best.{Chosen, nothing, chosen, bestOf, candidateOf}
-use Rattle.book.specs.Calls.{Call, next, seed, answer, ask, Reply, candidate, over, part, scored, skipped, result, refused}
+use Rattle.book.specs.Calls.{Call, next, seed, answer, ask, progress, Reply, candidate, over, part, scored, skipped, result, bar, refused}
 
 -- ---- what Start is given
 pub record Inputs : Type 0 where
@@ -99,9 +99,16 @@ stepOf (suc (suc n)) s = stepOf (suc n) s *₆₄ half₆₄
 unfoldable pub firstList : Inputs → List CandidateSeed
 firstList i = initialList (allSeeds (i .decomposition)) (i .xs) (i .ys) (i .base) (i .max)
 
--- the list of round r around a candidate: the nine offsets, or those of a one-axis run, with that candidate's camera
+-- the offsets of tilt_x and of tilt_y that round r's list is made with; in a one-axis run tilt_y has the offset 0 alone
+abbrev pub offsetsX : Inputs → ℕ → List Float
+offsetsX i r = offsets (stepOf r (i .step))
+
+abbrev pub offsetsY : Inputs → ℕ → List Float
+offsetsY i r = yOffsets (i .one-axis) (stepOf r (i .step))
+
+-- the list of round r around a candidate: each offset of tilt_x with each of tilt_y, with that candidate's camera
 unfoldable pub listAround : Inputs → ℕ → Candidate → List CandidateSeed
-listAround i r w = let s = stepOf r (i .step) in nextList (offsets s) (yOffsets (i .one-axis) s) (w .sensor) (w .camera .k) (i .max)
+listAround i r w = nextList (offsetsX i r) (offsetsY i r) (w .sensor) (w .camera .k) (i .max)
 
 -- ---- how the book changes
 abbrev pub isEmpty : List CandidateSeed → Bool
@@ -211,11 +218,17 @@ bestReply (chosen w) = result w
 unfoldable pub bookResult : Book → Kept
 bookResult b = unless (firstRefusal ((14 when not (b .over)) ∷ [])) b (kept (bestReply (runBest b)) b)
 
+-- the progress call: the total is the length of this round's list
+unfoldable pub bookProgress : Book → Kept
+bookProgress b =
+    kept (bar (record { round = b .round; rounds = b .inputs .rounds; answered = length (b .answered); total = length (b .list); in-run = number b })) b
+
 unfoldable pub bookCall : Book → Call → Kept
 bookCall b (next n) = bookNext b n
 bookCall b (seed n) = bookSeed b n
 bookCall b (answer n f rows flags) = bookAnswer b n f rows flags
 bookCall b ask = bookResult b
+bookCall b progress = bookProgress b
 
 -- ---- a whole list of calls: the book's replies, and the book after them
 unfoldable pub replies : Book → List Call → List Reply

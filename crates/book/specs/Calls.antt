@@ -11,6 +11,15 @@ pub data Call : Type 0 where
   seed : ℕ → Call
   answer : ℕ → Finding → List Float → List ℕ → Call
   ask : Call
+  progress : Call
+
+-- how far a run has come: its round, and the rounds asked for; of this round's list the answered seeds, and all; and the answered ones of the run
+pub record Progress : Type 0 where
+  pub round : ℕ
+  pub rounds : ℕ
+  pub answered : ℕ
+  pub total : ℕ
+  pub in-run : ℕ
 
 pub data Reply : Type 0 where
   candidate : ℕ → Reply
@@ -19,4 +28,5 @@ pub data Reply : Type 0 where
   scored : Float → Reply
   skipped : ℕ → Reply
   result : Candidate → Reply
+  bar : Progress → Reply
   refused : ℕ → Reply

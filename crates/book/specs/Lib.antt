@@ -4,5 +4,6 @@ pub mod Walk
 pub mod Conditions
 pub mod Trace
 pub mod Named
+pub mod Rounds
 pub mod Lent
 pub mod Theorem

@@ -33,12 +33,14 @@ use Rattle.search_start.specs.Start.{startReply, startList}
 use Rattle.search_calls.specs.Next.{nextDef}
 use Rattle.search_answer.specs.Answer.{answerRefusal}
 use Rattle.search_calls.specs.Result.{resultDef}
+use Rattle.search_calls.specs.Progress.{progressDef}
 use Rattle.book.specs.Calls.{Call}
 use Rattle.book.specs.Book.{Inputs, demand, Entry, entries, scoredOf, firstList, opened, replies, after}
 use Rattle.book.specs.Conditions.{FirstHolds, NoneHolds, conditions}
 use Rattle.book.specs.Walk.{walk}
 use Rattle.book.specs.Trace.{Handing, tiltY, handedInRound, handed, answers, runAfter, listAfter}
 use Rattle.book.specs.Named.{outcomesIn, handings}
+use Rattle.book.specs.Rounds.{LaterRound}
 use Rattle.book.specs.Lent.{Lent, through, accepted, stillLeft, Turn, AllTaken, turns}
 
 -- ---- Start, on the book's inputs and a lent list
@@ -121,6 +123,8 @@ pub record Follows (i : Inputs) (r : Run) (l : List Float) (cs : List Call) : Ty
   -- where a seed waits Answer takes Failed, and Solved with rows that 13 doesn't refuse: 27 comes from a changed list alone
   pub answer-accepted : runAfter r l cs .waiting .«is_waiting» ≡ true → (f : Finding) (rows : List Float) (flags : List ℕ)
       → (f ≡ Failed) ⊎ (firstRefusal (rowChecks rows flags) ≡ 0) → answerRefusal (runAfter r l cs) (length (listAfter r l cs)) f rows flags ≡ 0
+  -- the progress bar: after round 0 its total is exactly what the rules for the tilts give
+  pub later-round : 0 < progressDef (runAfter r l cs) .round → LaterRound i (answers r l cs) (progressDef (runAfter r l cs) .round) (progressDef (runAfter r l cs) .total)
 
 -- ---- the end of a run, whatever list each call is lent and whatever is answered: s is the run after the calls cs
 pub record Ends (i : Inputs) (r : Run) (cs : List Lent) (s : Run) : Type 0 where

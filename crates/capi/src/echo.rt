@@ -26,6 +26,7 @@ use capi_records::run::StartFlat;
 use score_best::Candidate;
 use score_camera::pinhole::PinholeCamera;
 use score_rows::TiltTrig;
+use search_calls::progress::ProgressReply;
 use seed_rules::CandidateSeed;
 use zhang::Conic;
 
@@ -220,6 +221,13 @@ pub extern "C" fn jc_echo_answer_flat(x: AnswerFlat) -> AnswerFlat
 
 #[no_mangle]
 pub extern "C" fn jc_echo_result_flat(x: ResultFlat) -> ResultFlat
+    ensures { λ r. ⌜ r ≡ x ⌝ }
+{
+    x
+}
+
+#[no_mangle]
+pub extern "C" fn jc_echo_progress_reply(x: ProgressReply) -> ProgressReply
     ensures { λ r. ⌜ r ≡ x ⌝ }
 {
     x

@@ -1,9 +1,10 @@
-// The search: Start, Next, the seed call, Answer and Result over the run's record. The caller keeps the record that a call returns and hands it to the next.
+// The search: Start, Next, the seed call, Answer, Result and the progress call over the run's record. The caller keeps the record that a call returns and hands it to the next.
 ghost use mathlib.Core.Path.{_≡_};
 ghost use Rattle.search_start.specs.Start.{startReply, startList};
 ghost use Rattle.search_calls.specs.Next.{nextDef, seedPart};
 ghost use Rattle.search_answer.specs.Answer.{answerDef};
 ghost use Rattle.search_calls.specs.Result.{resultDef};
+ghost use Rattle.search_calls.specs.Progress.{progressDef};
 ghost use Rattle.capi_records.specs.Record.{optionsFrom, runFrom};
 ghost use Rattle.capi_records.specs.Run.{flatStarted, flatNext, flatAnswer, flatResult, findingOf, copied, copyCount};
 use camera_models::intrinsics::FxFyCxCy;
@@ -23,6 +24,7 @@ use capi_records::run::next_flat;
 use capi_records::run::result_flat;
 use capi_records::run::start_flat;
 use score_camera::pinhole::PinholeCamera;
+use search_calls::progress::ProgressReply;
 
 // Start: round 0's list is written to the front of `list`.
 #[no_mangle]
@@ -96,4 +98,12 @@ pub extern "C" fn jc_result(run: RunRecord) -> ResultFlat
     ensures { λ r. ⌜ r ≡ flatResult (resultDef (runFrom run)) ⌝ }
 {
     result_flat(search_calls::result::result(run_of(run)))
+}
+
+// The progress call: how far the run has come.
+#[no_mangle]
+pub extern "C" fn jc_progress(run: RunRecord) -> ProgressReply
+    ensures { λ r. ⌜ r ≡ progressDef (runFrom run) ⌝ }
+{
+    search_calls::progress::progress(run_of(run))
 }

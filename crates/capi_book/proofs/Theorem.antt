@@ -25,16 +25,18 @@ use Rattle.search_calls.specs.Next.{nextRefusal, nextDef, seedLent, seedPart}
 use Rattle.search_answer.specs.declared.Answered.{Answered}
 use Rattle.search_answer.specs.declared.Answered.the-variants as answered
 use Rattle.search_answer.specs.Answer.{answerRefusal, enterDef, answerDef, replyOf}
+use Rattle.search_calls.specs.declared.progress.ProgressReply.{ProgressReply}
 use Rattle.search_calls.specs.Result.{resultRefusal, resultDef}
+use Rattle.search_calls.specs.Progress.{progressDef}
 use Rattle.capi_records.specs.Record.{flatRun}
 use Rattle.capi_records.specs.RoundTrip.{run-back}
 use Rattle.capi_records.specs.Run.{flatStarted, flatHanded, flatNext, flatAnswered, flatAnswer, flatResult, findingOf, copied, copyCount}
 use Rattle.book.specs.Book.{Inputs}
 use Rattle.book.specs.Calls.{Reply, part}
-use Rattle.book.specs.Walk.{Step, handedReply, answeredReply, resultedReply, runCall, walk}
+use Rattle.book.specs.Walk.{Step, handedReply, answeredReply, resultedReply, progressReply, runCall, walk}
 use Rattle.book.specs.Theorem.{optionsOf, startOf, startedList}
 use Rattle.book.proofs.Theorem.{search-is-book}
-use Rattle.capi_book.specs.Exported.{Exported, jc-next, jc-seed, jc-answer, jc-result, callOf, readNext, readAnswer, readResult, FlatStep, flatCall, flatWalk}
+use Rattle.capi_book.specs.Exported.{Exported, jc-next, jc-seed, jc-answer, jc-result, jc-progress, callOf, readNext, readAnswer, readResult, readProgress, FlatStep, flatCall, flatWalk}
 use Rattle.capi_book.specs.Theorem.{ExportedIsWalk, ExportedIsBook}
 
 -- ---- the record in a reply
@@ -59,6 +61,9 @@ next-read r l =
 result-read : (r : Run) → readResult (flatResult (resultDef r)) ≡ resultedReply (resultDef r)
 unfolding resultDef
 result-read r = case (eqb (resultRefusal r) 0) (λ h. simp h) (λ h. simp h)
+
+progress-read : (p : ProgressReply) → readProgress p ≡ progressReply p
+progress-read p = refl
 
 outcome-read : (f : Finding) (sensor : ScheimpflugParams) (center : Pt2) (rows : List Float) (flags : List ℕ) (r : Run)
     → readAnswer (flatAnswered (replyOf (outcomeOf f sensor center rows flags)) r) ≡ answeredReply (replyOf (outcomeOf f sensor center rows flags))
@@ -116,6 +121,7 @@ call-same r l (jc-answer n solved camera rows flags) =
       list = rw (run-back r) refl;
     }
 call-same r l jc-result = record { reply = rw (run-back r) (result-read r); run = refl; list = refl }
+call-same r l jc-progress = record { reply = rw (run-back r) (progress-read (progressDef r)); run = refl; list = refl }
 
 walk-more : (r : Run) (l : List Float) (c : Exported) (cs : List Exported)
     → ((s : Run) (k : List Float) → flatWalk (flatRun s) k cs ≡ walk s k (map callOf cs)) → flatWalk (flatRun r) l (c ∷ cs) ≡ walk r l (map callOf (c ∷ cs))

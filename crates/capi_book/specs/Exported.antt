@@ -9,14 +9,16 @@ use lib.Ieee.{Float}
 use Rattle.score_camera.specs.declared.pinhole.PinholeCamera.{PinholeCamera}
 use Rattle.search_calls.specs.Next.{nextDef, seedPart}
 use Rattle.search_answer.specs.Answer.{answerDef}
+use Rattle.search_calls.specs.declared.progress.ProgressReply.{ProgressReply}
 use Rattle.search_calls.specs.Result.{resultDef}
+use Rattle.search_calls.specs.Progress.{progressDef}
 use Rattle.capi_records.specs.declared.record.RunRecord.{RunRecord}
 use Rattle.capi_records.specs.declared.run.NextFlat.{NextFlat}
 use Rattle.capi_records.specs.declared.run.AnswerFlat.{AnswerFlat}
 use Rattle.capi_records.specs.declared.run.ResultFlat.{ResultFlat}
 use Rattle.capi_records.specs.Record.{runFrom}
 use Rattle.capi_records.specs.Run.{flatNext, flatAnswer, flatResult, findingOf, copied, copyCount}
-use Rattle.book.specs.Calls.{Call, Reply, candidate, over, part, scored, skipped, result, refused}
+use Rattle.book.specs.Calls.{Call, Reply, candidate, over, part, scored, skipped, result, bar, refused}
 use Rattle.book.specs.Calls as book
 
 -- An exported call with its arguments, but for the run's record and the seed list. n is how many numbers of the list are lent; jc_seed also
@@ -26,6 +28,7 @@ pub data Exported : Type 0 where
   jc-seed : ℕ → (to : List Float) → 6 ≤ length to → Exported
   jc-answer : ℕ → ℕ → PinholeCamera → List Float → List ℕ → Exported
   jc-result : Exported
+  jc-progress : Exported
 
 -- the call of the book that it makes
 abbrev pub callOf : Exported → Call
@@ -33,6 +36,7 @@ callOf (jc-next n) = book.next n
 callOf (jc-seed n to room) = book.seed n
 callOf (jc-answer n solved camera rows flags) = book.answer n (findingOf solved camera) rows flags
 callOf jc-result = book.ask
+callOf jc-progress = book.progress
 
 -- ---- what a host reads off a reply: a number that isn't 0 is a refusal's, and then the flags say which field counts
 abbrev pub readNext : NextFlat → Reply
@@ -43,6 +47,9 @@ readAnswer f = cond (eqb (f .number) 0) (cond (eqb (f .skipped) 0) (scored (f .s
 
 abbrev pub readResult : ResultFlat → Reply
 readResult f = cond (eqb (f .number) 0) (result (f .candidate)) (refused (f .number))
+
+abbrev pub readProgress : ProgressReply → Reply
+readProgress p = bar (record { round = p .round; rounds = p .rounds; answered = p .answered; total = p .total; in-run = p .«answered_in_run» })
 
 -- ---- what is read of a call, and the record and the whole seed list after it
 pub record FlatStep : Type 0 where
@@ -60,6 +67,7 @@ flatCall r l (jc-answer n solved camera rows flags) =
     let f = flatAnswer (a .reply) in
     record { reply = readAnswer f; run = f .run; list = a .list ++ drop n l }
 flatCall r l jc-result = record { reply = readResult (flatResult (resultDef (runFrom r))); run = r; list = l }
+flatCall r l jc-progress = record { reply = readProgress (progressDef (runFrom r)); run = r; list = l }
 
 unfoldable pub flatWalk : RunRecord → List Float → List Exported → List Reply
 flatWalk r l [] = []

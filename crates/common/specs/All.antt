@@ -2,7 +2,7 @@
 use Prim.Native.Nat.{ℕ, _≤_}
 use mathlib.Core.Path.{_≡_, ap, _∙_}
 use mathlib.Core.Bool.{Bool, true, false}
-use mathlib.Core.List.{List, [], _∷_, _++_}
+use mathlib.Core.List.{List, [], _∷_, _++_, map}
 use lib.ListN.{length, drop, drop-of-length-le}
 use Rattle.common.specs.Each.{All, every}
 
@@ -22,6 +22,10 @@ module _ {A : Type 0} (P : A → Type 0) where
   pub all-map : (Q : A → Type 0) → ((x : A) → P x → Q x) → (xs : List A) → All P xs → All Q xs
   all-map Q f [] h = tt
   all-map Q f (x ∷ xs) h = (f x (h .0), all-map Q f xs (h .1))
+
+pub all-mapped : {A B : Type 0} (f : A → B) (P : B → Type 0) (xs : List A) → All (λ x. P (f x)) xs → All P (map f xs)
+all-mapped f P [] h = tt
+all-mapped f P (x ∷ xs) h = (h .0, all-mapped f P xs (h .1))
 
 -- ---- a test at each element from place i on, as a loop over the list makes it
 module _ {A : Type 0} (p : A → Bool) (xs : List A) (i : ℕ) where

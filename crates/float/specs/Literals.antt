@@ -27,12 +27,15 @@ six₆₄ = ofBits binary64 0x4018_0000_0000_0000
 abbrev pub half₆₄ : Float
 half₆₄ = ofBits binary64 0x3fe0_0000_0000_0000
 
--- 1e-6, 1e-9, 1e-12
+-- 1e-6, 1e-9, 1e-11, 1e-12
 abbrev pub tenToMinus6 : Float
 tenToMinus6 = ofBits binary64 0x3eb0_c6f7_a0b5_ed8d
 
 abbrev pub tenToMinus9 : Float
 tenToMinus9 = ofBits binary64 0x3e11_2e0b_e826_d695
+
+abbrev pub tenToMinus11 : Float
+tenToMinus11 = ofBits binary64 0x3da5_fd7f_e179_6495
 
 abbrev pub tenToMinus12 : Float
 tenToMinus12 = ofBits binary64 0x3d71_9799_812d_ea11

@@ -26,21 +26,22 @@ unfolding sub
 numbers x z b h = let f = finite-terms binary64 x (neg z) (below-finite (sub binary64 x z) b h) in (number-of x (f .0), number-of z (sym (finite-neg z) ∙ f .1))
 
 -- ---- a difference, rounded, and the distance
-size-of : {x : Float} {y : Fraction} (r : Rounds x y) → absOf x ≡ round binary64 false (r .num) (y .den)
+pub size-of : {x : Float} {y : Fraction} (r : Rounds x y) → absOf x ≡ round binary64 false (r .num) (y .den)
 size-of {y = y} r = ap absOf (r .is) ∙ abs-round binary64 (r .sign) (r .num) (y .den)
 
--- n is the distance of p and m; c times n is at most k just where p and m, times c, are within k
+-- n is the distance of p and m
+pub distance : (n p m : ℕ) (s : Bool) → cond s 0 n + m ≡ p + cond s n 0 → (p ≤ m + n) × (m ≤ p + n)
+distance n p m true e = (omega arith, omega arith)
+distance n p m false e = (omega arith, omega arith)
+
+-- c times n is at most k just where p and m, times c, are within k
 module _ (n p m k c : ℕ) where
   distance-at-most : (s : Bool) → cond s 0 n + m ≡ p + cond s n 0 → n * c ≤ k → (c * p ≤ c * m + k) × (c * m ≤ c * p + k)
   distance-at-most s e h =
-      let f : (p ≤ m + n) × (m ≤ p + n) = go s e in (
+      let f = distance n p m s e in (
         omega (arith, rw (mul-add c m n, mul-comm c n) at (mul-le-mul-left c (f .0))),
         omega (arith, rw (mul-add c p n, mul-comm c n) at (mul-le-mul-left c (f .1))),
       )
-    where
-      go : (s : Bool) → cond s 0 n + m ≡ p + cond s n 0 → (p ≤ m + n) × (m ≤ p + n)
-      go true e = (omega arith, omega arith)
-      go false e = (omega arith, omega arith)
 
   at-most-distance : (s : Bool) → cond s 0 n + m ≡ p + cond s n 0 → c * p ≤ c * m + k → c * m ≤ c * p + k → n * c ≤ k
   at-most-distance true e g h = let f : m ≡ p + n = omega arith in omega (arith, rw (f, mul-add c p n, mul-comm c n) at h)

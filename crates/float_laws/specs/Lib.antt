@@ -5,4 +5,7 @@ pub mod Known
 pub mod Integers
 pub mod Reaches
 pub mod Apart
+pub mod Exceeds
+pub mod Differences
 pub mod Limited
+pub mod NotBelow

@@ -1,3 +1,4 @@
 pub mod Next
 pub mod NextLaws
 pub mod Result
+pub mod Progress

@@ -10,7 +10,7 @@ use native.Mathlib.Omega.{arith}
 use lib.Dec.{T}
 use lib.ListN.{length}
 use lib.Ieee.{Float, binary64, fits, le}
-use Rattle.common.specs.All.{all-append, all-map}
+use Rattle.common.specs.All.{all-append, all-map, all-mapped}
 use Rattle.common.specs.Each.{All}
 use Rattle.float.specs.Binary64.{_+₆₄_}
 use Rattle.float.specs.Sign.{abs-add-zero}
@@ -27,10 +27,6 @@ use Rattle.seed_rules.specs.RulesLaws.{initial-length}
 all-of-mem : {A : Type 0} (P : A → Type 0) (xs : List A) → ((x : A) → List·Memᴰ x xs → P x) → All P xs
 all-of-mem P [] f = tt
 all-of-mem P (x ∷ xs) f = (f x (List·Memᴰ·head refl), all-of-mem P xs (λ z m. f z (List·Memᴰ·tail m)))
-
-all-mapped : {A B : Type 0} (f : A → B) (P : B → Type 0) (xs : List A) → All (λ x. P (f x)) xs → All P (map f xs)
-all-mapped f P [] h = tt
-all-mapped f P (x ∷ xs) h = (h .0, all-mapped f P xs (h .1))
 
 mem-some : {A : Type 0} {x : A} (xs : List A) → List·Memᴰ x xs → 0 < length xs
 mem-some [] m = absurd (List·Memᴰ·not-nil m)

@@ -3,6 +3,7 @@ pub mod LayoutLaws
 pub mod Merge
 pub mod MergeLaws
 pub mod Newest
+pub mod Unmerged
 pub mod Steps
 pub mod Rules
 pub mod Bound

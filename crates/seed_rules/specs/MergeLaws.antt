@@ -41,6 +41,17 @@ module _ {A : Type 0} where
   keep-all P p [] h = tt
   keep-all P p (x ∷ xs) h = cond-all (λ z. P z × (p z ≡ true)) (p x) x (keep p xs) (λ e. (h .0, e)) (keep-all P p xs (h .1))
 
+  -- none passes, or all do
+  pub keep-none : (p : A → Bool) (xs : List A) → All (λ x. p x ≡ false) xs → keep p xs ≡ []
+  unfolding keep
+  keep-none p [] h = refl
+  keep-none p (x ∷ xs) h = simp (h .0) (keep-none p xs (h .1))
+
+  pub keep-whole : (p : A → Bool) (xs : List A) → All (λ x. p x ≡ true) xs → keep p xs ≡ xs
+  unfolding keep
+  keep-whole p [] h = refl
+  keep-whole p (x ∷ xs) h = simp (h .0) (ap (λ (ys : List A). x ∷ ys) (keep-whole p xs (h .1)))
+
   pub mem-keep : (p : A → Bool) (xs : List A) {x : A} → List·Memᴰ x xs → p x ≡ true → List·Memᴰ x (keep p xs)
   unfolding keep
   mem-keep p [] m h = m
