@@ -64,7 +64,7 @@ int main(void) {
     jc_result_flat result = jc_result(run);
     if (result.number != 0) return printf("no result: %d\n", result.number), 1;
     jc_candidate winner = result.candidate;
-    printf("no. %zu of %zu won: %+.4f %+.4f, %.3f px\n", winner.number, run.place.number, winner.sensor.tilt_x, winner.sensor.tilt_y,
-           winner.mean_reproj_error);
+    printf("no. %zu of %zu won: %+.4f %+.4f, %.3f px\n", winner.number, jc_progress(run).answered_in_run, winner.sensor.tilt_x,
+           winner.sensor.tilt_y, winner.mean_reproj_error);
     return 0;
 }

@@ -121,8 +121,34 @@ static void one_axis(void) {
     const uint8_t one[] = {1};
     for (int i = 0; i < 2; i++) run = jc_answer(jc_next(run, list, 54).run, 1, solved, row, 4, one, 1, list, 54).run;
     claim(run.place.round == 1 && run.place.len == 3, "a later round has three seeds");
+    claim(jc_progress(run).total == 3 && jc_progress(run).round == 1, "as the progress says");
     claim(list[4] == -0.01 - 0.005 && list[10] == -0.01 && list[16] == -0.01 + 0.005, "x - step, x, x + step");
     claim(same(list[5], 0.0) && same(list[11], 0.0) && same(list[17], 0.0), "with a tilt y of 0");
+}
+
+static void progress(void) {
+    jc_options options = {1, 0.005, 0.01, 0};
+    jc_pt2 center = {640, 480};
+    double list[54];
+    jc_run_record run = jc_start(3, options, TILTS, 2, TILTS, 2, TILTS, 0, K, center, list, 54).run;
+    jc_pinhole_camera solved = {K, {0, 0, 0, 0, 0}};
+    const double row[] = {0, 0, 643, 484};
+    const uint8_t one[] = {1};
+    for (size_t i = 0; i < 4; i++) {
+        jc_progress_reply p = jc_progress(run);
+        claim(p.round == 0 && p.rounds == 1 && p.answered == i && p.total == 4 && p.answered_in_run == i, "each answer counts");
+        run = jc_next(run, list, 54).run;
+        claim(jc_progress(run).answered == i, "a seed that waits doesn't");
+        run = jc_answer(run, 1, solved, row, 4, one, 1, list, 54).run;
+    }
+    jc_progress_reply p = jc_progress(run);
+    claim(p.round == 1 && p.answered == 0 && p.total == 2 * 2 && p.answered_in_run == 4, "two tilts of each axis are within the bound");
+    while (!run.place.over) run = jc_answer(jc_next(run, list, 54).run, 1, solved, row, 4, one, 1, list, 54).run;
+    p = jc_progress(run);
+    claim(p.round == 1 && p.answered == 4 && p.total == 4 && p.answered_in_run == 8, "at the end the last round's numbers");
+    run.place.len = JC_MOST_LIST;
+    p = jc_progress(run);
+    claim(p.round + p.rounds + p.answered + p.total + p.answered_in_run == 0, "a record that no call returned has zeros");
 }
 
 /* Each limit is taken, and one more is refused. */
@@ -166,6 +192,7 @@ int main(void) {
     scores();
     search();
     one_axis();
+    progress();
     limits();
     if (!failed) printf("the header's words hold\n");
     return failed;

@@ -2,9 +2,9 @@
 
 use crate::findings::Sent;
 use crate::inputs::{for_library, on_one_axis};
-use crate::record_words::{of_book, of_run};
+use crate::record_words::{of_book, of_book_progress, of_progress, of_run};
 use book::{Book, Inputs};
-use jinnychair::record::{Run, answer, next, result, seed, start};
+use jinnychair::record::{Run, answer, next, progress, result, seed, start};
 use jinnychair::{Finding, Handed, Outcome, SkipReason};
 use random::Random;
 use words::{float_words, word};
@@ -24,6 +24,8 @@ pub struct Tally {
     pub unsound: usize,
     /// Runs that came to a result, and that ended with nothing scored.
     pub results: [usize; 2],
+    /// After how many calls a round after round 0 had so many seeds.
+    pub later_totals: [usize; 10],
 }
 
 impl Default for Tally {
@@ -35,6 +37,7 @@ impl Default for Tally {
             entered: [0; 1 + SkipReason::ALL.len()],
             unsound: 0,
             results: [0; 2],
+            later_totals: [0; 10],
         }
     }
 }
@@ -67,6 +70,10 @@ pub fn play(mut inputs: Inputs, random: &mut Random, tally: &mut Tally) -> Resul
         pair.call(random, tally).map_err(|fault| format!("call {i}: {fault}"))?;
         if random.once_in(40) {
             unsound(&pair, random, tally).map_err(|fault| format!("after call {i}: {fault}"))?;
+        }
+        let progress = pair.book.progress();
+        if progress.round > 0 {
+            tally.later_totals[progress.total] += 1;
         }
         past_end += usize::from(pair.book.is_over());
         if past_end > 8 {
@@ -166,6 +173,8 @@ impl Pair {
 
     fn compare(&self) -> Result<(), String> {
         differ("the run", of_run(&self.run), of_book(&self.book))?;
+        let (library, book) = (progress(&self.run), self.book.progress());
+        differ("the progress", of_progress(library), of_book_progress(book))?;
         differ("the list", float_words(&self.list), float_words(&self.book_list))
     }
 
@@ -295,9 +304,10 @@ fn unsound(pair: &Pair, random: &mut Random, tally: &mut Tally) -> Result<(), St
             answer(&mut run, &Finding::Failed, &mut list).map_or_else(|e| e.number().into(), |_| 0),
         ],
         vec![2, result(&run).map_or_else(|e| e.number().into(), |_| 0)],
+        of_progress(progress(&run)),
     ];
     tally.unsound += replies.len();
-    let expected: [Reply; 4] = [vec![2, 11], vec![], vec![2, 12], vec![2, 11]];
+    let expected: [Reply; 5] = [vec![2, 11], vec![], vec![2, 12], vec![2, 11], vec![0; 5]];
     if replies != expected {
         return Err(format!("an unsound record {:?} gets {replies:?}", run));
     }

@@ -1,7 +1,7 @@
 //! A run's record as words, from the library and as the book says that it must be.
 
 use book::{Book, Seed as BookSeed, Winner as BookWinner};
-use jinnychair::record::{Best, Run};
+use jinnychair::record::{Best, Progress, Run};
 use words::{float_words, word};
 
 /// Every number of a record.
@@ -53,4 +53,14 @@ fn of_winner(winner: Option<BookWinner>) -> Vec<u64> {
     words.extend(float_words(&w.tilts));
     words.extend(float_words(&[w.scored.mean, w.scored.score]));
     words
+}
+
+/// The five numbers of the progress call.
+pub fn of_progress(p: Progress) -> Vec<u64> {
+    [p.round, p.rounds, p.answered, p.total, p.answered_in_run].map(|number| number as u64).to_vec()
+}
+
+/// The same as the book counts them.
+pub fn of_book_progress(p: book::Progress) -> Vec<u64> {
+    [p.round, p.rounds, p.answered, p.total, p.answered_in_run].map(|number| number as u64).to_vec()
 }

@@ -46,6 +46,21 @@ pub enum Answered {
     Refused(u8),
 }
 
+/// How far a run has come.
+#[derive(Clone, Copy, Debug, PartialEq, Eq)]
+pub struct Progress {
+    /// The current round; once the run is over, the last one.
+    pub round: usize,
+    /// How many rounds follow round 0.
+    pub rounds: usize,
+    /// How many seeds of the round's list are answered.
+    pub answered: usize,
+    /// How many seeds the round's list has.
+    pub total: usize,
+    /// How many seeds of the run are answered.
+    pub answered_in_run: usize,
+}
+
 /// A run's book.
 #[derive(Clone, Debug)]
 pub struct Book {
@@ -166,6 +181,22 @@ impl Book {
             return Err(14);
         }
         self.run_best().ok_or(11)
+    }
+
+    /// How far the run has come. The total of a later round is the book's own count.
+    pub fn progress(&self) -> Progress {
+        let (round, rounds, answered) = (self.round, self.inputs.rounds, self.position());
+        let total = match self.centre() {
+            Some(best) => self.inputs.next_len(round, best.scored.camera.k, best.tilts),
+            None => self.list_len,
+        };
+        Progress { round, rounds, answered, total, answered_in_run: self.entries.len() }
+    }
+
+    /// What the current list lies around: the best of the round before, or of all before; nothing in round 0.
+    fn centre(&self) -> Option<Winner> {
+        let before = self.entries.iter().filter(|entry| entry.round < self.round);
+        best(before.clone().filter(|entry| entry.round + 1 == self.round)).or(best(before))
     }
 
     /// What the run was started with.

@@ -154,6 +154,19 @@ impl Inputs {
         list
     }
 
+    /// How many seeds the list of the given round, at least 1, has, counted without the list where 02 says how: with a
+    /// step from 1e-11 to 1 the admissible tilts about x times those about y, else by the merging rule.
+    pub(crate) fn next_len(&self, round: usize, k: [f64; 4], around: [f64; 2]) -> usize {
+        if !(1e-11..=1.0).contains(&self.step(round)) {
+            return self.next_list(round, k, around).len();
+        }
+        let [x_offsets, y_offsets] = self.offsets(round);
+        let admissible = |centre: f64, offsets: Vec<f64>| {
+            offsets.iter().filter(|offset| (centre + *offset).abs() <= self.max_abs_tilt).count()
+        };
+        admissible(around[0], x_offsets) * admissible(around[1], y_offsets)
+    }
+
     /// The step that the given round's list is made with; 0 in round 0, which has none.
     pub fn step(&self, round: usize) -> f64 {
         if round == 0 { 0.0 } else { (1..round).fold(self.refine_step, |s, _| s * 0.5) }

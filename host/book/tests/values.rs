@@ -1,7 +1,7 @@
 //! 01's own values, and runs of a few calls that can be followed by hand.
 #![allow(missing_docs)]
 
-use book::{Answered, Book, Camera, Finding, Handed, Inputs, Outcome, Rows};
+use book::{Answered, Book, Camera, Finding, Handed, Inputs, Outcome, Progress, Rows};
 
 fn inputs(x: &[f64], y: &[f64]) -> Inputs {
     Inputs {
@@ -202,4 +202,48 @@ fn score_that_is_not_a_number_loses() {
     book.next(&lent);
     answer(&mut book, &mut lent, 1.0);
     assert_eq!(book.result().unwrap().number, 1);
+}
+
+/// The progress after a first tilt is scored, which is then the centre of round 1.
+fn progress_around(x: f64, refine_step: f64, max_abs_tilt: f64, one_axis: bool) -> Progress {
+    let mut lent = [0.0; 54];
+    let inputs = Inputs { refine_step, max_abs_tilt, one_axis, ..inputs(&[x], &[0.0]) };
+    let mut book = Book::start(inputs, &mut lent).unwrap();
+    let zeros = Progress { round: 0, rounds: 1, answered: 0, total: 1, answered_in_run: 0 };
+    assert_eq!(book.progress(), zeros);
+    book.next(&lent);
+    assert_eq!(book.progress(), zeros);
+    answer(&mut book, &mut lent, 1.0);
+    let progress = book.progress();
+    assert_eq!((progress.round, progress.answered, progress.answered_in_run), (1, 0, 1));
+    assert_eq!(progress.total, book.list_len());
+    progress
+}
+
+#[test]
+fn a_rounds_total_is_that_of_the_tilts_within_the_bound() {
+    assert_eq!(progress_around(0.25, 0.05, 0.3, false).total, 9);
+    // 0.28 + 0.02 is rounded to above 0.3.
+    assert_eq!(progress_around(0.28, 0.02, 0.3, false).total, 6);
+    assert_eq!(progress_around(0.28, 0.02, 0.3, true).total, 2);
+    assert_eq!(progress_around(0.3, 1e-11, 0.3, true).total, 2);
+    assert_eq!(progress_around(0.0, 0.4, 0.3, false).total, 1);
+    // Below 1e-11 tilts may merge.
+    assert_eq!(progress_around(0.1, 1e-13, 0.3, false).total, 1);
+    assert_eq!(progress_around(0.1, 8e-13, 0.3, true).total, 2);
+}
+
+#[test]
+fn progress_ends_with_the_last_rounds_numbers() {
+    let mut lent = [0.0; 54];
+    let mut book = Book::start(inputs(&[0.0], &[0.0]), &mut lent).unwrap();
+    while let Handed::Candidate(_) = book.next(&lent) {
+        answer(&mut book, &mut lent, 1.0);
+    }
+    let last = Progress { round: 1, rounds: 1, answered: 9, total: 9, answered_in_run: 10 };
+    assert_eq!(book.progress(), last);
+    // A run that never had a seed.
+    let none = Book::start(inputs(&[0.5], &[0.0]), &mut lent).unwrap().progress();
+    let zeros = Progress { round: 0, rounds: 1, answered: 0, total: 0, answered_in_run: 0 };
+    assert_eq!(none, zeros);
 }

@@ -134,5 +134,6 @@ fn print_tally(tally: &Tally) {
     let refused: Vec<String> = refused.map(|(n, times)| format!("{n}: {times}")).collect();
     println!("  refused, by number: {}", refused.join(", "));
     println!("  {} runs with a result, {} that ended without", tally.results[0], tally.results[1]);
+    println!("  calls after which a later round had so many seeds, from 0: {:?}", tally.later_totals);
     println!("  {} calls on records that no search can have made", tally.unsound);
 }

@@ -31,8 +31,8 @@
 //! # Ok::<(), Box<dyn std::error::Error>>(())
 //! ```
 //!
-//! [`Search::run_watched`] also shows each tried seed; [`Search::next`] and [`Search::answer`] are for a host with a loop of
-//! its own. Angles are in radians, pixels and focal lengths in pixels.
+//! [`Search::run_watched`] also shows each tried seed, with how far the search has come; [`Search::next`], [`Search::answer`] and
+//! [`Search::progress`] are for a host with a loop of its own. Angles are in radians, pixels and focal lengths in pixels.
 //!
 //! # What is assumed of the machine
 //!
@@ -57,6 +57,7 @@ pub use error::{
     AnswerError, ConicError, NextError, NormalizeError, PlateError, PointMapError, ResultError,
     RowsError, RunError, StartError, TiltError, TrigError,
 };
+pub use record::Progress;
 pub use search::{
     Finding, Handed, Inputs, Options, Outcome, Rows, Search, SkipReason, Solution, Tried,
 };

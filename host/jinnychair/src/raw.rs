@@ -6,7 +6,7 @@
 #![allow(unsafe_code)]
 
 use crate::geometry::{Conic, DistortedPoint, Jacobian};
-use crate::record::{Best, Inputs, Options, Place, Run, Waiting};
+use crate::record::{Best, Inputs, Options, Place, Progress, Run, Waiting};
 use crate::{
     BrownConrady5, Finding, FxFyCxCy, PinholeCamera, Pt2, Rows, ScheimpflugParams, Seed, TiltTrig,
     Winner,
@@ -154,6 +154,7 @@ laid_out! {
     NextReply: 416 { number: 0, over: 1, candidate: 8, run: 16 }
     AnswerReply: 416 { number: 0, skipped: 1, score: 8, run: 16 }
     ResultReply: 120 { number: 0, candidate: 8 }
+    Progress: 40 { round: 0, rounds: 8, answered: 16, total: 24, answered_in_run: 32 }
 }
 
 unsafe extern "C" {
@@ -248,6 +249,7 @@ unsafe extern "C" {
         list_len: usize,
     ) -> AnswerReply;
     safe fn jc_result(run: Run) -> ResultReply;
+    pub(crate) safe fn jc_progress(run: Run) -> Progress;
 }
 
 #[inline]
@@ -417,6 +419,7 @@ mod tests {
         safe fn jc_echo_next_flat(x: NextReply) -> NextReply;
         safe fn jc_echo_answer_flat(x: AnswerReply) -> AnswerReply;
         safe fn jc_echo_result_flat(x: ResultReply) -> ResultReply;
+        safe fn jc_echo_progress_reply(x: Progress) -> Progress;
     }
 
     /// Distinct numbers: no field can stand for another.
@@ -592,6 +595,9 @@ mod tests {
         assert_eq!(jc_echo_center_reply(x), x);
         let x = ResultReply { number: n.byte(), candidate: n.winner() };
         assert_eq!(jc_echo_result_flat(x), x);
+        let [round, rounds, answered, total, answered_in_run] = std::array::from_fn(|_| n.whole());
+        let x = Progress { round, rounds, answered, total, answered_in_run };
+        assert_eq!(jc_echo_progress_reply(x), x);
         let x = StartReply { number: n.byte(), run: n.run() };
         assert_eq!(jc_echo_start_flat(x), x);
         let n = &mut Count(0);

@@ -81,6 +81,24 @@ pub struct Run {
     pub run_best: Best,
 }
 
+/// How far a search has come, in numbers for a progress bar. The answer to a round's last seed opens the next round, so that
+/// these are then the next round's; once the search is over, they are the last round's.
+#[derive(Clone, Copy, Debug, Default, PartialEq, Eq)]
+#[repr(C)]
+pub struct Progress {
+    /// The current round.
+    pub round: usize,
+    /// How many rounds follow round 0.
+    pub rounds: usize,
+    /// How many seeds of the current round are answered.
+    pub answered: usize,
+    /// How many seeds the current round has. After round 0, with a step from 1e-11 to 1, these are exactly the tilts about x
+    /// times the tilts about y that lie within the bound.
+    pub total: usize,
+    /// How many seeds of the whole run are answered.
+    pub answered_in_run: usize,
+}
+
 /// What a run starts from.
 #[derive(Clone, Copy, Debug)]
 pub struct Inputs<'a> {
@@ -163,4 +181,10 @@ pub fn answer(run: &mut Run, finding: &Finding, list: &mut [f64]) -> Result<Outc
 pub fn result(run: &Run) -> Result<Winner, ResultError> {
     let reply = raw::result(*run);
     ResultError::check(reply.number).map(|()| reply.candidate)
+}
+
+/// How far the run has come. Of a record that no search can have made all numbers are 0.
+#[must_use]
+pub fn progress(run: &Run) -> Progress {
+    raw::jc_progress(*run)
 }

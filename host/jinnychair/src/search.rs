@@ -1,7 +1,7 @@
 //! A search that keeps its record and its list to itself.
 
 use crate::error::{numbered, part};
-use crate::record::{self, Run};
+use crate::record::{self, Progress, Run};
 use crate::{
     AnswerError, FxFyCxCy, NextError, PinholeCamera, Pt2, ResultError, RunError, Seed, StartError,
     Winner,
@@ -204,6 +204,8 @@ pub struct Tried<'a> {
     pub solution: Option<&'a Solution>,
     /// What became of it.
     pub outcome: Outcome,
+    /// How far the search had come when the seed was handed out; its own answer isn't counted.
+    pub progress: Progress,
 }
 
 /// A search that is under way.
@@ -282,11 +284,12 @@ impl Search {
                     Handed::Over => return Ok(self.result()?),
                 },
             };
-            let round = self.round();
+            let progress = self.progress();
             let solution = solve(&seed);
             let outcome =
                 self.answer(&solution.as_ref().map_or(Finding::Failed, Solution::finding))?;
-            watch(&Tried { number, round, seed, solution: solution.as_ref(), outcome });
+            let (round, solution) = (progress.round, solution.as_ref());
+            watch(&Tried { number, round, seed, solution, outcome, progress });
         }
     }
 
@@ -330,10 +333,10 @@ impl Search {
         self.run.place.round
     }
 
-    /// How many seeds the current round has.
+    /// How far the search has come.
     #[must_use]
-    pub fn round_len(&self) -> usize {
-        self.run.place.len
+    pub fn progress(&self) -> Progress {
+        record::progress(&self.run)
     }
 
     /// How many candidates are answered.

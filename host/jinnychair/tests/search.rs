@@ -52,6 +52,51 @@ fn run_and_a_loop_by_hand_end_alike() {
 }
 
 #[test]
+fn progress_is_exact_within_each_round() {
+    let mut options = Options::default();
+    (options.refine_rounds, options.max_abs_tilt) = (2, 0.16);
+    let mut search = search(&options);
+    let numbers = |p: Progress| [p.round, p.rounds, p.answered, p.total, p.answered_in_run];
+    assert_eq!(numbers(search.progress()), [0, 2, 0, 45, 0]);
+    let mut totals = vec![];
+    while let Handed::Candidate { number, .. } = search.next().unwrap() {
+        let before = search.progress();
+        assert_eq!(before.answered_in_run, number);
+        // The best tilt about x is at the bound.
+        let mut found = solution(&search.waiting().unwrap());
+        found.rows[2] = K.cx + 1.0 - search.waiting().unwrap().sensor.tilt_x;
+        let _ = search.answer(&found.finding()).unwrap();
+        if before.answered + 1 == before.total {
+            totals.push(before.total);
+        }
+    }
+    // From the bound there are two tilts about x, and three about y.
+    assert_eq!(totals, [45, 6, 6]);
+    assert_eq!(numbers(search.progress()), [2, 2, 6, 6, 57]);
+}
+
+#[test]
+fn who_watches_sees_the_progress_before_each_answer() {
+    let mut last = None;
+    let mut search = search(&one_axis());
+    search
+        .run_watched(
+            |seed| Some(solution(seed)),
+            |tried| {
+                let Progress { round, answered, total, answered_in_run, .. } = tried.progress;
+                assert_eq!((round, answered_in_run), (tried.round, tried.number));
+                assert_eq!(total, if round == 0 { 9 } else { 3 });
+                let expected =
+                    last.map_or((0, 0), |(r, a)| if r == round { (r, a + 1) } else { (r + 1, 0) });
+                assert_eq!((round, answered), expected);
+                last = Some(expected);
+            },
+        )
+        .unwrap();
+    assert_eq!(last, Some((2, 2)));
+}
+
+#[test]
 fn a_refused_solution_waits_for_another() {
     let mut search = search(&Options::default());
     let mut asked = 0;

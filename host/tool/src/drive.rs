@@ -2,7 +2,8 @@
 
 use crate::residuals::{rms, row_errors};
 use jinnychair::{
-    Inputs, Options, Outcome, PinholeCamera, RunError, Search, Seed, Solution, Winner, geometry,
+    Inputs, Options, Outcome, PinholeCamera, Progress, RunError, Search, Seed, Solution, Winner,
+    geometry,
 };
 
 /// A tried tilt.
@@ -66,8 +67,8 @@ pub struct Finished {
     pub winner: Result<Winner, RunError>,
 }
 
-/// Runs the search; `sources` says where each decomposition seed of the inputs comes from, and `progress` sees each
-/// tried tilt.
+/// Runs the search; `sources` says where each decomposition seed of the inputs comes from, and `watch` sees each tried
+/// tilt, with how far the search had come until then.
 ///
 /// # Errors
 ///
@@ -76,7 +77,7 @@ pub fn run(
     inputs: &Inputs,
     sources: &[Source],
     solve: impl FnMut(&Seed) -> Option<Solution>,
-    mut progress: impl FnMut(&Tried),
+    mut watch: impl FnMut(&Tried, &Progress),
 ) -> Result<Finished, String> {
     let mut search = Search::start(inputs).map_err(|e| format!("the search can't start: {e}"))?;
     let mut tried: Vec<Tried> = Vec::new();
@@ -86,9 +87,9 @@ pub fn run(
         let scored = one.solution.filter(|_| outcome.score().is_some());
         let scored = scored.map(|solution| fit_of(&seed, solution));
         let dots = one.solution.map(|solution| dots_of(&seed, solution));
-        let one = Tried { number, round, source, seed, outcome, scored, dots };
-        progress(&one);
-        tried.push(one);
+        let new = Tried { number, round, source, seed, outcome, scored, dots };
+        watch(&new, &one.progress);
+        tried.push(new);
     });
     Ok(Finished { tried, winner })
 }

@@ -13,6 +13,7 @@
 //! | [`pose`] | where the plate was |
 //! | [`solve`] | base camera, decomposition seed, and the solved camera of each tilt |
 //! | [`drive`] | runs the search and keeps every tried tilt |
+//! | [`progress`] | how far the search has come, and the time left |
 //! | [`residuals`] | the errors, dot by dot and view by view |
 //! | [`open`] | how far the winner's tilts are left open |
 //! | [`verdict`] | what speaks against the winner, and what to do |
@@ -32,6 +33,7 @@ pub mod linear;
 pub mod open;
 pub mod plan;
 pub mod pose;
+pub mod progress;
 pub mod report;
 pub mod residuals;
 pub mod screen;

@@ -22,7 +22,7 @@ fn options(rounds: usize) -> Options {
 fn search(options: &Options, solve: impl FnMut(&Seed) -> Option<Solution>) -> Finished {
     let center = Pt2 { x: K.cx, y: K.cy };
     let inputs = Inputs { views: 3, options, decomposition: &[], base: K, center };
-    run(&inputs, &[], solve, |_| ()).unwrap()
+    run(&inputs, &[], solve, |_, _| ()).unwrap()
 }
 
 /// The record of a search whose input has a name that XML and a table would take for their own.
@@ -150,7 +150,7 @@ fn chart_marks_seeds_and_tells_where_the_bound_is() {
     let inputs = Inputs { views: 3, options: &options, decomposition: &given, base: K, center };
     let sources = [Source::Decomposition, Source::SeedFile];
     let finished =
-        run(&inputs, &sources, |seed| Some(off_by(K, near(seed, -0.03))), |_| ()).unwrap();
+        run(&inputs, &sources, |seed| Some(off_by(K, near(seed, -0.03))), |_, _| ()).unwrap();
     let found: Vec<_> = finished.tried.iter().map(|one| one.source).collect();
     assert_eq!(found[..3], [Source::Decomposition, Source::SeedFile, Source::Grid]);
     let number = best(finished.tried.iter().filter(|one| one.round == 1)).unwrap().number;

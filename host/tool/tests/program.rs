@@ -237,6 +237,24 @@ fn numbers_that_people_ask_for_first_are_shown() {
 }
 
 #[test]
+fn progress_is_told_round_by_round_where_no_terminal_is() {
+    let here = folder("progress");
+    let told = said(&here, &small(&[]), 0);
+    assert!(
+        told.contains("\nround 0 of 5: 7 of 7 tried, best score 0.07335 at -1.1942°"),
+        "{told}"
+    );
+    assert!(
+        told.contains("\nround 5 of 5: 9 of 9 tried, best score 0.07335 at -1.1942° -0.3977°\n")
+    );
+    assert!(!told.contains('\r') && told.matches("\nround ").count() == 6, "{told}");
+    // The bound leaves two tilts of three.
+    let words = ["search", "--one-axis", "--tilts-x=-1deg", "--bound=1.1deg", "--step=0.5deg"];
+    let words = [&words[..], &["--rounds=1", "--no-decomposition"]].concat();
+    assert_said(&here, &words, 3, &["\nround 0 of 1: 1 of 1", "\nround 1 of 1: 2 of 2 tried"]);
+}
+
+#[test]
 fn a_centre_is_demanded_or_guessed_aloud() {
     let here = folder("centre");
     let text = BUILT_IN

@@ -58,7 +58,7 @@ fn search_with(host: &Host, options: &Options, decomposition: &[Seed]) -> Winner
     let base = host.base().unwrap();
     let (views, center) = (host.plate().views.len(), host.observed_centre());
     let inputs = Inputs { views, options, decomposition, base, center };
-    run(&inputs, &[], |seed| host.solve(seed), |_| ()).unwrap().winner.unwrap()
+    run(&inputs, &[], |seed| host.solve(seed), |_, _| ()).unwrap().winner.unwrap()
 }
 
 fn each_axis() -> impl Iterator<Item = ScheimpflugParams> {
@@ -72,7 +72,7 @@ fn scripted_host_finds_small_negative_tilts() {
         let center = Pt2 { x: SCRIPTED.cx, y: SCRIPTED.cy };
         let inputs =
             Inputs { views: 3, options: &options, decomposition: &[], base: SCRIPTED, center };
-        let finished = run(&inputs, &[], |seed| Some(scripted(seed, planted)), |_| ()).unwrap();
+        let finished = run(&inputs, &[], |seed| Some(scripted(seed, planted)), |_, _| ()).unwrap();
         assert_found(&finished.winner.unwrap(), planted, &options);
     }
 }

@@ -6,12 +6,13 @@ use crate::angle::degrees;
 use crate::chart::{self, chart};
 use crate::choices::{Choices, parse_seeds};
 use crate::date::now;
-use crate::drive::{self, Finished, Source, Tried};
+use crate::drive::{self, Finished, Source};
 use crate::files::{check_free, read, with_ending, write};
 use crate::open::Open;
 use crate::plan::Plan;
+use crate::progress::Bar;
 use crate::report;
-use crate::screen::{Screen, aside};
+use crate::screen::Screen;
 use crate::solve::Host;
 use crate::synthetic::BUILT_IN;
 use crate::table::{self, Record};
@@ -175,10 +176,14 @@ impl Case {
             base: self.base,
             center,
         };
-        let mut progress = Progress::default();
-        let finished =
-            drive::run(&inputs, &sources, |seed| self.host.solve(seed), |one| progress.show(one))?;
-        progress.end();
+        let mut bar = Bar::new(&self.options, std::io::stderr().is_terminal());
+        let finished = drive::run(
+            &inputs,
+            &sources,
+            |seed| self.host.solve(seed),
+            |one, before| bar.show(one, before),
+        )?;
+        bar.end(finished.tried.len());
         Ok(finished)
     }
 
@@ -342,39 +347,4 @@ fn seeds(
         seeds.extend(parse_seeds(&read(path)?, base, options).map_err(fault)?);
     }
     Ok(seeds)
-}
-
-/// A line for each round, and on a terminal one that counts along.
-#[derive(Default)]
-struct Progress {
-    round: usize,
-    tried: usize,
-    best: Option<(f64, [f64; 2])>,
-}
-
-impl Progress {
-    fn show(&mut self, one: &Tried) {
-        if one.round > self.round {
-            self.end();
-            (self.round, self.tried) = (one.round, 0);
-        }
-        self.tried += 1;
-        let sensor = one.seed.sensor;
-        if let Some(score) =
-            one.outcome.score().filter(|score| self.best.is_none_or(|best| *score < best.0))
-        {
-            self.best = Some((score, [sensor.tilt_x.to_degrees(), sensor.tilt_y.to_degrees()]));
-        }
-        if std::io::stderr().is_terminal() {
-            aside(&format!("\rround {}: {} tried", self.round, self.tried));
-        }
-    }
-
-    fn end(&self) {
-        let start = if std::io::stderr().is_terminal() { "\r" } else { "" };
-        let best = self.best.map_or("nothing scored yet".into(), |(score, [x, y])| {
-            format!("best score {score:.5} at {x:+.4}° {y:+.4}°")
-        });
-        aside(&format!("{start}round {}: {} tried, {best}\n", self.round, self.tried));
-    }
 }
