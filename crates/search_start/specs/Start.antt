@@ -56,7 +56,7 @@ openingOf options center demand n = record {
   «run_best» = noBest;
 }
 
--- 01, 'Start', and 02, E1, in their order: the refusals that need only the options and the lengths of the lists, and then the others
+-- 01, 'Start', and 02, E1 and E11, in their order: the refusals that need only the options and the lengths of the lists, and then the others
 abbrev pub optionsChecks : ℕ → Options → ℕ → ℕ → ℕ → List Check
 optionsChecks views options x y d =
     (1 when ltb views 3)
@@ -77,6 +77,7 @@ module _ (views : ℕ) (options : Options) (xs ys decomposition : List Float) wh
       ∷ (7 when not (every isFinite xs && every isFinite ys))
       ∷ (8 when ltb n startDemand)
       ∷ (27 when lt half₆₄ (options .«max_abs_tilt»))
+      ∷ (33 when ltb 100 (options .«min_counted»))
       ∷ []
 
   abbrev pub startChecks : ℕ → List Check

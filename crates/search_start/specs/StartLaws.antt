@@ -1,4 +1,4 @@
--- What Start can rely on where none of its refusals holds: sizes within their limits, good seeds, a list that is long enough, a bound of at most 0.5. Assumes nothing.
+-- What Start can rely on where none of its refusals holds: sizes within their limits, good seeds, a list that is long enough, a bound of at most 0.5, a share of at most 100. Assumes nothing.
 use Prim.Native.Nat.{ℕ, _+_, _*_, _/_, _≤_}
 use mathlib.Core.Path.{_≡_, refl, sym, _∙_}
 use mathlib.Core.Bool.{Bool, true, false, not, _&&_, _||_, cond}
@@ -88,6 +88,7 @@ pub record Passed (views : ℕ) (options : Options) (xs ys decomposition : List 
   pub good-seeds : every (goodSeed (options .«max_abs_tilt»)) (allSeeds decomposition) ≡ true
   pub demand-fits : startDemand views options xs ys decomposition ≤ n
   pub bound-small : lt half₆₄ (options .«max_abs_tilt») ≡ false
+  pub share-most : options .«min_counted» ≤ 100
 
 pub start-passed : (views : ℕ) (options : Options) (xs ys decomposition : List Float) (n : ℕ)
     → startRefusal views options xs ys decomposition n ≡ 0 → Passed views options xs ys decomposition n
@@ -96,5 +97,12 @@ start-passed views options xs ys decomposition n h =
     let h6 = refuses-none (not (every (goodSeed (options .«max_abs_tilt»)) (allSeeds decomposition))) 6 _ (omega arith) (p .1) in
     let h7 = refuses-none (not (every isFinite xs && every isFinite ys)) 7 _ (omega arith) (h6 .1) .1 in
     let h8 = refuses-none (ltb n (startDemand views options xs ys decomposition)) 8 _ (omega arith) h7 in
-    let h9 = refuses-none (lt half₆₄ (options .«max_abs_tilt»)) 27 _ (omega arith) (h8 .1) .0 in
-    record { sizes = sizes-fit views options xs ys decomposition n _ refl (p .0); good-seeds = not-false _ (h6 .0); demand-fits = ltb-false n _ (h8 .0); bound-small = h9 }
+    let h9 = refuses-none (lt half₆₄ (options .«max_abs_tilt»)) 27 _ (omega arith) (h8 .1) in
+    let h10 = refuses-none (ltb 100 (options .«min_counted»)) 33 _ (omega arith) (h9 .1) .0 in
+    record {
+      sizes = sizes-fit views options xs ys decomposition n _ refl (p .0);
+      good-seeds = not-false _ (h6 .0);
+      demand-fits = ltb-false n _ (h8 .0);
+      bound-small = h9 .0;
+      share-most = ltb-false 100 _ h10;
+    }

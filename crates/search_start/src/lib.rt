@@ -143,6 +143,9 @@ fn start_refusal(
     if 0.5 < options.max_abs_tilt {
         return 27;
     }
+    if 100 < options.min_counted {
+        return 33;
+    }
     0
 }
 

@@ -1,7 +1,10 @@
 -- `search_start::start_refusal` meets its contract: the refusals of the options, and then each answer with the tests that led to it. Assumes nothing.
-use mathlib.Core.Path.{sym, _∙_}
+use mathlib.Core.Path.{_≡_, sym, _∙_}
+use mathlib.Core.Bool.{cond}
 use borrow.Author.Needs.{needs}
 use borrow.Author.Tests.{lt-ltb, le-ltb, not-true, not-false}
+use lib.Dec.{ltb}
+use Rattle.search_start.specs.Start.{startRefusal}
 use Rattle.search_start.specs.StartLaws.{options-refused, options-passed, sizes-fit}
 use Rattle.search_start.proofs.start_refusal.Statement.{statement}
 use Rattle.search_start.proofs.start_refusal.Tie as tie
@@ -70,11 +73,12 @@ returns-5 c =
       c .if5 .taken,
     ))
 
-returns-6 : tie.Need-returns-6
-returns-6 c =
+-- where the bound is small only the share is left
+bounded : (c : tie.Else5) → let a = c .before .before .before .before .before .before .before .before .before .before .before .before .before .before .args in
+    startRefusal (a .views) (a .options) (a .tilt-x-seeds .now) (a .tilt-y-seeds .now) (a .decomposition .now) (a .list-len) ≡ cond (ltb 100 (a .options .«min_counted»)) 33 0
+bounded c =
     let a = c .before .before .before .before .before .before .before .before .before .before .before .before .before .before .args in
-    sym
-    (options-passed (a .views) (a .options) (a .tilt-x-seeds .now) (a .tilt-y-seeds .now) (a .decomposition .now) (a .list-len) _ (c .before .before .before .before .before .before .before .before .before .before .options-refusal .ensures) (c .before .before .before .before .before .before .before .before .before .if1 .left)
+    options-passed (a .views) (a .options) (a .tilt-x-seeds .now) (a .tilt-y-seeds .now) (a .decomposition .now) (a .list-len) _ (c .before .before .before .before .before .before .before .before .before .before .options-refusal .ensures) (c .before .before .before .before .before .before .before .before .before .if1 .left)
     ∙ rw (
       sym (c .before .before .before .before .before .before .before .before .all-good-seeds .ensures) ∙ not-false _ (c .before .before .before .before .before .before .before .if2 .left),
       sym (c .before .before .before .before .before .before .all-finite .ensures),
@@ -83,7 +87,13 @@ returns-6 c =
       sym (c .before .before .before .demand-of .ensures),
       le-ltb _ _ (c .before .before .if4 .left),
       c .if5 .left,
-    ))
+    )
+
+returns-6 : tie.Need-returns-6
+returns-6 c = sym (bounded (c .before .before) ∙ rw (lt-ltb _ _ (c .if6 .taken)))
+
+returns-7 : tie.Need-returns-7
+returns-7 c = sym (bounded (c .before .before) ∙ rw (le-ltb _ _ (c .if6 .left)))
 
 pub start-refusal-spec : {M : Type 1} → statement M
 start-refusal-spec =
@@ -99,4 +109,5 @@ start-refusal-spec =
     demand-of-requires
     returns-4
     returns-5
-    returns-6)
+    returns-6
+    returns-7)
