@@ -172,7 +172,7 @@ start-decided i n =
                   refl,
                   omega arith,
                   not-both (every isFinite (i .xs)) (every isFinite (i .ys)) (some-fails isFinite NotFinite (λ x. fails-of (isFinite x)) (i .xs)) (some-fails isFinite NotFinite (λ x. fails-of (isFinite x)) (i .ys)),
-                  (refl, omega arith, n-below i n, (refl, omega arith, holds-of (lt half₆₄ (i .max)), tt)),
+                  (refl, omega arith, n-below i n, (refl, omega arith, holds-of (lt half₆₄ (i .max)), (refl, omega arith, below 100 (i .share), tt))),
                 ),
               ),
             ),

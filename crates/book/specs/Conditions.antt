@@ -52,7 +52,7 @@ BadSeed max s =
     (((((NotPositive (k .fx) ⊎ NotPositive (k .fy)) ⊎ NotFinite (k .cx)) ⊎ NotFinite (k .cy)) ⊎ NotFinite (t .«tilt_x»)) ⊎ NotFinite (t .«tilt_y»))
     ⊎ (Beyond max (t .«tilt_x») ⊎ Beyond max (t .«tilt_y»))
 
--- ---- 01, 'Start', where n numbers are lent, and then 02, E1: a bound above 0.5
+-- ---- 01, 'Start', where n numbers are lent, and then 02: E1, a bound above 0.5; E11, a share above 100 per cent
 abbrev pub conditions : Inputs → ℕ → List Condition
 conditions i n =
     (1 provided (i .views < 3))
@@ -64,4 +64,5 @@ conditions i n =
     ∷ (7 provided (Some NotFinite (i .xs) ⊎ Some NotFinite (i .ys)))
     ∷ (8 provided (n < demand i))
     ∷ (27 provided (lt half₆₄ (i .max) ≡ true))
+    ∷ (33 provided (100 < i .share))
     ∷ []

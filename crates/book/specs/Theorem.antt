@@ -42,7 +42,7 @@ use Rattle.book.specs.Lent.{Lent, through, accepted, stillLeft, Turn, Al
 
 -- ---- Start, on the book's inputs and a lent list
 abbrev pub optionsOf : Inputs → Options
-optionsOf i = record { «refine_rounds» = i .rounds; «refine_step» = i .step; «max_abs_tilt» = i .max }
+optionsOf i = record { «refine_rounds» = i .rounds; «refine_step» = i .step; «max_abs_tilt» = i .max; «min_counted» = i .share }
 
 abbrev pub startOf : Inputs → List Float → Started
 startOf i l = startReply (i .views) (optionsOf i) (i .xs) (i .ys) (i .decomposition) (i .base) (i .center) l
