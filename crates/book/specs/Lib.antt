@@ -5,4 +5,5 @@ pub mod Conditions
 pub mod Trace
 pub mod Named
 pub mod Lent
+pub mod Share
 pub mod Theorem

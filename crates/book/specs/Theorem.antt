@@ -38,6 +38,7 @@ use Rattle.book.specs.Conditions.{FirstHolds, NoneHolds, conditions}
 use Rattle.book.specs.Walk.{walk}
 use Rattle.book.specs.Trace.{Handing, handed, answers, runAfter, listAfter}
 use Rattle.book.specs.Named.{outcomesIn, handings}
+use Rattle.book.specs.Share.{AnsweredBy}
 use Rattle.book.specs.Lent.{Lent, through, accepted, stillLeft, Turn, AllTaken, turns}
 
 -- ---- Start, on the book's inputs and a lent list
@@ -105,6 +106,8 @@ pub record Follows (i : Inputs) (r : Run) (l : List Float) (cs : List Call) : Ty
   -- before, each once, in order, numbered on from 0; and the result is the earliest candidate with the lowest score, within 01's bounds.
   pub handed-out : (w : Candidate) → resultDef (runAfter r l cs) ≡ Result w → handed r l cs ≡ handings i (outcomesIn (answers r l cs)) (suc (i .rounds))
   pub wins : (w : Candidate) → resultDef (runAfter r l cs) ≡ Result w → Wins i (answers r l cs) w
+  -- and its mean rests on the share of the rows of its own answer, in whole numbers
+  pub rests : (w : Candidate) → resultDef (runAfter r l cs) ≡ Result w → AnsweredBy (i .share) r l cs w
   -- If the run is over, with a result or with 11: every pair of typed tilts within ±max_abs_tilt was tried.
   pub every-tilt : Over (runAfter r l cs) → (x y : Float) → List·Memᴰ x (i .xs) → List·Memᴰ y (i .ys)
       → le (neg (i .max)) x ≡ true → le x (i .max) ≡ true → le (neg (i .max)) y ≡ true → le y (i .max) ≡ true
