@@ -156,6 +156,7 @@ pub fn no_run() -> RunRecord
             refine_rounds: 0,
             refine_step: 0.0,
             max_abs_tilt: 0.0,
+            min_counted: 0,
         },
         center: Pt2 { x: 0.0, y: 0.0 },
         place: PlaceRecord {
