@@ -22,6 +22,7 @@ wholeInputs = record {
   rounds = 2;
   step = bits 0x3fc0_0000_0000_0000;
   max = quarter;
+  share = 0;
   xs = quarter ∷ half ∷ [];
   ys = f0 ∷ [];
   decomposition = f100 ∷ f100 ∷ f50 ∷ f50 ∷ f0 ∷ f0 ∷ f100 ∷ f100 ∷ f50 ∷ f50 ∷ f0 ∷ f0 ∷ [];
