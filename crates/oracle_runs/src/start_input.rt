@@ -11,13 +11,14 @@ use oracle_leaves::structs::point_at;
 use search_record::run::Options;
 use search_start::Started;
 
-// The stored searches are about two axes.
+// The stored searches are about two axes, and ask for no share of counted rows, as the Rust.
 fn options_of(x: &[f64], at: usize) -> Options {
     Options {
         refine_rounds: whole_at(x, at),
         refine_step: number_at(x, plus(at, 1)),
         max_abs_tilt: number_at(x, plus(at, 2)),
         one_axis: false,
+        min_counted: 0,
     }
 }
 
