@@ -37,6 +37,7 @@ use Rattle.book.proofs.RunOf.{runOf}
 -- ---- what stays true of the record
 -- of its numbers
 pub record Sizes (i : Inputs) (r : Run) : Type 0 where
+  pub small-share : r .options .«min_counted» ≤ 100
   pub few-rounds : r .options .«refine_rounds» ≤ 16
   pub in-rounds : r .place .round ≤ r .options .«refine_rounds»
   pub demand-is : r .place .demand ≡ demand i
@@ -61,6 +62,7 @@ lasts-sound i r h =
     let l = s .least in
     let q = s .list-fits in
     simp (
+      le-leb (r .options .«min_counted») 100 (s .small-share),
       le-leb (r .options .«refine_rounds») 16 (s .few-rounds),
       le-leb (r .place .round) (r .options .«refine_rounds») (s .in-rounds),
       le-leb (r .place .number) 656 (omega arith),
@@ -77,7 +79,7 @@ unfolding awaiting
 await-lasts i r s o h = record { sizes = same (h .sizes); room = h .room; calm = λ e. absurd (true≢false (sym e ∙ o)) }
   where
     same : Sizes i r → Sizes i (awaiting r s)
-    same z = unfold awaiting in record { few-rounds = z .few-rounds; in-rounds = z .in-rounds; demand-is = z .demand-is; least = z .least; most = z .most; list-fits = z .list-fits; few = z .few }
+    same z = unfold awaiting in record { small-share = z .small-share; few-rounds = z .few-rounds; in-rounds = z .in-rounds; demand-is = z .demand-is; least = z .least; most = z .most; list-fits = z .list-fits; few = z .few }
 
 -- Next keeps the run as it is, or has a seed wait
 next-by : (P : Run → Type 0) (r : Run) (l : List Float) → P r → ((s : CandidateSeed) → r .place .over ≡ false → P (awaiting r s)) → P (nextDef r l .run)
@@ -120,7 +122,7 @@ end-follows i r f = record {
 }
   where
     same : Sizes i r → Sizes i (ended r)
-    same z = unfold ended in record { few-rounds = z .few-rounds; in-rounds = z .in-rounds; demand-is = z .demand-is; least = z .least; most = z .most; list-fits = z .list-fits; few = z .few }
+    same z = unfold ended in record { small-share = z .small-share; few-rounds = z .few-rounds; in-rounds = z .in-rounds; demand-is = z .demand-is; least = z .least; most = z .most; list-fits = z .list-fits; few = z .few }
 
 open-sizes : (i : Inputs) (r : Run) (n : ℕ) → n ≤ 9 → r .place .round < r .options .«refine_rounds» → Full i r → Sizes i (roundOpened r n)
 unfolding roundOpened
@@ -129,7 +131,7 @@ open-sizes i r n h k f =
     let e = f .answered in
     let p = z .few in
     let q = z .least in
-    record { few-rounds = z .few-rounds; in-rounds = omega arith; demand-is = z .demand-is; least = z .least; most = z .most; list-fits = omega arith; few = omega arith }
+    record { small-share = z .small-share; few-rounds = z .few-rounds; in-rounds = omega arith; demand-is = z .demand-is; least = z .least; most = z .most; list-fits = omega arith; few = omega arith }
 
 open-follows : (i : Inputs) (r : Run) (n : ℕ) → 0 < n → n ≤ 9 → r .place .round < r .options .«refine_rounds» → Full i r → Follows i r (roundOpened r n)
 open-follows i r n p h k f = record { lasts = record { sizes = open-sizes i r n h k f; room = room r n p; calm = calm r n (f .calm) }; same-number = number r n; no-more = less r n h k }
@@ -201,7 +203,7 @@ enter-sizes : (i : Inputs) (r : Run) (o : Outcome) → r .place .at < r .place .
 unfolding entered
 enter-sizes i r o h z =
     let p = z .few in
-    record { few-rounds = z .few-rounds; in-rounds = z .in-rounds; demand-is = z .demand-is; least = z .least; most = z .most; list-fits = z .list-fits; few = omega arith }
+    record { small-share = z .small-share; few-rounds = z .few-rounds; in-rounds = z .in-rounds; demand-is = z .demand-is; least = z .least; most = z .most; list-fits = z .list-fits; few = omega arith }
 
 module _ (r : Run) (o : Outcome) where
   enter-calm : entered r o .waiting .«is_waiting» ≡ false
@@ -256,7 +258,7 @@ module _ (i : Inputs) (r : Run) (h : Lasts i r) (l : List Float) (f : Finding) (
   unfolding ans.answerDef
   answer-counts z =
       let p = answer-passed r (length l) f rows flags z in
-      simp (eq-eqb (ans.answerRefusal r (length l) f rows flags) 0 z) (enter-answers i r l (outcomeOf f (r .waiting .seed .sensor) (r .center) rows flags) h (waits-open i r h (p .waits)))
+      simp (eq-eqb (ans.answerRefusal r (length l) f rows flags) 0 z) (enter-answers i r l (outcomeOf (r .options .«min_counted») f (r .waiting .seed .sensor) (r .center) rows flags) h (waits-open i r h (p .waits)))
 
   answer-stays : eqb (ans.answerRefusal r (length l) f rows flags) 0 ≡ false → ans.answerDef r f rows flags l .reply .run ≡ r
   unfolding ans.answerDef
@@ -352,7 +354,7 @@ opened-lasts i g = record { sizes = sizes i (g .core); room = g .room; calm = λ
         let z = h .sized in
         let c = h .few in
         let r = z .few-rounds in
-        record { few-rounds = z .few-rounds; in-rounds = h .in-rounds; demand-is = refl; least = z .least; most = z .most; list-fits = h .fits; few = omega arith }
+        record { small-share = z .small-share; few-rounds = z .few-rounds; in-rounds = h .in-rounds; demand-is = refl; least = z .least; most = z .most; list-fits = h .fits; few = omega arith }
 
 pub run-ends : (i : Inputs) (r : Run) (cs : List Lent) → Lasts i r → r .place .number ≡ 0 → Ends i r cs (through r cs)
 unfolding findingRefusal

@@ -64,6 +64,7 @@ pub record Sized (i : Inputs) : Type 0 where
   pub most : demand i ≤ 3072
   pub finite-bound : isFinite (i .max) ≡ true
   pub small-bound : lt half₆₄ (i .max) ≡ false
+  pub small-share : i .share ≤ 100
 
 -- of a book, also between an answer and the round that it ends
 pub record Core (b : Book) : Type 0 where

@@ -97,7 +97,7 @@ hands-agree i b l (answer n f rows flags) g =
     (λ w. case (ltb n (demand (b .inputs)))
     (λ s. simp (w, s) q)
     (λ s. case (eqb (findingRefusal f (current b .sensor) rows flags) 0)
-    (λ z. simp (w, s, z) (q ∙ enter-handed b (outcomeOf f (current b .sensor) (b .inputs .center) rows flags) w))
+    (λ z. simp (w, s, z) (q ∙ enter-handed b (outcomeOf (b .inputs .share) f (current b .sensor) (b .inputs .center) rows flags) w))
     (λ z. simp (w, s, z) q)))
     (λ w. simp w q)
 hands-agree i b l ask f = let z = append-nil (handedIn b) in case (b .over) (λ o. case-chosen (runBest b) (λ e. simp (o, e) z) (λ v e. simp (o, e) z)) (λ o. simp o z)

@@ -15,6 +15,7 @@ pub mod Winner
 pub mod Refusals
 pub mod Starts
 pub mod Walks
+pub mod Share
 pub mod Opening
 pub mod Ending
 pub mod Tilts

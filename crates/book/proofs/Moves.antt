@@ -31,11 +31,11 @@ abbrev pub Stands : Inputs → ScheimpflugParams → Outcome → Type 0
 Stands i t (Skipped n) = (1 ≤ n) × (n ≤ 4)
 Stands i t (Scored s) = ScoredFacts t (i .center) s
 
-pub outcome-stands : (i : Inputs) (f : Finding) (t : ScheimpflugParams) (rows : List Float) (flags : List ℕ) → Stands i t (outcomeOf f t (i .center) rows flags)
+pub outcome-stands : (i : Inputs) (f : Finding) (t : ScheimpflugParams) (rows : List Float) (flags : List ℕ) → Stands i t (outcomeOf (i .share) f t (i .center) rows flags)
 outcome-stands i f t rows flags =
-    case-outcome (outcomeOf f t (i .center) rows flags)
-    (λ n e. rw e (skipped-reason f t (i .center) rows flags n e))
-    (λ g e. rw e (scored-facts f t (i .center) rows flags g e))
+    case-outcome (outcomeOf (i .share) f t (i .center) rows flags)
+    (λ n e. rw e (skipped-reason (i .share) f t (i .center) rows flags n e))
+    (λ g e. rw e (scored-facts (i .share) f t (i .center) rows flags g e))
 
 -- ---- the end of a round, k further ones asked for: what holds before it, P, gives what holds of the book after it, Q
 pub record Closing (P : ℕ → Book → Type 0) (Q : Book → Type 0) : Type 0 where
@@ -99,7 +99,7 @@ unfoldable pub enteredBy : Book → Call → List Entry
 enteredBy b (next n) = []
 enteredBy b (seed n) = []
 enteredBy b (answer n f rows flags) =
-    cond (b .waits && (not (ltb n (demand (b .inputs))) && eqb (findingRefusal f (current b .sensor) rows flags) 0)) (entry b (outcomeOf f (current b .sensor) (b .inputs .center) rows flags) ∷ []) []
+    cond (b .waits && (not (ltb n (demand (b .inputs))) && eqb (findingRefusal f (current b .sensor) rows flags) 0)) (entry b (outcomeOf (b .inputs .share) f (current b .sensor) (b .inputs .center) rows flags) ∷ []) []
 enteredBy b ask = []
 enteredBy b progress = []
 
@@ -122,7 +122,7 @@ moves b (answer n f rows flags) =
     (λ w. case (ltb n (demand (b .inputs)))
     (λ s. simp (w, s) (stays refl (simp (w, s))))
     (λ s. case (eqb (findingRefusal f (current b .sensor) rows flags) 0)
-    (λ z. simp (w, s, z) (enters (outcomeOf f (current b .sensor) (b .inputs .center) rows flags) w (outcome-stands (b .inputs) f (current b .sensor) rows flags) refl (simp (w, s, z))))
+    (λ z. simp (w, s, z) (enters (outcomeOf (b .inputs .share) f (current b .sensor) (b .inputs .center) rows flags) w (outcome-stands (b .inputs) f (current b .sensor) rows flags) refl (simp (w, s, z))))
     (λ z. simp (w, s, z) (stays refl (simp (w, s, z))))))
     (λ w. simp w (stays refl (simp w)))
 moves b ask = case (b .over) (λ o. case-chosen (runBest b) (λ e. simp (o, e) (stays refl refl)) (λ v e. simp (o, e) (stays refl refl))) (λ o. simp o (stays refl refl))

@@ -153,7 +153,7 @@ module _ (i : Inputs) (l : List Float) (z : refusal i l ≡ 0) where
   opened-core : Core (opened i)
   unfolding opened
   opened-core = record {
-    sized = record { few-rounds = start-facts .sizes .rounds-max; least = demand-least .0; most = demand-most; finite-bound = finite-max; small-bound = start-facts .bound-small };
+    sized = record { few-rounds = start-facts .sizes .rounds-max; least = demand-least .0; most = demand-most; finite-bound = finite-max; small-bound = start-facts .bound-small; small-share = start-facts .share-most };
     in-rounds = omega arith;
     few = let p = list-length in let q = few-seeds in omega arith;
     fits = let p = list-length in let q = demand-least .1 in omega arith;

@@ -158,11 +158,11 @@ tilted : (s : CandidateSeed) → Decides (not (untiltedSeed s)) (TiltedY s)
 unfolding untiltedY
 tilted s = fails-of (eq (s .sensor .«tilt_y») plusZero)
 
-one-axis-decided : (i : Inputs)
+options-decided : (i : Inputs)
     → Decide
-    ((31 when (i .one-axis && not (onlyZero (i .ys)))) ∷ (32 when (i .one-axis && not (every untiltedSeed (allSeeds (i .decomposition))))) ∷ [])
-    ((31 provided ((i .one-axis ≡ true) × (OnlyZero (i .ys) → ⊥))) ∷ (32 provided ((i .one-axis ≡ true) × Some TiltedY (allSeeds (i .decomposition)))) ∷ [])
-one-axis-decided i =
+    ((31 when (i .one-axis && not (onlyZero (i .ys)))) ∷ (32 when (i .one-axis && not (every untiltedSeed (allSeeds (i .decomposition))))) ∷ (33 when ltb 100 (i .share)) ∷ [])
+    ((31 provided ((i .one-axis ≡ true) × (OnlyZero (i .ys) → ⊥))) ∷ (32 provided ((i .one-axis ≡ true) × Some TiltedY (allSeeds (i .decomposition)))) ∷ (33 provided (100 < i .share)) ∷ [])
+options-decided i =
     let axis = holds-of (i .one-axis) in (
       refl,
       omega arith,
@@ -171,7 +171,7 @@ one-axis-decided i =
         refl,
         omega arith,
         both (i .one-axis) (not (every untiltedSeed (allSeeds (i .decomposition)))) axis (some-fails untiltedSeed TiltedY tilted (allSeeds (i .decomposition))),
-        tt,
+        (refl, omega arith, below 100 (i .share), tt),
       ),
     )
 
@@ -205,7 +205,7 @@ start-decided i n =
                   refl,
                   omega arith,
                   not-both (every isFinite (i .xs)) (every isFinite (i .ys)) (some-fails isFinite NotFinite (λ x. fails-of (isFinite x)) (i .xs)) (some-fails isFinite NotFinite (λ x. fails-of (isFinite x)) (i .ys)),
-                  (refl, omega arith, n-below i n, (refl, omega arith, holds-of (lt half₆₄ (i .max)), one-axis-decided i)),
+                  (refl, omega arith, n-below i n, (refl, omega arith, holds-of (lt half₆₄ (i .max)), options-decided i)),
                 ),
               ),
             ),

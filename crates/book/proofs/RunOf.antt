@@ -26,7 +26,7 @@ unfoldable pub runOf : Book → Run
 runOf b =
     let i = b .inputs in
     record {
-      options = record { «refine_rounds» = i .rounds; «refine_step» = i .step; «max_abs_tilt» = i .max; «one_axis» = i .one-axis };
+      options = record { «refine_rounds» = i .rounds; «refine_step» = i .step; «max_abs_tilt» = i .max; «one_axis» = i .one-axis; «min_counted» = i .share };
       center = i .center;
       place = record { demand = demand i; round = b .round; step = stepOf (b .round) (i .step); len = length (b .list); at = length (b .answered); number = number b; over = b .over };
       waiting = waitingOf (b .waits) (current b);
@@ -93,6 +93,10 @@ module _ (b : Book) where
   unfolding runOf
   run-one-axis = refl
 
+  pub run-share : runOf b .options .«min_counted» ≡ b .inputs .share
+  unfolding runOf
+  run-share = refl
+
 pub is-waiting : (x : Bool) (s : CandidateSeed) → waitingOf x s .«is_waiting» ≡ x
 is-waiting true s = refl
 is-waiting false s = refl
@@ -102,7 +106,7 @@ unfolding noBest
 is-found nothing = refl
 is-found (chosen w) = refl
 
-pub ruleset run-fields = (run-demand, run-over, run-len, run-at, run-number, run-round, run-rounds, run-center, run-waiting, run-max, run-one-axis, is-waiting)
+pub ruleset run-fields = (run-demand, run-over, run-len, run-at, run-number, run-round, run-rounds, run-center, run-waiting, run-max, run-one-axis, run-share, is-waiting)
 
 pub ruleset run-bests = (run-round-best, run-run-best, is-found)
 
@@ -126,6 +130,7 @@ module _ (i : Inputs) (b : Book) (g : Good i b) where
       let m = z .most in
       simp (
         run-fields,
+        le-leb (b .inputs .share) 100 (z .small-share),
         le-leb (b .inputs .rounds) 16 (z .few-rounds),
         le-leb (b .round) (b .inputs .rounds) (h .in-rounds),
         le-leb (number b) 656 count-bound,

@@ -319,7 +319,7 @@ answer-agrees i b l n f rows flags g =
     (λ s. simp (run-fields, t, w, d, s) (refused-agrees b l n 10 (g .there)))
     (λ s. case (eqb (findingRefusal f (current b .sensor) rows flags) 0)
     (λ z.
-    let o = outcomeOf f (current b .sensor) (b .inputs .center) rows flags in
+    let o = outcomeOf (b .inputs .share) f (current b .sensor) (b .inputs .center) rows flags in
     let e = enter-agrees b o (take n l) w (lend (demand (b .inputs)) (b .list) l n (g .there) (ltb-false n (demand (b .inputs)) s)) (g .good .core .sized .least) in
     simp (run-fields, t, w, d, s, z) (record { reply = reply-is o; run = e .run; there = give-back _ (bookEnter b o .list) (ans.enterDef (runOf b) (take n l) o .list) (drop n l) (e .there) }))
     (λ z. simp (run-fields, t, w, d, s, z) (refused-agrees b l n (findingRefusal f (current b .sensor) rows flags) (g .there)))))

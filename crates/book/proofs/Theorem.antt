@@ -4,7 +4,7 @@ use native.Mathlib.Omega.{arith}
 use mathlib.Core.Path.{_≡_, refl, ap, subst, _∙_}
 use mathlib.Core.Logic.{_⊎_, ⊎-elim}
 use mathlib.Core.Bool.{true, false}
-use mathlib.Core.List.{List, map, _++_, append-assoc, append-nil, map-append}
+use mathlib.Core.List.{List, map, _++_, append-assoc, append-nil, map-append, List·Memᴰ, List·Memᴰ·not-nil}
 use borrow.Author.Tests.{le-ltb}
 use lib.ListN.{length, length-append, length-map}
 use lib.Ieee.{Float, eq}
@@ -26,9 +26,10 @@ use Rattle.search_calls.specs.declared.result.Resulted.the-variants.{Result, Re
 use Rattle.search_answer.specs.Answer.{answerRefusal}
 use Rattle.search_calls.specs.Result.{resultDef}
 use Rattle.book.specs.Calls.{Call}
-use Rattle.book.specs.Book.{Inputs, demand, Book, entries, number, current, runBest, opened, after}
+use Rattle.book.specs.Book.{Inputs, demand, Book, entries, number, current, scoredOf, runBest, opened, after}
 use Rattle.book.specs.Trace.{Handing, tiltY, handedInRound, handed, answers, listAfter}
 use Rattle.book.specs.Named.{outcomesIn, handings}
+use Rattle.book.specs.Share.{AnsweredBy}
 use Rattle.book.specs.Theorem.{startedList, NoNan, Over, Follows, SearchIsBook}
 use Rattle.book.proofs.Cases.{case-chosen}
 use Rattle.book.proofs.Planned.{handingOf, done}
@@ -39,6 +40,7 @@ use Rattle.book.proofs.RunOf.{runOf, State, run-fields, run-bests, soun
 use Rattle.book.proofs.Growth.{waitingHanding, handedIn, handingNow}
 use Rattle.book.proofs.Winner.{numbers, winner}
 use Rattle.book.proofs.Walks.{walks}
+use Rattle.book.proofs.Share.{by-calls}
 use Rattle.book.proofs.Tilts.{all-tried}
 use Rattle.book.proofs.Taken.{not-refused}
 use Rattle.book.proofs.Simulation.{progress-is}
@@ -113,6 +115,14 @@ handed-seeded i b g =
     (handings-all (HandedSeed (b .inputs)) (entries b) (all-map (Proper (b .inputs)) (λ e. HandedSeed (b .inputs) (handingOf e)) (λ e p. (e .seed, refl, p .seeded)) (entries b) (g .core .proper)))
     (waiting-all (HandedSeed (b .inputs)) b (λ w. (current b, refl, current-seeded b (g .core) (g .room (waits-going i b g w)))))
 
+-- the winner was scored by one of the calls, since nothing was before them
+winner-answered : (i : Inputs) (l : List Float) (cs : List Call) (w : Candidate) → State i (opened i) l → List·Memᴰ w (scoredOf (entries (after (opened i) cs)))
+    → AnsweredBy (i .share) (runOf (opened i)) l cs w
+winner-answered i l cs w t m = ⊎-elim (λ a. a) (λ n. absurd (nobody n)) (by-calls i (opened i) l cs w t m)
+  where
+    nobody : List·Memᴰ w (scoredOf (entries (opened i))) → ⊥
+    nobody n = unfold opened scoredOf in List·Memᴰ·not-nil n
+
 -- ---- while a seed waits
 answer-open : (i : Inputs) (b : Book) (l : List Float) → State i b l → runOf b .waiting .«is_waiting» ≡ true
     → (f : Finding) (rows : List Float) (flags : List ℕ) → (f ≡ Failed) ⊎ (firstRefusal (rowChecks rows flags) ≡ 0) → answerRefusal (runOf b) (length l) f rows flags ≡ 0
@@ -143,6 +153,9 @@ follows i l cs t =
       wins = λ v h.
           let r = result-over i b v g (rw (w .run-is) at h) in
           rw same (winner i (entries b) v (g .core .numbered) p (unfold runBest in r .1));
+      rests = λ v h.
+          let r = result-over i b v g (rw (w .run-is) at h) in
+          winner-answered i l cs v t (winner i (entries b) v (g .core .numbered) p (unfold runBest in r .1) .is-scored);
       every-tilt = λ v x y mx my lx hx ly hy.
           let o = is-over i b g (rw (w .run-is) at v) in
           rw (same, out ∙ over-handed b (g .calm o)) (all-tried i b g o x y mx my lx hx ly hy);

@@ -29,6 +29,7 @@ pub record Inputs : Type 0 where
   pub step : Float
   pub max : Float
   pub one-axis : Bool
+  pub share : ℕ
   pub xs : List Float
   pub ys : List Float
   pub decomposition : List Float
@@ -199,7 +200,7 @@ replyTo (Scored s) = scored (s .score)
 -- Answer: 12 no seed is waiting, 10, and then what the finding itself is refused for, with the seed's own tilts
 unfoldable pub bookAnswer : Book → ℕ → Finding → List Float → List ℕ → Kept
 bookAnswer b n f rows flags =
-    let o = outcomeOf f (current b .sensor) (b .inputs .center) rows flags in
+    let o = outcomeOf (b .inputs .share) f (current b .sensor) (b .inputs .center) rows flags in
     let k = findingRefusal f (current b .sensor) rows flags in
     unless
     (firstRefusal

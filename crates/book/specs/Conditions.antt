@@ -59,7 +59,7 @@ OnlyZero ys = (y : Float) × (ys ≡ y ∷ []) × (eq y plusZero ≡ true)
 abbrev pub TiltedY : CandidateSeed → Type 0
 TiltedY s = eq (s .sensor .«tilt_y») plusZero ≡ false
 
--- ---- 01, 'Start', where n numbers are lent, and then 02: a bound above 0.5 (E1); a one-axis run whose typed y tilts or decomposition say otherwise (E8)
+-- ---- 01, 'Start', where n numbers are lent, and then 02: a bound above 0.5 (E1); a one-axis run whose typed y tilts or decomposition say otherwise (E8); a share above 100 per cent (E11)
 abbrev pub conditions : Inputs → ℕ → List Condition
 conditions i n =
     (1 provided (i .views < 3))
@@ -73,4 +73,5 @@ conditions i n =
     ∷ (27 provided (lt half₆₄ (i .max) ≡ true))
     ∷ (31 provided ((i .one-axis ≡ true) × (OnlyZero (i .ys) → ⊥)))
     ∷ (32 provided ((i .one-axis ≡ true) × Some TiltedY (allSeeds (i .decomposition))))
+    ∷ (33 provided (100 < i .share))
     ∷ []

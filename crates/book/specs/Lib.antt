@@ -6,4 +6,5 @@ pub mod Trace
 pub mod Named
 pub mod Rounds
 pub mod Lent
+pub mod Share
 pub mod Theorem

@@ -41,11 +41,12 @@ use Rattle.book.specs.Walk.{walk}
 use Rattle.book.specs.Trace.{Handing, tiltY, handedInRound, handed, answers, runAfter, listAfter}
 use Rattle.book.specs.Named.{outcomesIn, handings}
 use Rattle.book.specs.Rounds.{LaterRound}
+use Rattle.book.specs.Share.{AnsweredBy}
 use Rattle.book.specs.Lent.{Lent, through, accepted, stillLeft, Turn, AllTaken, turns}
 
 -- ---- Start, on the book's inputs and a lent list
 abbrev pub optionsOf : Inputs → Options
-optionsOf i = record { «refine_rounds» = i .rounds; «refine_step» = i .step; «max_abs_tilt» = i .max; «one_axis» = i .one-axis }
+optionsOf i = record { «refine_rounds» = i .rounds; «refine_step» = i .step; «max_abs_tilt» = i .max; «one_axis» = i .one-axis; «min_counted» = i .share }
 
 abbrev pub startOf : Inputs → List Float → Started
 startOf i l = startReply (i .views) (optionsOf i) (i .xs) (i .ys) (i .decomposition) (i .base) (i .center) l
@@ -110,6 +111,8 @@ pub record Follows (i : Inputs) (r : Run) (l : List Float) (cs : List Call) : Ty
   -- before, each once, in order, numbered on from 0; and the result is the earliest candidate with the lowest score, within 01's bounds.
   pub handed-out : (w : Candidate) → resultDef (runAfter r l cs) ≡ Result w → handed r l cs ≡ handings i (outcomesIn (answers r l cs)) (suc (i .rounds))
   pub wins : (w : Candidate) → resultDef (runAfter r l cs) ≡ Result w → Wins i (answers r l cs) w
+  -- and its mean rests on the share of the rows of its own answer, in whole numbers
+  pub rests : (w : Candidate) → resultDef (runAfter r l cs) ≡ Result w → AnsweredBy (i .share) r l cs w
   -- If the run is over, with a result or with 11: every pair of typed tilts within ±max_abs_tilt was tried.
   pub every-tilt : Over (runAfter r l cs) → (x y : Float) → List·Memᴰ x (i .xs) → List·Memᴰ y (i .ys)
       → le (neg (i .max)) x ≡ true → le x (i .max) ≡ true → le (neg (i .max)) y ≡ true → le y (i .max) ≡ true

@@ -47,7 +47,7 @@ answeredBy r l (next n) = []
 answeredBy r l (seed n) = []
 answeredBy r l (answer n f rows flags) =
     cond (eqb (answerRefusal r (length (take n l)) f rows flags) 0)
-    (record { number = r .place .number; round = r .place .round; seed = r .waiting .seed; outcome = outcomeOf f (r .waiting .seed .sensor) (r .center) rows flags } ∷ [])
+    (record { number = r .place .number; round = r .place .round; seed = r .waiting .seed; outcome = outcomeOf (r .options .«min_counted») f (r .waiting .seed .sensor) (r .center) rows flags } ∷ [])
     []
 answeredBy r l ask = []
 answeredBy r l progress = []

@@ -23,6 +23,7 @@ use capi_records::run::AnswerFlat;
 use capi_records::run::NextFlat;
 use capi_records::run::ResultFlat;
 use capi_records::run::StartFlat;
+use capi_records::scoring::ErrorCountReply;
 use score_best::Candidate;
 use score_camera::pinhole::PinholeCamera;
 use score_rows::TiltTrig;
@@ -137,6 +138,13 @@ pub extern "C" fn jc_echo_inverse_reply(x: InverseReply) -> InverseReply
 
 #[no_mangle]
 pub extern "C" fn jc_echo_camera_reply(x: CameraReply) -> CameraReply
+    ensures { λ r. ⌜ r ≡ x ⌝ }
+{
+    x
+}
+
+#[no_mangle]
+pub extern "C" fn jc_echo_error_count_reply(x: ErrorCountReply) -> ErrorCountReply
     ensures { λ r. ⌜ r ≡ x ⌝ }
 {
     x

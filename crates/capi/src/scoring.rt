@@ -4,10 +4,14 @@ ghost use Rattle.camera_tilt.specs.Sensor.{tiltProjectionMatrix};
 ghost use Rattle.score_camera.specs.Camera.{damped};
 ghost use Rattle.score_camera.specs.Penalties.{distortionPenalty, tiltPenalty, centrePenalty};
 ghost use Rattle.score_rows.specs.Rows.{rowsOf, errorSum, meanOf};
+ghost use Rattle.score_outcome.specs.Evaluation.{errorCountOf};
+ghost use Rattle.capi_records.specs.Scoring.{flatErrorCount};
 use camera_models::distortion::BrownConrady5;
 use camera_models::intrinsics::FxFyCxCy;
 use camera_models::math::Pt2;
 use camera_tilt::sensor::ScheimpflugParams;
+use capi_records::scoring::ErrorCountReply;
+use capi_records::scoring::error_count_reply;
 use score_camera::penalties;
 use score_camera::pinhole;
 use score_camera::pinhole::PinholeCamera;
@@ -52,4 +56,17 @@ pub extern "C" fn jc_mean_reproj_error(
     ensures { λ r. ⌜ r ≡ meanOf (errorSum camera (tiltProjectionMatrix (trig .«sin_x») (trig .«cos_x») (trig .«sin_y») (trig .«cos_y»)) (rowsOf (now (rows .entry)) (now (flags .entry)))) ⌝ }
 {
     score_rows::mean_of_rows(camera, trig, rows, flags)
+}
+
+// What the mean of an answer rests on: sum and count of its errors, with the solved camera damped and the seed's own sines and cosines.
+#[no_mangle]
+pub extern "C" fn jc_count_errors(
+    solved: PinholeCamera,
+    sensor: ScheimpflugParams,
+    rows: &[f64],
+    flags: &[u8],
+) -> ErrorCountReply
+    ensures { λ r. ⌜ r ≡ flatErrorCount (errorCountOf solved sensor (now (rows .entry)) (now (flags .entry))) ⌝ }
+{
+    error_count_reply(score_outcome::count_errors(solved, sensor, rows, flags))
 }

@@ -2,20 +2,20 @@
 use Prim.Native.Nat.{ℕ, _≤_}
 use native.Mathlib.Omega.{arith}
 use mathlib.Core.Path.{_≡_, refl, ap, _∙_}
-use mathlib.Core.Bool.{not, cond, true≢false}
+use mathlib.Core.Bool.{cond, true≢false}
 use mathlib.Core.List.{List, [], _∷_, _++_, map}
-use borrow.Author.Tests.{le-leb}
+use borrow.Author.Tests.{le-leb, ne-eqb}
 use lib.Dec.{eqb}
 use lib.ListN.{length, take, drop, length-take}
-use lib.Ieee.{Float, isNan}
+use lib.Ieee.{Float}
 use Rattle.common.specs.Tests.{case}
-use Rattle.float.specs.Float.{isFinite}
 use Rattle.camera_models.specs.declared.math.Pt2.{Pt2}
 use Rattle.camera_tilt.specs.declared.sensor.ScheimpflugParams.{ScheimpflugParams}
-use Rattle.score_camera.specs.Camera.{dampedCamera, validCamera}
 use Rattle.score_outcome.specs.declared.Finding.{Finding}
-use Rattle.score_outcome.specs.declared.Finding.the-variants.{Failed, Solved}
-use Rattle.score_outcome.specs.Evaluation.{solvedAt, meanWith, scoringOf, evaluated, outcomeOf}
+use Rattle.score_outcome.specs.declared.Outcome.{Outcome}
+use Rattle.score_outcome.specs.declared.Outcome.the-variants.{Skipped, Scored}
+use Rattle.score_outcome.specs.Evaluation.{outcomeOf}
+use Rattle.score_outcome.specs.Facts.{skipped-reason}
 use Rattle.search_record.specs.declared.run.Run.{Run}
 use Rattle.search_start.specs.declared.Started.the-variants.{Accepted, Refused}
 use Rattle.search_start.specs.Start.{startReply, startRefusal}
@@ -65,26 +65,22 @@ result-read r = case (eqb (resultRefusal r) 0) (λ h. simp h) (λ h. simp h)
 progress-read : (p : ProgressReply) → readProgress p ≡ progressReply p
 progress-read p = refl
 
-outcome-read : (f : Finding) (sensor : ScheimpflugParams) (center : Pt2) (rows : List Float) (flags : List ℕ) (r : Run)
-    → readAnswer (flatAnswered (replyOf (outcomeOf f sensor center rows flags)) r) ≡ answeredReply (replyOf (outcomeOf f sensor center rows flags))
-unfolding outcomeOf evaluated
-outcome-read Failed sensor center rows flags r = refl
-outcome-read (Solved c) sensor center rows flags r =
-    let s = solvedAt c sensor in
-    case (not (validCamera (dampedCamera (s .camera))))
-    (λ h. simp h)
-    (λ h.
-    case (not (isFinite (meanWith s rows flags)))
-    (λ k. simp (h, k))
-    (λ k. case (isNan (scoringOf s sensor center rows flags .score)) (λ n. simp (h, k, n)) (λ n. simp (h, k, n))))
+outcome-read : (share : ℕ) (f : Finding) (sensor : ScheimpflugParams) (center : Pt2) (rows : List Float) (flags : List ℕ) (r : Run)
+    → readAnswer (flatAnswered (replyOf (outcomeOf share f sensor center rows flags)) r) ≡ answeredReply (replyOf (outcomeOf share f sensor center rows flags))
+outcome-read share f sensor center rows flags r = go (outcomeOf share f sensor center rows flags) refl
+  where
+    go : (o : Outcome) → outcomeOf share f sensor center rows flags ≡ o → readAnswer (flatAnswered (replyOf o) r) ≡ answeredReply (replyOf o)
+    go (Scored s) e = refl
+    go (Skipped n) e = let p = skipped-reason share f sensor center rows flags n e .0 in simp (ne-eqb n 0 (λ z. omega arith))
 
 answer-read : (r : Run) (f : Finding) (rows : List Float) (flags : List ℕ) (l : List Float)
     → readAnswer (flatAnswer (answerDef r f rows flags l .reply)) ≡ answeredReply (answerDef r f rows flags l .reply .reply)
 unfolding answerDef
 answer-read r f rows flags l =
     let t = r .waiting .seed .sensor in
-    let o = outcomeOf f t (r .center) rows flags in
-    case (eqb (answerRefusal r (length l) f rows flags) 0) (λ h. simp h (outcome-read f t (r .center) rows flags (enterDef r l o .run))) (λ h. simp h)
+    let share = r .options .«min_counted» in
+    let o = outcomeOf share f t (r .center) rows flags in
+    case (eqb (answerRefusal r (length l) f rows flags) 0) (λ h. simp h (outcome-read share f t (r .center) rows flags (enterDef r l o .run))) (λ h. simp h)
 
 -- the seed in a destination with room for it
 take-front : (w rest : List Float) → take (length w) (w ++ rest) ≡ w

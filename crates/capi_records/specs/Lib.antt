@@ -3,4 +3,5 @@ pub mod Lists
 pub mod Plate
 pub mod Record
 pub mod Run
+pub mod Scoring
 pub mod RoundTrip

@@ -69,7 +69,7 @@ flatRun r = record {
 -- all zeros
 abbrev pub noRun : RunRecord
 noRun = record {
-  options = record { «refine_rounds» = 0; «refine_step» = plusZero; «max_abs_tilt» = plusZero; «one_axis» = 0 };
+  options = record { «refine_rounds» = 0; «refine_step» = plusZero; «max_abs_tilt» = plusZero; «one_axis» = 0; «min_counted» = 0 };
   center = record { x = plusZero; y = plusZero };
   place = record { demand = 0; round = 0; step = plusZero; len = 0; at = 0; number = 0; over = 0 };
   waiting = flatWaiting nobody;

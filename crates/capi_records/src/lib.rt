@@ -5,3 +5,4 @@ pub mod lists;
 pub mod plate;
 pub mod record;
 pub mod run;
+pub mod scoring;

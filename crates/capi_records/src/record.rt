@@ -185,6 +185,7 @@ pub fn no_run() -> RunRecord
             refine_step: 0.0,
             max_abs_tilt: 0.0,
             one_axis: 0,
+            min_counted: 0,
         },
         center: Pt2 { x: 0.0, y: 0.0 },
         place: PlaceRecord {

@@ -5,3 +5,4 @@ pub mod Whole
 pub mod Ended
 pub mod Lost
 pub mod OneAxis
+pub mod Few

@@ -24,6 +24,7 @@ wholeInputs = record {
   step = bits 0x3fc0_0000_0000_0000;
   max = quarter;
   one-axis = false;
+  share = 0;
   xs = quarter ∷ half ∷ [];
   ys = f0 ∷ [];
   decomposition = f100 ∷ f100 ∷ f50 ∷ f50 ∷ f0 ∷ f0 ∷ f100 ∷ f100 ∷ f50 ∷ f50 ∷ f0 ∷ f0 ∷ [];

@@ -15,6 +15,7 @@ fn is_same_options(a: Options, b: Options) -> bool {
         & is_same(a.refine_step, b.refine_step)
         & is_same(a.max_abs_tilt, b.max_abs_tilt)
         & (a.one_axis == b.one_axis)
+        & (a.min_counted == b.min_counted)
 }
 
 fn is_same_point(a: Pt2, b: Pt2) -> bool {

@@ -11,12 +11,14 @@ use oracle_leaves::structs::point_at;
 use search_record::run::Options;
 use search_start::Started;
 
+// No share of counted rows is asked for, as in the Rust.
 fn options_of(x: &[f64], at: usize, one_axis: bool) -> Options {
     Options {
         refine_rounds: whole_at(x, at),
         refine_step: number_at(x, plus(at, 1)),
         max_abs_tilt: number_at(x, plus(at, 2)),
         one_axis,
+        min_counted: 0,
     }
 }
 

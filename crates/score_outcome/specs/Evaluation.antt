@@ -2,7 +2,7 @@
 use Prim.Native.Nat.{ℕ, _*_}
 use mathlib.Core.Bool.{Bool, false, not, _||_, cond}
 use mathlib.Core.List.{List, [], _∷_, _++_}
-use lib.Dec.{eqb, ltb}
+use lib.Dec.{eqb, ltb, leb}
 use lib.ListN.{length}
 use lib.Ieee.{Float, isNan}
 use Rattle.common.specs.Refusal.{Check, _when_, firstRefusal}
@@ -16,12 +16,15 @@ use Rattle.score_camera.specs.Camera.{dampedCamera, validCamera}
 use Rattle.score_camera.specs.Penalties.{scoreOf}
 use Rattle.score_rows.specs.Rows.{rowsOf, tiltMatrix, errorSum, meanOf}
 use Rattle.score_rows.specs.declared.TiltTrig.{TiltTrig}
+use Rattle.score_rows.specs.declared.ErrorSum.{ErrorSum}
 use Rattle.score_outcome.specs.declared.SolvedCamera.{SolvedCamera}
 use Rattle.score_outcome.specs.declared.Scoring.{Scoring}
 use Rattle.score_outcome.specs.declared.Finding.{Finding}
 use Rattle.score_outcome.specs.declared.Finding.the-variants.{Failed, Solved}
 use Rattle.score_outcome.specs.declared.Outcome.{Outcome}
 use Rattle.score_outcome.specs.declared.Outcome.the-variants.{Skipped, Scored}
+use Rattle.score_outcome.specs.declared.ErrorCount.{ErrorCount}
+use Rattle.score_outcome.specs.declared.ErrorCount.the-variants as count
 
 -- a flag above 1
 unfoldable pub anyAboveOne : List ℕ → Bool
@@ -55,9 +58,21 @@ trigOf t = record {
 abbrev pub solvedAt : PinholeCamera → ScheimpflugParams → SolvedCamera
 solvedAt c t = record { camera = c; trig = trigOf t }
 
--- the mean error of the rows, projected with the damped camera
+-- the errors of the rows that count, projected with the damped camera: their sum, and how many there are
+unfoldable pub errorsWith : SolvedCamera → List Float → List ℕ → ErrorSum
+errorsWith s rows flags = errorSum (dampedCamera (s .camera)) (tiltMatrix (s .trig)) (rowsOf rows flags)
+
+-- their mean
 unfoldable pub meanWith : SolvedCamera → List Float → List ℕ → Float
-meanWith s rows flags = meanOf (errorSum (dampedCamera (s .camera)) (tiltMatrix (s .trig)) (rowsOf rows flags))
+meanWith s rows flags = meanOf (errorsWith s rows flags)
+
+-- 02, E11: counted times 100 is at least the share, a whole per cent, times all rows
+unfoldable pub enough : ℕ → ℕ → ℕ → Bool
+enough share counted all = leb (share * all) (counted * 100)
+
+-- All rows are asked for their share, those behind the camera and those with an error that isn't finite among them: each has a flag.
+unfoldable pub enoughWith : ℕ → SolvedCamera → List Float → List ℕ → Bool
+enoughWith share s rows flags = enough share (errorsWith s rows flags .count) (length flags)
 
 -- the finding as it is scored
 unfoldable pub scoringOf : SolvedCamera → ScheimpflugParams → Pt2 → List Float → List ℕ → Scoring
@@ -66,15 +81,22 @@ scoringOf s sensor center rows flags =
     let mean = meanWith s rows flags in
     record { camera = camera; mean = mean; score = scoreOf mean camera sensor center }
 
--- 01, 'The run': the camera is damped, then checked (reason 2), and the rows are projected; a mean that isn't finite is reason 3. 02, E3: a score that
--- isn't a number is reason 4; an infinite one is a score.
-unfoldable pub evaluated : SolvedCamera → ScheimpflugParams → Pt2 → List Float → List ℕ → Outcome
-evaluated s sensor center rows flags =
+-- 01, 'The run': the camera is damped, then checked (reason 2), and the rows are projected; a mean that isn't finite is reason 3, and so is, by 02, E11,
+-- one over too few of the rows. 02, E3: a score that isn't a number is reason 4; an infinite one is a score.
+unfoldable pub evaluated : ℕ → SolvedCamera → ScheimpflugParams → Pt2 → List Float → List ℕ → Outcome
+evaluated share s sensor center rows flags =
     cond (not (validCamera (dampedCamera (s .camera)))) (Skipped 2)
+    (cond (not (enoughWith share s rows flags)) (Skipped 3)
     (cond (not (isFinite (meanWith s rows flags))) (Skipped 3)
-    (cond (isNan (scoringOf s sensor center rows flags .score)) (Skipped 4) (Scored (scoringOf s sensor center rows flags))))
+    (cond (isNan (scoringOf s sensor center rows flags .score)) (Skipped 4) (Scored (scoringOf s sensor center rows flags)))))
 
 -- Reason 1: the host Failed. A solved camera is looked at with the seed's own tilts.
-unfoldable pub outcomeOf : Finding → ScheimpflugParams → Pt2 → List Float → List ℕ → Outcome
-outcomeOf Failed sensor center rows flags = Skipped 1
-outcomeOf (Solved c) sensor center rows flags = evaluated (solvedAt c sensor) sensor center rows flags
+unfoldable pub outcomeOf : ℕ → Finding → ScheimpflugParams → Pt2 → List Float → List ℕ → Outcome
+outcomeOf share Failed sensor center rows flags = Skipped 1
+outcomeOf share (Solved c) sensor center rows flags = evaluated share (solvedAt c sensor) sensor center rows flags
+
+-- ---- what the mean rests on: sum and count of a solved finding's errors, refused as Answer refuses the finding
+unfoldable pub errorCountOf : PinholeCamera → ScheimpflugParams → List Float → List ℕ → ErrorCount
+errorCountOf c sensor rows flags =
+    let n = solvedRefusal sensor rows flags in
+    cond (eqb n 0) (count.Errors (errorsWith (solvedAt c sensor) rows flags)) (count.Refused n)

@@ -14,8 +14,8 @@ use Rattle.camera_models.specs.declared.math.Pt2.{Pt2}
 use Rattle.camera_tilt.specs.declared.sensor.ScheimpflugParams.{ScheimpflugParams}
 use Rattle.score_camera.specs.Camera.{tangentialBound, damped, dampedCamera, finiteIntrinsics, finiteDistortion, validCamera}
 use Rattle.score_camera.specs.Penalties.{scoreOf}
-use Rattle.score_outcome.specs.Evaluation.{solvedAt, meanWith, scoringOf, evaluated, outcomeOf}
-use Rattle.score_outcome.specs.Outcomes.{invalid-skips, infinite-skips, nan-skips, number-scores}
+use Rattle.score_outcome.specs.Evaluation.{solvedAt, meanWith, enoughWith, scoringOf, evaluated, outcomeOf}
+use Rattle.score_outcome.specs.Outcomes.{never, invalid-skips, few-skips, infinite-skips, nan-skips, number-scores, scored-passed}
 use Rattle.score_outcome.specs.Mean.{mean-unsigned}
 use Rattle.score_outcome.specs.declared.SolvedCamera.{SolvedCamera}
 use Rattle.score_outcome.specs.declared.Scoring.{Scoring}
@@ -77,54 +77,41 @@ scoring-facts s sensor center rows flags v f n =
     }
 
 -- ---- the outcome, taken apart
-never : (n : ℕ) (g : Scoring) → Skipped n ≡ Scored g → ⊥
-never n g h = let z : _≡_ {A = ℕ} 0 1 = cc in omega arith
-
-scored-same : (g k : Scoring) → Scored g ≡ Scored k → g ≡ k
-scored-same g k h = cc
-
 skipped-same : (n m : ℕ) → Skipped n ≡ Skipped m → n ≡ m
 skipped-same n m h = cc
 
-pub scored-facts : (f : Finding) (sensor : ScheimpflugParams) (center : Pt2) (rows : List Float) (flags : List ℕ) (g : Scoring)
-    → outcomeOf f sensor center rows flags ≡ Scored g → ScoredFacts sensor center g
+pub scored-facts : (share : ℕ) (f : Finding) (sensor : ScheimpflugParams) (center : Pt2) (rows : List Float) (flags : List ℕ) (g : Scoring)
+    → outcomeOf share f sensor center rows flags ≡ Scored g → ScoredFacts sensor center g
 unfolding outcomeOf
-scored-facts Failed sensor center rows flags g h = absurd (never 1 g h)
-scored-facts (Solved c) sensor center rows flags g h =
+scored-facts share Failed sensor center rows flags g h = absurd (never 1 g h)
+scored-facts share (Solved c) sensor center rows flags g h =
     let s = solvedAt c sensor in
-    case (validCamera (dampedCamera (s .camera)))
-    (λ v.
-    case (isFinite (meanWith s rows flags))
-    (λ m.
-    case (isNan (scoringOf s sensor center rows flags .score))
-    (λ n. absurd (never 4 g (sym (nan-skips s sensor center rows flags v m n) ∙ h)))
-    (λ n. subst (λ (x : Scoring). ScoredFacts sensor center x) (scored-same _ g (sym (number-scores s sensor center rows flags v m n) ∙ h)) (scoring-facts s sensor center rows flags v m n)))
-    (λ m. absurd (never 3 g (sym (infinite-skips s sensor center rows flags v m) ∙ h))))
-    (λ v. absurd (never 2 g (sym (invalid-skips s sensor center rows flags v) ∙ h)))
+    let p = scored-passed share s sensor center rows flags g h in
+    subst (λ (x : Scoring). ScoredFacts sensor center x) (p .is) (scoring-facts s sensor center rows flags (p .valid) (p .finite) (p .number))
 
-solved-reason : (s : SolvedCamera) (sensor : ScheimpflugParams) (center : Pt2) (rows : List Float) (flags : List ℕ) (n : ℕ)
-    → evaluated s sensor center rows flags ≡ Skipped n → (2 ≤ n) × (n ≤ 4)
-solved-reason s sensor center rows flags n h =
+solved-reason : (share : ℕ) (s : SolvedCamera) (sensor : ScheimpflugParams) (center : Pt2) (rows : List Float) (flags : List ℕ) (n : ℕ)
+    → evaluated share s sensor center rows flags ≡ Skipped n → (2 ≤ n) × (n ≤ 4)
+solved-reason share s sensor center rows flags n h =
     case (validCamera (dampedCamera (s .camera)))
-    (λ v.
-    case (isFinite (meanWith s rows flags))
-    (λ m.
-    case (isNan (scoringOf s sensor center rows flags .score))
-    (λ k. let e = skipped-same 4 n (sym (nan-skips s sensor center rows flags v m k) ∙ h) in (omega arith, omega arith))
-    (λ k. absurd (never n (scoringOf s sensor center rows flags) (sym h ∙ number-scores s sensor center rows flags v m k))))
-    (λ m. let e = skipped-same 3 n (sym (infinite-skips s sensor center rows flags v m) ∙ h) in (omega arith, omega arith)))
-    (λ v. let e = skipped-same 2 n (sym (invalid-skips s sensor center rows flags v) ∙ h) in (omega arith, omega arith))
+    (λ v. case (enoughWith share s rows flags)
+    (λ e. case (isFinite (meanWith s rows flags))
+    (λ m. case (isNan (scoringOf s sensor center rows flags .score))
+    (λ k. let q = skipped-same 4 n (sym (nan-skips share s sensor center rows flags v e m k) ∙ h) in (omega arith, omega arith))
+    (λ k. absurd (never n (scoringOf s sensor center rows flags) (sym h ∙ number-scores share s sensor center rows flags v e m k))))
+    (λ m. let q = skipped-same 3 n (sym (infinite-skips share s sensor center rows flags v m) ∙ h) in (omega arith, omega arith)))
+    (λ e. let q = skipped-same 3 n (sym (few-skips share s sensor center rows flags v e) ∙ h) in (omega arith, omega arith)))
+    (λ v. let q = skipped-same 2 n (sym (invalid-skips share s sensor center rows flags v) ∙ h) in (omega arith, omega arith))
 
 -- Reason 1, 2, 3 or 4.
-pub skipped-reason : (f : Finding) (sensor : ScheimpflugParams) (center : Pt2) (rows : List Float) (flags : List ℕ) (n : ℕ)
-    → outcomeOf f sensor center rows flags ≡ Skipped n → (1 ≤ n) × (n ≤ 4)
+pub skipped-reason : (share : ℕ) (f : Finding) (sensor : ScheimpflugParams) (center : Pt2) (rows : List Float) (flags : List ℕ) (n : ℕ)
+    → outcomeOf share f sensor center rows flags ≡ Skipped n → (1 ≤ n) × (n ≤ 4)
 unfolding outcomeOf
-skipped-reason Failed sensor center rows flags n h = let e = skipped-same 1 n h in (omega arith, omega arith)
-skipped-reason (Solved c) sensor center rows flags n h = let e = solved-reason (solvedAt c sensor) sensor center rows flags n h in (omega arith, omega arith)
+skipped-reason share Failed sensor center rows flags n h = let e = skipped-same 1 n h in (omega arith, omega arith)
+skipped-reason share (Solved c) sensor center rows flags n h = let e = solved-reason share (solvedAt c sensor) sensor center rows flags n h in (omega arith, omega arith)
 
 -- Reason 1 for Failed alone.
-pub skipped-failed : (f : Finding) (sensor : ScheimpflugParams) (center : Pt2) (rows : List Float) (flags : List ℕ)
-    → outcomeOf f sensor center rows flags ≡ Skipped 1 → f ≡ Failed
+pub skipped-failed : (share : ℕ) (f : Finding) (sensor : ScheimpflugParams) (center : Pt2) (rows : List Float) (flags : List ℕ)
+    → outcomeOf share f sensor center rows flags ≡ Skipped 1 → f ≡ Failed
 unfolding outcomeOf
-skipped-failed Failed sensor center rows flags h = refl
-skipped-failed (Solved c) sensor center rows flags h = let e = solved-reason (solvedAt c sensor) sensor center rows flags 1 h in absurd (omega arith)
+skipped-failed share Failed sensor center rows flags h = refl
+skipped-failed share (Solved c) sensor center rows flags h = let e = solved-reason share (solvedAt c sensor) sensor center rows flags 1 h in absurd (omega arith)

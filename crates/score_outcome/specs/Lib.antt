@@ -3,3 +3,4 @@ pub mod Outcomes
 pub mod Mean
 pub mod Facts
 pub mod Invertible
+pub mod Share

@@ -14,7 +14,7 @@ use Rattle.root.specs.Laws.{sign-root}
 use Rattle.camera_tilt.specs.Matrix.{Matrix}
 use Rattle.score_camera.specs.Camera.{dampedCamera}
 use Rattle.score_rows.specs.Rows.{rowsOf, tiltMatrix, rowError, isCounted, countedErrors, noErrors, summed, errorSum, meanOf}
-use Rattle.score_outcome.specs.Evaluation.{meanWith}
+use Rattle.score_outcome.specs.Evaluation.{errorsWith, meanWith}
 use Rattle.score_camera.specs.declared.pinhole.PinholeCamera.{PinholeCamera}
 use Rattle.score_rows.specs.declared.Row.{Row}
 use Rattle.score_rows.specs.declared.ErrorSum.{ErrorSum}
@@ -46,7 +46,7 @@ sign-mean s p =
     ]
 
 pub mean-unsigned : (s : SolvedCamera) (rows : List Float) (flags : List ℕ) → signBit (meanWith s rows flags) ≡ false
-unfolding meanWith errorSum signBit ofBits
+unfolding meanWith errorsWith errorSum signBit ofBits
 mean-unsigned s rows flags =
     sign-mean (summed noErrors (countedErrors (dampedCamera (s .camera)) (tiltMatrix (s .trig)) (rowsOf rows flags)))
     (sign-sum (dampedCamera (s .camera)) (tiltMatrix (s .trig)) (rowsOf rows flags) noErrors refl)

@@ -78,7 +78,7 @@ pub record AnswerLeft : Type 0 where
 unfoldable pub answerDef : Run → Finding → List Float → List ℕ → List Float → AnswerLeft
 answerDef r f rows flags l =
     let n = answerRefusal r (length l) f rows flags in
-    let o = outcomeOf f (r .waiting .seed .sensor) (r .center) rows flags in
+    let o = outcomeOf (r .options .«min_counted») f (r .waiting .seed .sensor) (r .center) rows flags in
     cond (eqb n 0)
     (record { reply = record { reply = replyOf o; run = enterDef r l o .run }; list = enterDef r l o .list })
     (record { reply = record { reply = Refused n; run = r }; list = l })

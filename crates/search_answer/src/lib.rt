@@ -155,6 +155,7 @@ pub fn answer(
     let mut reply = Answered::Refused(number);
     if number == 0 {
         let outcome = score_outcome::finding_outcome(
+            run.options.min_counted,
             finding,
             run.waiting.seed.sensor,
             run.center,

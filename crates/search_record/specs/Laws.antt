@@ -12,6 +12,7 @@ use Rattle.search_record.specs.declared.run.Place.{Place}
 use Rattle.search_record.specs.declared.run.Waiting.{Waiting}
 
 pub record Bounds (r : Run) : Type 0 where
+  pub share-max : r .options .«min_counted» ≤ 100
   pub rounds-max : r .options .«refine_rounds» ≤ 16
   pub round-max : r .place .round ≤ r .options .«refine_rounds»
   pub number-max : r .place .number ≤ 656
@@ -25,7 +26,8 @@ pub bounds : (r : Run) → sound r ≡ true → Bounds r
 unfolding sound
 bounds r h =
     let p = r .place in
-    let a = leb (r .options .«refine_rounds») 16 in
+    let s = leb (r .options .«min_counted») 100 in
+    let a = s && leb (r .options .«refine_rounds») 16 in
     let b = a && leb (p .round) (r .options .«refine_rounds») in
     let c = b && leb (p .number) 656 in
     let d = c && leb (6 * p .len) (p .demand) in
@@ -38,8 +40,10 @@ bounds r h =
     let h4 = both-true c (leb (6 * p .len) (p .demand)) (h3 .0) in
     let h5 = both-true b (leb (p .number) 656) (h4 .0) in
     let h6 = both-true a (leb (p .round) (r .options .«refine_rounds»)) (h5 .0) in
+    let h7 = both-true s (leb (r .options .«refine_rounds») 16) (h6 .0) in
     record {
-      rounds-max = leb-true _ _ (h6 .0);
+      share-max = leb-true _ _ (h7 .0);
+      rounds-max = leb-true _ _ (h7 .1);
       round-max = leb-true _ _ (h6 .1);
       number-max = leb-true _ _ (h5 .1);
       len-max = leb-true _ _ (h0 .0);

@@ -24,7 +24,8 @@ unfoldable pub sound : Run → Bool
 sound r =
     let p = r .place in
     leb (p .len) 512
-    && (leb (r .options .«refine_rounds») 16
+    && (leb (r .options .«min_counted») 100
+    && leb (r .options .«refine_rounds») 16
     && leb (p .round) (r .options .«refine_rounds»)
     && leb (p .number) 656
     && leb (6 * p .len) (p .demand)

@@ -11,12 +11,14 @@ use score_best::Candidate;
 use score_outcome::Outcome;
 use seed_rules::CandidateSeed;
 
-// What the search was asked for. The first three are the Rust's options, by their names. A run about one axis has no tilt about y.
+// What the search was asked for. The first three are the Rust's options, by their names. A run about one axis has no tilt about y. `min_counted` is the
+// share of an answer's rows, in per cent, that a mean has to rest on.
 pub struct Options {
     pub refine_rounds: usize,
     pub refine_step: f64,
     pub max_abs_tilt: f64,
     pub one_axis: bool,
+    pub min_counted: usize,
 }
 
 // How far the run has come. `demand` is how many numbers the lent list must have. `step` is the one that the current list was made with,
@@ -63,7 +65,8 @@ pub fn is_sound(run: Run) -> bool
     if 512 < run.place.len {
         return false;
     }
-    (run.options.refine_rounds <= 16)
+    (run.options.min_counted <= 100)
+        & (run.options.refine_rounds <= 16)
         & (run.place.round <= run.options.refine_rounds)
         & (run.place.number <= 656)
         & (6 * run.place.len <= run.place.demand)

@@ -64,7 +64,8 @@ openingOf options center demand n = record {
 }
 
 -- 01, 'Start', and then 02, in their order: the refusals that need only the options and the lengths of the lists, those of 01 that need more, and 02's:
--- a bound above 0.5 (E1), and typed y tilts or a decomposition seed that a one-axis run can't have (E8)
+-- a bound above 0.5 (E1), and typed y tilts or a decomposition seed that a one-axis run can't have (E8);
+-- a share of counted rows above 100 per cent (E11)
 abbrev pub optionsChecks : ℕ → Options → ℕ → ℕ → ℕ → List Check
 optionsChecks views options x y d =
     (1 when ltb views 3)
@@ -79,6 +80,7 @@ furtherChecks options ys decomposition =
     (27 when lt half₆₄ (options .«max_abs_tilt»))
     ∷ (31 when (options .«one_axis» && not (onlyZero ys)))
     ∷ (32 when (options .«one_axis» && not (every untiltedSeed (allSeeds decomposition))))
+    ∷ (33 when ltb 100 (options .«min_counted»))
     ∷ []
 
 -- The inputs are the parameters of these parts; n is how many numbers the lent list has.

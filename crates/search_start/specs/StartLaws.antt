@@ -1,5 +1,5 @@
 -- What Start can rely on where none of its refusals holds: sizes within their limits, good seeds, a list that is long enough, a bound of at most 0.5, and in a one-axis
--- run no tilt about y. Assumes nothing.
+-- run no tilt about y, a share of at most 100. Assumes nothing.
 use Prim.Native.Nat.{ℕ, _+_, _*_, _/_, _≤_}
 use mathlib.Core.Path.{_≡_, refl, sym, _∙_}
 use mathlib.Core.Bool.{Bool, true, false, not, _&&_, _||_, cond}
@@ -94,6 +94,7 @@ pub record Passed (views : ℕ) (options : Options) (xs ys decomposition : List 
   pub bound-small : lt half₆₄ (options .«max_abs_tilt») ≡ false
   pub one-y : options .«one_axis» ≡ true → onlyZero ys ≡ true
   pub untilted-seeds : options .«one_axis» ≡ true → every untiltedSeed (allSeeds decomposition) ≡ true
+  pub share-most : options .«min_counted» ≤ 100
 
 pub start-passed : (views : ℕ) (options : Options) (xs ys decomposition : List Float) (n : ℕ)
     → startRefusal views options xs ys decomposition n ≡ 0 → Passed views options xs ys decomposition n
@@ -104,12 +105,14 @@ start-passed views options xs ys decomposition n h =
     let h8 = refuses-none (ltb n (startDemand views options xs ys decomposition)) 8 _ (omega arith) h7 in
     let h9 = refuses-none (lt half₆₄ (options .«max_abs_tilt»)) 27 _ (omega arith) (h8 .1) in
     let h10 = refuses-none (options .«one_axis» && not (onlyZero ys)) 31 _ (omega arith) (h9 .1) in
-    let h11 = refuses-none (options .«one_axis» && not (every untiltedSeed (allSeeds decomposition))) 32 _ (omega arith) (h10 .1) .0 in
+    let h11 = refuses-none (options .«one_axis» && not (every untiltedSeed (allSeeds decomposition))) 32 _ (omega arith) (h10 .1) in
+    let h12 = refuses-none (ltb 100 (options .«min_counted»)) 33 _ (omega arith) (h11 .1) .0 in
     record {
       sizes = sizes-fit views options xs ys decomposition n _ refl (p .0);
       good-seeds = not-false _ (h6 .0);
       demand-fits = ltb-false n _ (h8 .0);
       bound-small = h9 .0;
       one-y = where-set (options .«one_axis») (onlyZero ys) (h10 .0);
-      untilted-seeds = where-set (options .«one_axis») (every untiltedSeed (allSeeds decomposition)) h11;
+      untilted-seeds = where-set (options .«one_axis») (every untiltedSeed (allSeeds decomposition)) (h11 .0);
+      share-most = ltb-false 100 _ h12;
     }

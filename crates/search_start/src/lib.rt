@@ -156,6 +156,9 @@ fn further_refusal(options: Options, tilt_y_seeds: &[f64], decomposition: &[f64]
     if options.one_axis & !all_untilted_seeds(decomposition) {
         return 32;
     }
+    if 100 < options.min_counted {
+        return 33;
+    }
     0
 }
 

@@ -1,6 +1,7 @@
 -- `search_start::further_refusal` meets its contract: each answer with the tests that led to it. Assumes nothing.
 use mathlib.Core.Path.{sym}
 use borrow.Author.Needs.{needs}
+use borrow.Author.Tests.{lt-ltb, le-ltb}
 use Rattle.search_start.proofs.further_refusal.Statement.{statement}
 use Rattle.search_start.proofs.further_refusal.Tie as tie
 
@@ -28,12 +29,26 @@ returns-3 c =
 
 returns-4 : tie.Need-returns-4
 returns-4 c =
+    let b = c .before .before in
     rw (
-      c .before .before .before .before .before .before .if1 .left,
-      sym (c .before .before .before .before .before .is-only-zero .ensures),
-      c .before .before .before .if2 .left,
-      sym (c .before .before .all-untilted-seeds .ensures),
-      c .if3 .left,
+      b .before .before .before .before .before .before .if1 .left,
+      sym (b .before .before .before .before .before .is-only-zero .ensures),
+      b .before .before .before .if2 .left,
+      sym (b .before .before .all-untilted-seeds .ensures),
+      b .if3 .left,
+      lt-ltb _ _ (c .if4 .taken),
+    )
+
+returns-5 : tie.Need-returns-5
+returns-5 c =
+    let b = c .before .before in
+    rw (
+      b .before .before .before .before .before .before .if1 .left,
+      sym (b .before .before .before .before .before .is-only-zero .ensures),
+      b .before .before .before .if2 .left,
+      sym (b .before .before .all-untilted-seeds .ensures),
+      b .if3 .left,
+      le-ltb _ _ (c .if4 .left),
     )
 
 pub further-refusal-spec : {M : Type 1} → statement M
@@ -45,4 +60,5 @@ further-refusal-spec =
     returns-2
     all-untilted-seeds-requires
     returns-3
-    returns-4)
+    returns-4
+    returns-5)

@@ -17,7 +17,7 @@ has-place-requires c κs = search needs
 
 returns-2 : tie.Need-returns-2
 unfolding sound
-returns-2 c = simp (c .has-place .ensures, le-leb _ _ (c .before .before .before .before .before .before .before .before .if1 .left))
+returns-2 c = simp (c .has-place .ensures, le-leb _ _ (c .before .before .before .before .before .before .before .before .before .if1 .left))
 
 pub is-sound-spec : {M : Type 1} → statement M
 is-sound-spec = tie.close (tie.spec returns mul-result has-place-requires returns-2)
