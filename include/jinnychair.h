@@ -84,6 +84,7 @@ enum {
     JC_TILT_TOO_LARGE = 27,        /* max_abs_tilt is above 0.5 radians (28.6 degrees), or a tilt is NaN or beyond that */
     JC_TILTS_OFF_AXIS = 31,        /* a one-axis run's y tilts aren't the single value 0, of either sign */
     JC_SEED_OFF_AXIS = 32,         /* a decomposition seed of a one-axis run has a tilt y other than 0 */
+    JC_SHARE_TOO_LARGE = 33,       /* min_counted is above 100 */
     JC_NO_SHARED_POWER = 34        /* no power of two makes whole numbers in their ranges of a camera's four */
 };
 
@@ -91,7 +92,7 @@ enum {
 enum {
     JC_SKIP_HOST_FAILED = 1, /* the host failed */
     JC_SKIP_BAD_CAMERA = 2,  /* a number of the camera isn't finite, or a focal length isn't above 0 */
-    JC_SKIP_NO_MEAN = 3,     /* the mean error isn't finite */
+    JC_SKIP_NO_MEAN = 3,     /* less than min_counted of the rows count, or the mean error isn't finite */
     JC_SKIP_NO_NUMBER = 4    /* the score isn't a number */
 };
 
@@ -175,13 +176,15 @@ typedef struct {
 } jc_candidate;
 
 /* What a search is asked for, beside the tilts of its grid: how many rounds follow round 0, each around the best candidate of the round
- * before; the first of these rounds' step, in radians, which halves from round to round; the bound on either tilt, in radians, at most 0.5; and
- * whether the module leans about the x axis alone. Where one_axis is not 0 every tilt y is 0, and a later round has at most three seeds: tilt x
- * minus the step, tilt x, and tilt x plus the step. */
+ * before; the first of these rounds' step, in radians, which halves from round to round; the bound on either tilt, in radians, at most 0.5;
+ * whether the module leans about the x axis alone: where one_axis is not 0 every tilt y is 0, and a later round has at most three seeds, tilt x
+ * minus the step, tilt x, and tilt x plus the step; and how much of an answer's rows has to count, a whole per cent, at most 100. With 0 one row
+ * that counts is enough. */
 typedef struct {
     size_t refine_rounds;
     double refine_step, max_abs_tilt;
     uint8_t one_axis;
+    size_t min_counted;
 } jc_options;
 
 /* 0 and the sine or the cosine, or JC_TILT_TOO_LARGE. */
@@ -206,6 +209,13 @@ typedef struct {
     uint8_t number;
     jc_intrinsics camera;
 } jc_camera_reply;
+
+/* 0, the sum of the errors that count and how many there are; or JC_BAD_ROWS or JC_TILT_TOO_LARGE. */
+typedef struct {
+    uint8_t number;
+    double sum;
+    size_t counted;
+} jc_error_count_reply;
 
 /* 0 and six numbers, or 34. */
 typedef struct {
@@ -362,11 +372,15 @@ double jc_principal_point_complexity(jc_intrinsics k, jc_pt2 center);
  * refuses nothing: a tilt whose determinant is 0 has some mean here. */
 double jc_mean_reproj_error(jc_pinhole_camera camera, jc_trig trig, const double *rows, size_t rows_len, const uint8_t *flags,
                             size_t flags_len);
+/* What the mean of an answer divides: the sum of the errors that count, and how many there are. jc_answer scores these: the camera is damped here,
+ * and sines and cosines are those of the tilts, by the library's own series. 13, 27. */
+jc_error_count_reply jc_count_errors(jc_pinhole_camera solved, jc_scheimpflug_params sensor, const double *rows, size_t rows_len,
+                                     const uint8_t *flags, size_t flags_len);
 
 /* ---- the search ---- */
 
 /* Starts a run and writes round 0's seeds to the front of the list: the decomposition's, then the grid of the tilts (radians) with the base
- * camera. 0, or 1 to 8, or 27, 31, 32. The list needs JC_LIST_LEN numbers, and the calls below are lent as many (10). A decomposition without seeds is any
+ * camera. 0, or 1 to 8, or 27, 31, 32, 33. The list needs JC_LIST_LEN numbers, and the calls below are lent as many (10). A decomposition without seeds is any
  * array with the length 0. */
 jc_start_flat jc_start(size_t views, jc_options options, const double *tilt_x_seeds, size_t tilt_x_seeds_len,
                        const double *tilt_y_seeds, size_t tilt_y_seeds_len, const double *decomposition, size_t decomposition_len,
@@ -376,7 +390,9 @@ jc_next_flat jc_next(jc_run_record run, const double *list, size_t list_len);
 /* Copies the waiting seed's six numbers to the front of `to`, and returns 6; 0 where no seed waits, or the list or `to` is too short. */
 size_t jc_seed(jc_run_record run, const double *list, size_t list_len, double *to, size_t to_len);
 /* Takes what the host found for the waiting seed; a round's last answer writes the next list. 12, 10, 13, 27. is_solved 0: the host failed, and
- * neither solved nor rows nor flags are read. Sines and cosines are those of the seed's tilts, by the library's own series. A row's flag is 1 for a point in front of the camera, else 0. */
+ * neither solved nor rows nor flags are read. Sines and cosines are those of the seed's tilts, by the library's own series.
+ * A row's flag is 1 for a point in front of the camera, else 0.
+ * Of all rows, those with the flag 0 among them, min_counted per cent have to count, or the candidate is skipped with JC_SKIP_NO_MEAN. */
 jc_answer_flat jc_answer(jc_run_record run, uint8_t is_solved, jc_pinhole_camera solved, const double *rows, size_t rows_len,
                          const uint8_t *flags, size_t flags_len, double *list, size_t list_len);
 /* The best candidate of a run that is over. 14, 11. */
@@ -404,6 +420,7 @@ jc_options jc_echo_options(jc_options x);
 jc_matrix jc_echo_matrix(jc_matrix x);
 jc_inverse_reply jc_echo_inverse_reply(jc_inverse_reply x);
 jc_camera_reply jc_echo_camera_reply(jc_camera_reply x);
+jc_error_count_reply jc_echo_error_count_reply(jc_error_count_reply x);
 jc_plate_reply jc_echo_plate_reply(jc_plate_reply x);
 jc_normalize_reply jc_echo_normalize_reply(jc_normalize_reply x);
 jc_line_reply jc_echo_line_reply(jc_line_reply x);
@@ -470,10 +487,11 @@ JC_ASSERT(offsetof(jc_candidate, camera) == 8);
 JC_ASSERT(offsetof(jc_candidate, sensor) == 80);
 JC_ASSERT(offsetof(jc_candidate, mean_reproj_error) == 96);
 JC_ASSERT(offsetof(jc_candidate, score) == 104);
-JC_ASSERT(sizeof(jc_options) == 32);
+JC_ASSERT(sizeof(jc_options) == 40);
 JC_ASSERT(offsetof(jc_options, refine_step) == 8);
 JC_ASSERT(offsetof(jc_options, max_abs_tilt) == 16);
 JC_ASSERT(offsetof(jc_options, one_axis) == 24);
+JC_ASSERT(offsetof(jc_options, min_counted) == 32);
 JC_ASSERT(sizeof(jc_matrix) == 72);
 JC_ASSERT(offsetof(jc_matrix, m01) == 8);
 JC_ASSERT(offsetof(jc_matrix, m02) == 16);
@@ -487,6 +505,9 @@ JC_ASSERT(sizeof(jc_inverse_reply) == 80);
 JC_ASSERT(offsetof(jc_inverse_reply, inverse) == 8);
 JC_ASSERT(sizeof(jc_camera_reply) == 40);
 JC_ASSERT(offsetof(jc_camera_reply, camera) == 8);
+JC_ASSERT(sizeof(jc_error_count_reply) == 24);
+JC_ASSERT(offsetof(jc_error_count_reply, sum) == 8);
+JC_ASSERT(offsetof(jc_error_count_reply, counted) == 16);
 JC_ASSERT(sizeof(jc_plate_reply) == 56);
 JC_ASSERT(offsetof(jc_plate_reply, conic) == 8);
 JC_ASSERT(sizeof(jc_normalize_reply) == 32);
@@ -508,19 +529,19 @@ JC_ASSERT(sizeof(jc_waiting_record) == 56);
 JC_ASSERT(offsetof(jc_waiting_record, seed) == 8);
 JC_ASSERT(sizeof(jc_best_record) == 120);
 JC_ASSERT(offsetof(jc_best_record, candidate) == 8);
-JC_ASSERT(sizeof(jc_run_record) == 400);
-JC_ASSERT(offsetof(jc_run_record, center) == 32);
-JC_ASSERT(offsetof(jc_run_record, place) == 48);
-JC_ASSERT(offsetof(jc_run_record, waiting) == 104);
-JC_ASSERT(offsetof(jc_run_record, round_best) == 160);
-JC_ASSERT(offsetof(jc_run_record, run_best) == 280);
-JC_ASSERT(sizeof(jc_start_flat) == 408);
+JC_ASSERT(sizeof(jc_run_record) == 408);
+JC_ASSERT(offsetof(jc_run_record, center) == 40);
+JC_ASSERT(offsetof(jc_run_record, place) == 56);
+JC_ASSERT(offsetof(jc_run_record, waiting) == 112);
+JC_ASSERT(offsetof(jc_run_record, round_best) == 168);
+JC_ASSERT(offsetof(jc_run_record, run_best) == 288);
+JC_ASSERT(sizeof(jc_start_flat) == 416);
 JC_ASSERT(offsetof(jc_start_flat, run) == 8);
-JC_ASSERT(sizeof(jc_next_flat) == 416);
+JC_ASSERT(sizeof(jc_next_flat) == 424);
 JC_ASSERT(offsetof(jc_next_flat, over) == 1);
 JC_ASSERT(offsetof(jc_next_flat, candidate) == 8);
 JC_ASSERT(offsetof(jc_next_flat, run) == 16);
-JC_ASSERT(sizeof(jc_answer_flat) == 416);
+JC_ASSERT(sizeof(jc_answer_flat) == 424);
 JC_ASSERT(offsetof(jc_answer_flat, skipped) == 1);
 JC_ASSERT(offsetof(jc_answer_flat, score) == 8);
 JC_ASSERT(offsetof(jc_answer_flat, run) == 16);

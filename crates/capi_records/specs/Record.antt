@@ -23,10 +23,10 @@ abbrev pub isSet : ℕ → Bool
 isSet n = not (eqb n 0)
 
 abbrev pub optionsFrom : OptionsRecord → Options
-optionsFrom o = record { «refine_rounds» = o .«refine_rounds»; «refine_step» = o .«refine_step»; «max_abs_tilt» = o .«max_abs_tilt»; «one_axis» = isSet (o .«one_axis») }
+optionsFrom o = record { «refine_rounds» = o .«refine_rounds»; «refine_step» = o .«refine_step»; «max_abs_tilt» = o .«max_abs_tilt»; «one_axis» = isSet (o .«one_axis»); «min_counted» = o .«min_counted» }
 
 abbrev pub flatOptions : Options → OptionsRecord
-flatOptions o = record { «refine_rounds» = o .«refine_rounds»; «refine_step» = o .«refine_step»; «max_abs_tilt» = o .«max_abs_tilt»; «one_axis» = flagOf (o .«one_axis») }
+flatOptions o = record { «refine_rounds» = o .«refine_rounds»; «refine_step» = o .«refine_step»; «max_abs_tilt» = o .«max_abs_tilt»; «one_axis» = flagOf (o .«one_axis»); «min_counted» = o .«min_counted» }
 
 abbrev pub placeFrom : PlaceRecord → Place
 placeFrom p = record { demand = p .demand; round = p .round; step = p .step; len = p .len; at = p .at; number = p .number; over = isSet (p .over) }

@@ -16,6 +16,7 @@ pub struct OptionsRecord {
     pub refine_step: f64,
     pub max_abs_tilt: f64,
     pub one_axis: u8,
+    pub min_counted: usize,
 }
 
 #[repr(C)]
@@ -65,6 +66,7 @@ pub fn options_of(o: OptionsRecord) -> Options
         refine_step: o.refine_step,
         max_abs_tilt: o.max_abs_tilt,
         one_axis: o.one_axis != 0,
+        min_counted: o.min_counted,
     }
 }
 
@@ -76,6 +78,7 @@ fn options_record(o: Options) -> OptionsRecord
         refine_step: o.refine_step,
         max_abs_tilt: o.max_abs_tilt,
         one_axis: flag(o.one_axis),
+        min_counted: o.min_counted,
     }
 }
 
