@@ -38,8 +38,9 @@ int main(void) {
     uint8_t flags[DOTS];
     see(k, trig_of(-0.021, 0.007), rows, flags);
 
-    /* 8 rounds from a step of 0.02 on, within 0.3 radians, on both axes, and one row that counts is enough; no decomposition, so any array with the length 0. */
-    jc_options options = {8, 0.02, 0.3, 0, 0};
+    /* 8 rounds from a step of 0.02 on, within 0.3 radians, on both axes, scored where at least 90 per cent of the rows are counted; no
+     * decomposition, so any array with the length 0. */
+    jc_options options = {8, 0.02, 0.3, 0, 90};
     jc_pt2 center = {k.cx, k.cy};
     double list[JC_LIST_LEN(0, X_COUNT, Y_COUNT)];
     size_t list_len = sizeof list / sizeof *list;

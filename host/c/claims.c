@@ -72,7 +72,7 @@ static void scores(void) {
 }
 
 static void search(void) {
-    jc_options options = {1, 0.005, 0.02, 0};
+    jc_options options = {1, 0.005, 0.02, 0, 0};
     jc_pt2 center = {640, 480};
     double list[JC_MOST_LIST], seed[JC_SEED_NUMBERS];
     size_t len = JC_LIST_LEN(0, 2, 2);
@@ -80,7 +80,7 @@ static void search(void) {
     jc_start_flat s = jc_start(3, options, TILTS, 2, TILTS, 2, TILTS, 0, K, center, list, len);
     claim(s.number == 0 && s.run.place.len == 4, "an empty decomposition is any array with the length 0");
     claim(jc_start(3, options, TILTS, 2, TILTS, 2, TILTS, 0, K, center, list, len - 1).number == JC_LIST_TOO_SHORT, "8");
-    jc_options degrees = {1, 0.005, 3.0, 0};
+    jc_options degrees = {1, 0.005, 3.0, 0, 0};
     claim(jc_start(3, degrees, TILTS, 2, TILTS, 2, TILTS, 0, K, center, list, len).number == JC_TILT_TOO_LARGE, "27");
     claim(jc_next(s.run, list, len - 1).number == JC_LIST_SHORTENED, "10");
     claim(jc_result(s.run).number == JC_NOT_OVER, "14");
@@ -105,7 +105,7 @@ static void search(void) {
 }
 
 static void one_axis(void) {
-    jc_options options = {1, 0.005, 0.02, 7};
+    jc_options options = {1, 0.005, 0.02, 7, 0};
     jc_pt2 center = {640, 480};
     const double level[] = {-0.0}, leaning[] = {1000, 900, 640, 480, 0, 0.01};
     double list[54];
@@ -127,7 +127,7 @@ static void one_axis(void) {
 }
 
 static void progress(void) {
-    jc_options options = {1, 0.005, 0.01, 0};
+    jc_options options = {1, 0.005, 0.01, 0, 0};
     jc_pt2 center = {640, 480};
     double list[54];
     jc_run_record run = jc_start(3, options, TILTS, 2, TILTS, 2, TILTS, 0, K, center, list, 54).run;
@@ -151,6 +151,29 @@ static void progress(void) {
     claim(p.round + p.rounds + p.answered + p.total + p.answered_in_run == 0, "a record that no call returned has zeros");
 }
 
+static void counted(void) {
+    jc_pt2 center = {640, 480};
+    double list[54];
+    jc_pinhole_camera solved = {K, {9, 9, 9, 0, 0}};
+    jc_scheimpflug_params level = {0, 0}, beyond = {0.6, 0};
+    const double rows[] = {0, 0, 643, 484, 0, 0, 643, 484, 0, 0, 646, 488};
+    const uint8_t two_of_three[] = {1, 0, 1};
+    jc_error_count_reply e = jc_count_errors(solved, level, rows, 12, two_of_three, 3);
+    claim(e.number == 0 && e.sum == 5 + 10 && e.counted == 2, "sum and count of the rows in front, the camera damped");
+    claim(jc_count_errors(solved, level, rows, 11, two_of_three, 3).number == JC_BAD_ROWS, "13 as an answer");
+    claim(jc_count_errors(solved, beyond, rows, 12, two_of_three, 3).number == JC_TILT_TOO_LARGE, "27 as an answer");
+    for (size_t share = 66; share <= 67; share++) {
+        jc_options options = {0, 0, 0.02, 0, share};
+        jc_run_record run = jc_start(3, options, TILTS, 2, TILTS, 2, TILTS, 0, K, center, list, 54).run;
+        run = jc_next(run, list, 54).run;
+        jc_answer_flat a = jc_answer(run, 1, solved, rows, 12, two_of_three, 3, list, 54);
+        claim(a.number == 0 && a.skipped == (share == 66 ? 0 : JC_SKIP_NO_MEAN), "two of three rows are 66 per cent, and not 67");
+    }
+    jc_options all = {0, 0, 0.02, 0, 100}, more = {0, 0, 0.02, 0, 101};
+    claim(jc_start(3, all, TILTS, 2, TILTS, 2, TILTS, 0, K, center, list, 54).number == 0, "100 per cent");
+    claim(jc_start(3, more, TILTS, 2, TILTS, 2, TILTS, 0, K, center, list, 54).number == JC_SHARE_TOO_LARGE, "33");
+}
+
 /* Each limit is taken, and one more is refused. */
 static void limits(void) {
     static double list[JC_MOST_LIST], numbers[JC_ROW_NUMBERS * (JC_MOST_ROWS + 1)];
@@ -164,7 +187,7 @@ static void limits(void) {
         double seed[JC_SEED_NUMBERS] = {1000.0 + i, 900, 640, 480, 0, 0};
         memcpy(seeds + JC_SEED_NUMBERS * i, seed, sizeof seed);
     }
-    jc_options most = {JC_MOST_ROUNDS, 0.01, 0.3, 0}, more = {JC_MOST_ROUNDS + 1, 0.01, 0.3, 0};
+    jc_options most = {JC_MOST_ROUNDS, 0.01, 0.3, 0, 0}, more = {JC_MOST_ROUNDS + 1, 0.01, 0.3, 0, 0};
     jc_pt2 center = {640, 480};
     const size_t of_seeds = JC_SEED_NUMBERS * JC_MOST_SEEDS;
     claim(JC_LIST_LEN(JC_MOST_SEEDS, JC_MOST_TILTS, JC_MOST_TILTS) == JC_MOST_LIST, "JC_MOST_LIST");
@@ -193,6 +216,7 @@ int main(void) {
     search();
     one_axis();
     progress();
+    counted();
     limits();
     if (!failed) printf("the header's words hold\n");
     return failed;

@@ -24,6 +24,8 @@ pub struct Tally {
     pub unsound: usize,
     /// Runs that came to a result, and that ended with nothing scored.
     pub results: [usize; 2],
+    /// Solved answers whose counted errors were compared, and of those skipped with reason 3 the ones with a counted row.
+    pub errors: [usize; 2],
     /// After how many calls a round after round 0 had so many seeds.
     pub later_totals: [usize; 10],
 }
@@ -37,6 +39,7 @@ impl Default for Tally {
             entered: [0; 1 + SkipReason::ALL.len()],
             unsound: 0,
             results: [0; 2],
+            errors: [0; 2],
             later_totals: [0; 10],
         }
     }
@@ -89,7 +92,7 @@ pub fn play(mut inputs: Inputs, random: &mut Random, tally: &mut Tally) -> Resul
 /// Inputs that Start may refuse.
 fn spoil(inputs: &mut Inputs, random: &mut Random) {
     let odd = random.pick(&[f64::NAN, f64::INFINITY, 0.0, -0.0, -1.0, f64::MAX, 1e-310]);
-    match random.below(11) {
+    match random.below(12) {
         0 => inputs.views = random.below(4),
         1 => inputs.tilt_x_seeds.clear(),
         2 => inputs.tilt_y_seeds.resize(random.pick(&[0, 16, 17]), 0.125),
@@ -100,6 +103,7 @@ fn spoil(inputs: &mut Inputs, random: &mut Random) {
         7 => inputs.decomposition.resize(6 * random.pick(&[255, 256, 257]), 0.01),
         8 => inputs.one_axis = true,
         9 => lean_aside(inputs, random),
+        10 => inputs.min_counted = random.pick(&[100, 101, usize::MAX]),
         _ => inputs.tilt_x_seeds.push(odd),
     }
     if !inputs.decomposition.is_empty() && random.once_in(2) {
@@ -188,18 +192,8 @@ impl Pair {
             self.change_list(random);
         }
         let (library, book) = match which {
-            0 => (
-                handed_words(next(&mut self.run, &self.list[..lent]).map_err(|e| e.number())),
-                match self.book.next(&self.book_list[..lent]) {
-                    book::Handed::Candidate(number) => {
-                        let seed = self.book.waiting().expect("the candidate waits").numbers();
-                        [vec![0, number as u64], float_words(&seed)].concat()
-                    }
-                    book::Handed::Over => vec![1],
-                    book::Handed::Refused(number) => vec![2, number.into()],
-                },
-            ),
-            1 => self.answer(lent, random),
+            0 => self.next(lent),
+            1 => self.answer(lent, random, tally)?,
             2 => (
                 seed(&self.run, &self.list[..lent]).map_or(vec![], |numbers| float_words(&numbers)),
                 float_words(self.book.seed(&self.book_list[..lent])),
@@ -230,12 +224,30 @@ impl Pair {
         self.book_list[place] = number;
     }
 
-    fn answer(&mut self, lent: usize, random: &mut Random) -> (Reply, Reply) {
-        let seed = self
-            .book
-            .waiting()
-            .map_or([800.0, 790.0, 320.0, 240.0, 0.0, 0.0], |seed| seed.numbers());
+    fn next(&mut self, lent: usize) -> (Reply, Reply) {
+        let library = next(&mut self.run, &self.list[..lent]).map_err(|e| e.number());
+        let book = match self.book.next(&self.book_list[..lent]) {
+            book::Handed::Candidate(number) => {
+                let seed = self.book.waiting().expect("the candidate waits").numbers();
+                [vec![0, number as u64], float_words(&seed)].concat()
+            }
+            book::Handed::Over => vec![1],
+            book::Handed::Refused(number) => vec![2, number.into()],
+        };
+        (handed_words(library), book)
+    }
+
+    /// The errors of the rows are compared on their way, also of an answer that is refused.
+    fn answer(
+        &mut self,
+        lent: usize,
+        random: &mut Random,
+        tally: &mut Tally,
+    ) -> Result<(Reply, Reply), String> {
+        let none = [800.0, 790.0, 320.0, 240.0, 0.0, 0.0];
+        let seed = self.book.waiting().map_or(none, |seed| seed.numbers());
         let sent = Sent::draw(&seed, self.ties, random);
+        let errors = sent.errors([seed[4], seed[5]]);
         let library = answer(&mut self.run, &sent.finding(), &mut self.list[..lent]);
         let library = match library {
             Ok(Outcome::Scored(score)) => vec![0, word(score)],
@@ -248,7 +260,12 @@ impl Pair {
             book::Answered::Entered(book::Outcome::Skipped(reason)) => vec![1, reason.into()],
             book::Answered::Refused(number) => vec![2, number.into()],
         };
-        (library, book)
+        if let Some([library, counted]) = errors {
+            differ("the counted errors", &library, &counted)?;
+            tally.errors[0] += 1;
+            tally.errors[1] += usize::from(book == [1, 3] && counted.last() != Some(&0));
+        }
+        Ok((library, book))
     }
 
     fn result(&self) -> (Reply, Reply) {
@@ -282,7 +299,7 @@ fn unsound(pair: &Pair, random: &mut Random, tally: &mut Tally) -> Result<(), St
     let mut run = pair.run;
     let big = random.pick(&[usize::MAX, 1 << 63, 1 << 32, 4000]);
     let place = &mut run.place;
-    match random.below(10) {
+    match random.below(11) {
         0 => run.options.refine_rounds = big,
         1 => place.round = run.options.refine_rounds + 1 + random.below(3),
         2 => place.len = big,
@@ -292,6 +309,7 @@ fn unsound(pair: &Pair, random: &mut Random, tally: &mut Tally) -> Result<(), St
         6 => (place.over, run.waiting.is_waiting) = (1, random.pick(&[1, 2, 255])),
         7 => (place.over, place.at) = (0, place.len),
         8 => (place.over, place.at) = (0, big),
+        9 => run.options.min_counted = random.pick(&[101, big]),
         _ => run = zeroed(run),
     }
     let damaged = of_run(&with_plain_flags(run));

@@ -1,7 +1,10 @@
 //! What a host sends to Answer, good and bad, for both sides.
 
-use jinnychair::{BrownConrady5, Finding, FxFyCxCy, PinholeCamera, Rows};
+use jinnychair::{
+    BrownConrady5, Finding, FxFyCxCy, PinholeCamera, Rows, ScheimpflugParams, geometry,
+};
 use random::Random;
+use words::word;
 
 /// A host's answer.
 #[derive(Clone, Debug)]
@@ -51,6 +54,23 @@ impl Sent {
                 (book::Finding::Solved(camera), book::Rows { numbers: rows, flags })
             }
         }
+    }
+
+    /// What the mean of a solved camera rests on at these tilts, as the library and as the book count it: 0, the sum and the
+    /// count, or a refusal's number.
+    pub fn errors(&self, [tilt_x, tilt_y]: [f64; 2]) -> Option<[Vec<u64>; 2]> {
+        let Finding::Solved { camera, rows } = self.finding() else { return None };
+        let sensor = ScheimpflugParams { tilt_x, tilt_y };
+        let library = match geometry::count_errors(camera, sensor, rows) {
+            Ok(errors) => vec![0, word(errors.sum), errors.counted as u64],
+            Err(error) => vec![error.number().into()],
+        };
+        let (book::Finding::Solved(camera), rows) = self.for_book() else { return None };
+        let book = match camera.count_errors([tilt_x, tilt_y], rows) {
+            Ok(errors) => vec![0, word(errors.sum), errors.counted as u64],
+            Err(number) => vec![number.into()],
+        };
+        Some([library, book])
     }
 
     /// An answer to a seed: mostly a good one, with few rows. A host whose answers tie sends the same exact one most times.

@@ -45,6 +45,7 @@ fn draw_two_axes(random: &mut Random) -> Inputs {
         refine_step: random.pick(&[0.1, 0.03, 0.01, 1e-11, 1e-12, 1e-13]),
         max_abs_tilt,
         one_axis: false,
+        min_counted: share(random),
         decomposition,
         base,
         centre: [
@@ -52,6 +53,12 @@ fn draw_two_axes(random: &mut Random) -> Inputs {
             random.pick(&[240.0, 240.0, 240.0, f64::INFINITY, 1e200]),
         ],
     }
+}
+
+/// The share of counted rows that is demanded, in per cent: the Rust's rule half of the time; rarely one that is refused.
+#[must_use]
+pub fn share(random: &mut Random) -> usize {
+    if random.once_in(2) { 0 } else { random.below(102) }
 }
 
 /// On a coarse grid, so that some are alike; some nearly alike, and some beyond the bound.
@@ -71,6 +78,7 @@ pub fn for_library(inputs: &Inputs) -> record::Inputs<'_> {
             refine_step: inputs.refine_step,
             max_abs_tilt: inputs.max_abs_tilt,
             one_axis: inputs.one_axis.into(),
+            min_counted: inputs.min_counted,
         },
         tilt_x_seeds: &inputs.tilt_x_seeds,
         tilt_y_seeds: &inputs.tilt_y_seeds,

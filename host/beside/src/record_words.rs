@@ -7,7 +7,7 @@ use words::{float_words, word};
 /// Every number of a record.
 pub fn of_run(run: &Run) -> Vec<u64> {
     let (o, p, w) = (run.options, run.place, run.waiting);
-    let mut words = vec![o.refine_rounds as u64, o.one_axis.into()];
+    let mut words = vec![o.refine_rounds as u64, o.one_axis.into(), o.min_counted as u64];
     words.extend(float_words(&[o.refine_step, o.max_abs_tilt, run.center.x, run.center.y]));
     words.extend([p.demand as u64, p.round as u64, word(p.step)]);
     words.extend([p.len as u64, p.at as u64, p.number as u64, p.over.into()]);
@@ -31,7 +31,7 @@ fn of_best(best: &Best) -> Vec<u64> {
 /// The record that a run with this book must have.
 pub fn of_book(book: &Book) -> Vec<u64> {
     let inputs = book.inputs();
-    let mut words = vec![inputs.rounds as u64, inputs.one_axis.into()];
+    let mut words = vec![inputs.rounds as u64, inputs.one_axis.into(), inputs.min_counted as u64];
     words.extend(float_words(&[inputs.refine_step, inputs.max_abs_tilt]));
     words.extend(float_words(&inputs.centre));
     words.extend([inputs.demand() as u64, book.round() as u64, word(inputs.step(book.round()))]);

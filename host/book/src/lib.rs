@@ -6,6 +6,6 @@ mod outcome;
 mod pages;
 mod seeds;
 
-pub use outcome::{Camera, Finding, Outcome, Rows, Scored};
+pub use outcome::{Camera, Errors, Finding, Outcome, Rows, Scored};
 pub use pages::{Answered, Book, Entry, Handed, Progress, Winner};
 pub use seeds::{Inputs, Seed};

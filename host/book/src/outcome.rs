@@ -1,6 +1,6 @@
 //! The outcome of a finding: damping, the camera check, the mean error of the rows and the score.
 
-use crate::Seed;
+use crate::{Inputs, Seed};
 
 /// A camera without tilt.
 #[derive(Clone, Copy, Debug, PartialEq)]
@@ -42,10 +42,31 @@ pub struct Scored {
     pub score: f64,
 }
 
+/// The errors of the rows that are counted.
+#[derive(Clone, Copy, Debug, Default, PartialEq)]
+pub struct Errors {
+    /// Their sum, in pixels.
+    pub sum: f64,
+    /// How many there are.
+    pub counted: usize,
+}
+
+impl Errors {
+    /// Whether so many per cent of all rows are counted.
+    fn are_enough(&self, per_cent: usize, rows: usize) -> bool {
+        self.counted * 100 >= per_cent * rows
+    }
+
+    /// Infinity where none is counted.
+    fn mean(&self) -> f64 {
+        if self.counted == 0 { f64::INFINITY } else { self.sum / self.counted as f64 }
+    }
+}
+
 /// What became of a candidate.
 #[derive(Clone, Copy, Debug, PartialEq)]
 pub enum Outcome {
-    /// Left out: 1 the host failed, 2 no camera, 3 no finite mean, 4 a score that isn't a number.
+    /// Left out: 1 the host failed, 2 no camera, 3 too few rows counted or no finite mean, 4 a score that isn't a number.
     Skipped(u8),
     /// Compared by its score.
     Scored(Scored),
@@ -117,19 +138,31 @@ impl Camera {
         [fx * (qx / z) + cx, fy * (qy / z) + cy]
     }
 
-    /// Infinity where no row is counted.
-    fn mean_error(&self, tilt: Matrix, rows: Rows) -> f64 {
-        let (mut sum, mut count) = (0.0, 0_u32);
+    /// Those of the rows in front of the camera whose error is finite.
+    fn errors(&self, tilt: Matrix, rows: Rows) -> Errors {
+        let mut errors = Errors::default();
         for (row, &flag) in rows.numbers.chunks_exact(4).zip(rows.flags) {
             let [u, v] = self.projected(tilt, [row[0], row[1]]);
             let (dx, dy) = (u - row[2], v - row[3]);
             let error = (dx * dx + dy * dy).sqrt();
             if flag == 1 && error.is_finite() {
-                sum += error;
-                count += 1;
+                errors.sum += error;
+                errors.counted += 1;
             }
         }
-        if count == 0 { f64::INFINITY } else { sum / f64::from(count) }
+        errors
+    }
+
+    /// What the mean of a solved camera rests on, damped as it is for its outcome.
+    ///
+    /// # Errors
+    ///
+    /// 13 or 27, as Answer refuses.
+    pub fn count_errors(&self, tilts: [f64; 2], rows: Rows) -> Result<Errors, u8> {
+        match refusal(tilts, rows) {
+            Some(number) => Err(number),
+            None => Ok(self.damped().errors(tilt_matrix(tilts), rows)),
+        }
     }
 
     fn score(&self, mean: f64, tilts: [f64; 2], centre: [f64; 2]) -> f64 {
@@ -143,33 +176,39 @@ impl Camera {
     }
 }
 
+/// The number with which a camera and its rows are refused, if they are.
+fn refusal(tilts: [f64; 2], rows: Rows) -> Option<u8> {
+    let points = rows.flags.len();
+    if points > 1024 || rows.numbers.len() != 4 * points || rows.flags.iter().any(|&flag| flag > 1)
+    {
+        return Some(13);
+    }
+    let is_small = |tilt: f64| tilt.abs() <= 0.5;
+    (!tilts.into_iter().all(is_small)).then_some(27)
+}
+
 impl Finding {
     /// The number with which Answer refuses this finding for a seed, if it does; 12 and 10 come before.
     pub(crate) fn refusal(&self, seed: Seed, rows: Rows) -> Option<u8> {
-        let Self::Solved(_) = self else { return None };
-        let points = rows.flags.len();
-        if points > 1024
-            || rows.numbers.len() != 4 * points
-            || rows.flags.iter().any(|&flag| flag > 1)
-        {
-            return Some(13);
+        match self {
+            Self::Failed => None,
+            Self::Solved(_) => refusal(seed.tilts, rows),
         }
-        let is_small = |tilt: f64| tilt.abs() <= 0.5;
-        (!seed.tilts.into_iter().all(is_small)).then_some(27)
     }
 
     /// The outcome of a finding that isn't refused.
-    pub(crate) fn outcome(&self, seed: Seed, centre: [f64; 2], rows: Rows) -> Outcome {
+    pub(crate) fn outcome(&self, seed: Seed, inputs: &Inputs, rows: Rows) -> Outcome {
         let Self::Solved(solved) = self else { return Outcome::Skipped(1) };
         let camera = solved.damped();
         if !camera.is_camera() {
             return Outcome::Skipped(2);
         }
-        let mean = camera.mean_error(tilt_matrix(seed.tilts), rows);
-        if !mean.is_finite() {
+        let errors = camera.errors(tilt_matrix(seed.tilts), rows);
+        let mean = errors.mean();
+        if !errors.are_enough(inputs.min_counted, rows.flags.len()) || !mean.is_finite() {
             return Outcome::Skipped(3);
         }
-        let score = camera.score(mean, seed.tilts, centre);
+        let score = camera.score(mean, seed.tilts, inputs.centre);
         if score.is_nan() {
             return Outcome::Skipped(4);
         }

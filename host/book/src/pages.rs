@@ -95,7 +95,7 @@ impl Book {
     ///
     /// # Errors
     ///
-    /// The number 1 to 8, 27, 31 or 32 with which Start refuses; then nothing is written.
+    /// The number 1 to 8, 27, 31, 32 or 33 with which Start refuses; then nothing is written.
     pub fn start(inputs: Inputs, lent: &mut [f64]) -> Result<Self, u8> {
         if let Some(number) = inputs.refusal(lent.len()) {
             return Err(number);
@@ -146,7 +146,7 @@ impl Book {
         if let Some(number) = finding.refusal(seed, rows) {
             return Answered::Refused(number);
         }
-        let outcome = finding.outcome(seed, self.inputs.centre, rows);
+        let outcome = finding.outcome(seed, &self.inputs, rows);
         self.waiting = None;
         let number = self.entries.len();
         self.entries.push(Entry { number, round: self.round, seed, outcome });

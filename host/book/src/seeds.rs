@@ -56,6 +56,8 @@ pub struct Inputs {
     pub max_abs_tilt: f64,
     /// Whether the tilt about y is fixed at 0.
     pub one_axis: bool,
+    /// How many per cent of its rows must be counted for a candidate to be scored.
+    pub min_counted: usize,
     /// The host's decomposition seeds, six numbers each.
     pub decomposition: Vec<f64>,
     /// The camera of the grid's seeds.
@@ -88,7 +90,7 @@ impl Inputs {
                 || !(seed.k[0] > 0.0 && seed.k[1] > 0.0)
                 || !self.is_within_bound(seed.tilts)
         };
-        let refusals: [(u8, &dyn Fn() -> bool); 11] = [
+        let refusals: [(u8, &dyn Fn() -> bool); 12] = [
             (1, &|| self.views < 3),
             (2, &|| grids.iter().any(|grid| grid.is_empty())),
             (3, &|| !is_positive(self.max_abs_tilt)),
@@ -101,6 +103,7 @@ impl Inputs {
             // A zero of either sign equals 0.
             (31, &|| self.one_axis && self.tilt_y_seeds != [0.0]),
             (32, &|| self.one_axis && self.decomposition_seeds().any(|seed| seed.tilts[1] != 0.0)),
+            (33, &|| self.min_counted > 100),
         ];
         refusals.iter().find(|(_, holds)| holds()).map(|(number, _)| *number)
     }

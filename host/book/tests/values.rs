@@ -1,7 +1,7 @@
 //! 01's own values, and runs of a few calls that can be followed by hand.
 #![allow(missing_docs)]
 
-use book::{Answered, Book, Camera, Finding, Handed, Inputs, Outcome, Progress, Rows};
+use book::{Answered, Book, Camera, Errors, Finding, Handed, Inputs, Outcome, Progress, Rows};
 
 fn inputs(x: &[f64], y: &[f64]) -> Inputs {
     Inputs {
@@ -12,6 +12,7 @@ fn inputs(x: &[f64], y: &[f64]) -> Inputs {
         refine_step: 0.125,
         max_abs_tilt: 0.25,
         one_axis: false,
+        min_counted: 0,
         decomposition: Vec::new(),
         base: [2.0, 2.0, 0.0, 0.0],
         centre: [0.0, 0.0],
@@ -91,6 +92,69 @@ fn one_axis_wants_tilt_y_to_be_0_of_either_sign() {
     assert_eq!(refusal(&[0.0], &[0.3], 0.25), Some(6));
     assert_eq!(refusal(&[f64::NAN], &[], 0.25), Some(7));
     assert_eq!(refusal(&[0.1, 0.1], &[0.1], 0.6), Some(27));
+}
+
+#[test]
+fn share_above_all_rows_is_the_last_refusal() {
+    let refusal = |min_counted: usize, y: f64| {
+        Inputs { min_counted, one_axis: true, ..inputs(&[0.0], &[y]) }.refusal(54)
+    };
+    assert_eq!((refusal(0, 0.0), refusal(100, 0.0), refusal(101, 0.0)), (None, None, Some(33)));
+    assert_eq!((refusal(usize::MAX, 0.0), refusal(101, 0.1)), (Some(33), Some(31)));
+}
+
+/// The outcome of a first candidate that has the same row for each flag.
+fn outcome(min_counted: usize, row: [f64; 4], flags: &[u8], camera: Camera) -> Outcome {
+    let mut lent = [0.0; 54];
+    let inputs = Inputs { min_counted, ..inputs(&[0.0], &[0.0]) };
+    let mut book = Book::start(inputs, &mut lent).unwrap();
+    book.next(&lent);
+    let numbers = row.repeat(flags.len());
+    match book.answer(&Finding::Solved(camera), Rows { numbers: &numbers, flags }, &mut lent) {
+        Answered::Entered(outcome) => outcome,
+        Answered::Refused(number) => panic!("refused with {number}"),
+    }
+}
+
+#[test]
+fn share_of_counted_rows_decides_between_scored_and_reason_3() {
+    let good = Camera { tangential: [0.0; 2], ..camera() };
+    let is_scored = |share: usize, flags: &[u8]| match outcome(share, row(3.0), flags, good) {
+        Outcome::Scored(scored) => scored.mean == 3.0,
+        other => {
+            assert_eq!(other, Outcome::Skipped(3));
+            false
+        }
+    };
+    assert!(is_scored(75, &[1, 1, 1, 0]) && !is_scored(76, &[1, 1, 1, 0]));
+    assert!(is_scored(100, &[1, 1]) && !is_scored(100, &[1, 0]));
+    assert!(is_scored(0, &[1, 0, 0, 0]) && !is_scored(0, &[0]));
+    // No rows have any share, and no mean.
+    assert!(!is_scored(100, &[]));
+    // Of three rows 33 per cent are one, 34 are two.
+    assert!(is_scored(33, &[1, 0, 0]) && !is_scored(34, &[1, 0, 0]));
+}
+
+#[test]
+fn share_is_asked_after_the_camera_and_before_the_score() {
+    let bad = Camera { k: [-1.0, 2.0, 0.0, 0.0], ..camera() };
+    assert_eq!(outcome(100, row(3.0), &[0], bad), Outcome::Skipped(2));
+    // A centre so far out that its penalty isn't a number; the rows are seen there.
+    let far = Camera { k: [2.0, 2.0, 1e200, 0.0], tangential: [0.0; 2], ..camera() };
+    let of_share = |share: usize| outcome(share, row(1e200), &[1, 0], far);
+    assert_eq!((of_share(50), of_share(51)), (Outcome::Skipped(4), Outcome::Skipped(3)));
+}
+
+#[test]
+fn errors_are_counted_as_answer_counts_them() {
+    let rows = Rows { numbers: &[row(3.0), row(4.0), row(f64::NAN)].concat(), flags: &[1, 0, 1] };
+    let good = Camera { tangential: [0.0; 2], ..camera() };
+    assert_eq!(good.count_errors([0.0; 2], rows), Ok(Errors { sum: 3.0, counted: 1 }));
+    // Radial distortion is left out, and the tangential one limited.
+    assert_eq!(camera().count_errors([0.0; 2], rows), good.count_errors([0.0; 2], rows));
+    assert_eq!(good.count_errors([0.51, 0.0], rows), Err(27));
+    let shapeless = Rows { numbers: &[], flags: &[1] };
+    assert_eq!(good.count_errors([f64::NAN, 0.0], shapeless), Err(13));
 }
 
 #[test]

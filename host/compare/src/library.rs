@@ -266,6 +266,7 @@ pub fn library_inputs(drawn: &DrawnInputs) -> Inputs<'_> {
             refine_step: drawn.refine_step,
             max_abs_tilt: drawn.max_abs_tilt,
             one_axis: 0,
+            min_counted: 0,
         },
         tilt_x_seeds: &drawn.tilt_x_seeds,
         tilt_y_seeds: &drawn.tilt_y_seeds,
@@ -306,7 +307,13 @@ fn local_seed_grid(r: &mut Reader) -> Result<Words, String> {
     };
     let best = Best { found: 1, candidate };
     let mut run = Run {
-        options: Options { refine_rounds: 1, refine_step, max_abs_tilt, one_axis: 0 },
+        options: Options {
+            refine_rounds: 1,
+            refine_step,
+            max_abs_tilt,
+            one_axis: 0,
+            min_counted: 0,
+        },
         center: Pt2 { x: 0.0, y: 0.0 },
         place: Place { demand: 54, round: 0, step: 0.0, len: 1, at: 0, number: 1, over: 0 },
         waiting: Waiting { is_waiting: 1, seed: Seed { reference_k: k, sensor } },

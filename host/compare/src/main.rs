@@ -3,7 +3,7 @@
 //!     compare [LEAF CASES] [SEARCHES] [SEED]
 
 use beside::calls::{Tally, play};
-use beside::inputs::on_one_axis;
+use beside::inputs::{on_one_axis, share};
 use compare::blocks;
 use compare::library::answer_words;
 use oracle::generate::{Endless, endless};
@@ -91,7 +91,7 @@ fn compare_with_oracle(family: Endless, count: usize, differences: &mut Differen
     println!("{operation:28}{count} cases");
 }
 
-/// Start's inputs as the oracle drew them, on two axes or, once in three, on one.
+/// Start's inputs as the oracle drew them, on two axes or, once in three, on one, with a share of counted rows.
 fn book_inputs(input: &[u64], random: &mut Random) -> book::Inputs {
     let drawn = Inputs::read(&mut Reader::new(input)).expect("the oracle answered them");
     let inputs = book::Inputs {
@@ -102,6 +102,7 @@ fn book_inputs(input: &[u64], random: &mut Random) -> book::Inputs {
         refine_step: drawn.refine_step,
         max_abs_tilt: drawn.max_abs_tilt,
         one_axis: false,
+        min_counted: share(random),
         decomposition: drawn.decomposition,
         base: drawn.base,
         centre: drawn.center,
@@ -134,6 +135,11 @@ fn print_tally(tally: &Tally) {
     let refused: Vec<String> = refused.map(|(n, times)| format!("{n}: {times}")).collect();
     println!("  refused, by number: {}", refused.join(", "));
     println!("  {} runs with a result, {} that ended without", tally.results[0], tally.results[1]);
-    println!("  calls after which a later round had so many seeds, from 0: {:?}", tally.later_totals);
+    let [errors, few] = tally.errors;
+    println!("  {errors} times counted errors; {few} answers with some rows counted, but too few");
+    println!(
+        "  calls after which a later round had so many seeds, from 0: {:?}",
+        tally.later_totals
+    );
     println!("  {} calls on records that no search can have made", tally.unsound);
 }

@@ -34,6 +34,7 @@ macro_rules! refusal {
     (27 $part:ident) => { part!($part "`max_abs_tilt` is above 0.5 radians, which is 28.6 degrees, or a tilt is NaN or beyond that", "Were degrees typed for radians? 3 degrees are 0.052. From Answer: the list was changed between the calls; Failed moves the run on.") };
     (31 $part:ident) => { part!($part "the search has one axis, and its y list isn't the single value 0", "Give `0` alone for y; or search both axes.") };
     (32 $part:ident) => { part!($part "the search has one axis, and a decomposition seed has a tilt y other than 0", "Set tilt y of such seeds to 0, or leave them out; or search both axes.") };
+    (33 $part:ident) => { part!($part "`min_counted` is above 100", "Give a whole per cent from 0 to 100.") };
     (34 $part:ident) => { part!($part "no power of two from 1 to 256 makes whole numbers in their ranges of all four", "Choose fx, fy, cx, cy as whole numbers times 1, 2, 4 .. or 256: 1 to 256 of them for fx and fy, −256 to 256 for cx and cy. For example 800, 808, 640, −480.") };
 }
 
@@ -134,6 +135,7 @@ refusals! {
         TiltTooLarge = 27;
         TiltsOffAxis = 31;
         SeedOffAxis = 32;
+        ShareTooLarge = 33;
     }
 }
 
@@ -176,6 +178,14 @@ refusals! {
 refusals! {
     /// Why a tilt has no sine and no cosine here.
     TrigError {
+        TiltTooLarge = 27;
+    }
+}
+
+refusals! {
+    /// Why errors aren't counted: as an answer isn't taken.
+    CountError {
+        BadRows = 13;
         TiltTooLarge = 27;
     }
 }

@@ -5,8 +5,8 @@
 
 pub use crate::known_plate::known_plate;
 use crate::{
-    BrownConrady5, ConicError, FxFyCxCy, NormalizeError, PinholeCamera, PointMapError, Pt2, Rows,
-    RowsError, ScheimpflugParams, TiltError, TiltTrig, TrigError, raw,
+    BrownConrady5, ConicError, CountError, FxFyCxCy, NormalizeError, PinholeCamera, PointMapError,
+    Pt2, Rows, RowsError, ScheimpflugParams, TiltError, TiltTrig, TrigError, raw,
 };
 
 /// Three rows of three numbers.
@@ -224,6 +224,42 @@ pub fn principal_point_complexity(k: FxFyCxCy, center: Pt2) -> f64 {
 #[must_use]
 pub fn mean_reproj_error(camera: PinholeCamera, trig: TiltTrig, rows: Rows) -> f64 {
     raw::mean_reproj_error(camera, trig, rows)
+}
+
+/// What the mean error of an answer rests on.
+#[derive(Clone, Copy, Debug, PartialEq)]
+pub struct ErrorCount {
+    /// The sum of the counted rows' errors, in pixels.
+    pub sum: f64,
+    /// How many rows are counted: those in front of the camera whose error is finite.
+    pub counted: usize,
+}
+
+/// Sum and count of the errors of an answer's rows, as [`crate::Search::answer`] works them out: with the solved camera's
+/// distortion damped, and the sines and cosines of the seed's tilts.
+///
+/// ```
+/// use jinnychair::*;
+/// let k = FxFyCxCy { fx: 1000.0, fy: 1000.0, cx: 640.0, cy: 480.0 };
+/// let camera = PinholeCamera { k, dist: BrownConrady5::default() };
+/// // Two rows with an error of 5, one of them behind the camera.
+/// let rows = Rows { numbers: &[0.0, 0.0, 643.0, 484.0, 0.0, 0.0, 643.0, 484.0], flags: &[1, 0] };
+/// let errors = geometry::count_errors(camera, ScheimpflugParams::default(), rows)?;
+/// assert_eq!((errors.sum, errors.counted), (5.0, 1));
+/// # Ok::<(), CountError>(())
+/// ```
+///
+/// # Errors
+///
+/// As an answer with these rows to a seed with these tilts is refused.
+pub fn count_errors(
+    solved: PinholeCamera,
+    sensor: ScheimpflugParams,
+    rows: Rows,
+) -> Result<ErrorCount, CountError> {
+    let reply = raw::count_errors(solved, sensor, rows);
+    CountError::check(reply.number)?;
+    Ok(ErrorCount { sum: reply.sum, counted: reply.counted })
 }
 
 /// The pixels that a sensor without tilt would show; at most 400.

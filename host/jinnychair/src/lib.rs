@@ -54,8 +54,8 @@ mod types;
 mod version;
 
 pub use error::{
-    AnswerError, ConicError, NextError, NormalizeError, PlateError, PointMapError, ResultError,
-    RowsError, RunError, StartError, TiltError, TrigError,
+    AnswerError, ConicError, CountError, NextError, NormalizeError, PlateError, PointMapError,
+    ResultError, RowsError, RunError, StartError, TiltError, TrigError,
 };
 pub use record::Progress;
 pub use search::{

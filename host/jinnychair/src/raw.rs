@@ -85,6 +85,14 @@ pub(crate) struct SumReply {
 
 #[derive(Clone, Copy, Debug, PartialEq)]
 #[repr(C)]
+pub(crate) struct ErrorCountReply {
+    pub number: u8,
+    pub sum: f64,
+    pub counted: usize,
+}
+
+#[derive(Clone, Copy, Debug, PartialEq)]
+#[repr(C)]
 pub(crate) struct StartReply {
     pub number: u8,
     pub run: Run,
@@ -137,8 +145,9 @@ laid_out! {
     Conic: 48 { b11: 0, b12: 8, b22: 16, b13: 24, b23: 32, b33: 40 }
     Seed: 48 { reference_k: 0, sensor: 32 }
     Winner: 112 { number: 0, camera: 8, sensor: 80, mean_reproj_error: 96, score: 104 }
-    Options: 32 { refine_rounds: 0, refine_step: 8, max_abs_tilt: 16, one_axis: 24 }
+    Options: 40 { refine_rounds: 0, refine_step: 8, max_abs_tilt: 16, one_axis: 24, min_counted: 32 }
     SumReply: 16 { number: 0, value: 8 }
+    ErrorCountReply: 24 { number: 0, sum: 8, counted: 16 }
     FlatMatrix: 72 { rows: 0 }
     InverseReply: 80 { number: 0, inverse: 8 }
     CameraReply: 40 { number: 0, camera: 8 }
@@ -149,10 +158,10 @@ laid_out! {
     Place: 56 { demand: 0, round: 8, step: 16, len: 24, at: 32, number: 40, over: 48 }
     Waiting: 56 { is_waiting: 0, seed: 8 }
     Best: 120 { found: 0, candidate: 8 }
-    Run: 400 { options: 0, center: 32, place: 48, waiting: 104, round_best: 160, run_best: 280 }
-    StartReply: 408 { number: 0, run: 8 }
-    NextReply: 416 { number: 0, over: 1, candidate: 8, run: 16 }
-    AnswerReply: 416 { number: 0, skipped: 1, score: 8, run: 16 }
+    Run: 408 { options: 0, center: 40, place: 56, waiting: 112, round_best: 168, run_best: 288 }
+    StartReply: 416 { number: 0, run: 8 }
+    NextReply: 424 { number: 0, over: 1, candidate: 8, run: 16 }
+    AnswerReply: 424 { number: 0, skipped: 1, score: 8, run: 16 }
     ResultReply: 120 { number: 0, candidate: 8 }
     Progress: 40 { round: 0, rounds: 8, answered: 16, total: 24, answered_in_run: 32 }
 }
@@ -187,6 +196,14 @@ unsafe extern "C" {
         flags: *const u8,
         flags_len: usize,
     ) -> f64;
+    fn jc_count_errors(
+        solved: PinholeCamera,
+        sensor: ScheimpflugParams,
+        rows: *const f64,
+        rows_len: usize,
+        flags: *const u8,
+        flags_len: usize,
+    ) -> ErrorCountReply;
     fn jc_untilt_points(
         k: FxFyCxCy,
         trig: TiltTrig,
@@ -264,6 +281,25 @@ pub(crate) fn mean_reproj_error(camera: PinholeCamera, trig: TiltTrig, rows: Row
         jc_mean_reproj_error(
             camera,
             trig,
+            numbers.as_ptr(),
+            numbers.len(),
+            flags.as_ptr(),
+            flags.len(),
+        )
+    }
+}
+
+pub(crate) fn count_errors(
+    solved: PinholeCamera,
+    sensor: ScheimpflugParams,
+    rows: Rows,
+) -> ErrorCountReply {
+    let (numbers, flags) = (rows.numbers, rows.flags);
+    // SAFETY: both slices are valid for their lengths.
+    unsafe {
+        jc_count_errors(
+            solved,
+            sensor,
             numbers.as_ptr(),
             numbers.len(),
             flags.as_ptr(),
@@ -400,6 +436,7 @@ mod tests {
         safe fn jc_echo_trig(x: TiltTrig) -> TiltTrig;
         safe fn jc_echo_pinhole_camera(x: PinholeCamera) -> PinholeCamera;
         safe fn jc_echo_sum_reply(x: SumReply) -> SumReply;
+        safe fn jc_echo_error_count_reply(x: ErrorCountReply) -> ErrorCountReply;
         safe fn jc_echo_conic(x: Conic) -> Conic;
         safe fn jc_echo_candidate_seed(x: Seed) -> Seed;
         safe fn jc_echo_candidate(x: Winner) -> Winner;
@@ -495,6 +532,7 @@ mod tests {
                 refine_step: self.float(),
                 max_abs_tilt: self.float(),
                 one_axis: self.byte(),
+                min_counted: self.whole(),
             }
         }
 
@@ -580,6 +618,8 @@ mod tests {
         let n = &mut Count(0);
         let x = SumReply { number: n.byte(), value: n.float() };
         assert_eq!(jc_echo_sum_reply(x), x);
+        let x = ErrorCountReply { number: n.byte(), sum: n.float(), counted: n.whole() };
+        assert_eq!(jc_echo_error_count_reply(x), x);
         let x = InverseReply { number: n.byte(), inverse: n.matrix() };
         assert_eq!(jc_echo_inverse_reply(x), x);
         let x = CameraReply { number: n.byte(), camera: n.k() };

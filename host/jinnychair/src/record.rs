@@ -21,6 +21,8 @@ pub struct Options {
     pub max_abs_tilt: f64,
     /// Not 0 where the tilt about y is fixed at 0.
     pub one_axis: u8,
+    /// How many per cent of its rows must be counted for a candidate to be scored.
+    pub min_counted: usize,
 }
 
 /// How far a run has come.

@@ -36,11 +36,15 @@ pub struct Options {
     /// (options.one_axis, options.tilt_y_seeds) = (true, vec![0.0]);
     /// ```
     pub one_axis: bool,
+    /// How many per cent of its rows must be counted for a candidate to be scored, from 0 to 100: counted rows times 100 are
+    /// at least this times all rows. A row is counted where it is in front of the camera and its error is finite. With 0
+    /// a single row is enough; a lab that compares tilts should demand most of them.
+    pub min_counted: usize,
 }
 
 impl Default for Options {
     /// Those of calibration-rs: a grid of about ±9° by ±2°, then two rounds from 0.02 radians on, within 0.3 radians, on both
-    /// axes.
+    /// axes, and however few rows are counted.
     fn default() -> Self {
         Self {
             tilt_x_seeds: vec![-0.16, -0.12, -0.08, -0.04, 0.0, 0.04, 0.08, 0.12, 0.16],
@@ -49,6 +53,7 @@ impl Default for Options {
             refine_step: 0.02,
             max_abs_tilt: 0.3,
             one_axis: false,
+            min_counted: 0,
         }
     }
 }
@@ -61,6 +66,7 @@ impl Options {
             refine_step: self.refine_step,
             max_abs_tilt: self.max_abs_tilt,
             one_axis: self.one_axis.into(),
+            min_counted: self.min_counted,
         }
     }
 }
@@ -132,7 +138,7 @@ impl Solution {
 macro_rules! skip {
     (1 $part:ident) => { part!($part "the host sent Failed", "Look into the host's solution at that tilt. If all are skipped, it is the views.") };
     (2 $part:ident) => { part!($part "a number of the camera isn't finite, or a focal length isn't above 0", "As 1. Radial distortion is set to 0 before the check, so it can't be the cause.") };
-    (3 $part:ident) => { part!($part "the mean error isn't finite: no row in front of the camera, or none with a finite error", "Check the poses' signs and the flags.") };
+    (3 $part:ident) => { part!($part "fewer rows are counted than `min_counted` demands, or the mean error isn't finite: no row in front of the camera, or none with a finite error", "Check the poses' signs and the flags.") };
     (4 $part:ident) => { part!($part "the score isn't a number: the camera's centre lies so far from the observed one that the square of the distance overflows, or the observed centre isn't finite", "Look at the solved centre (cx, cy). If every candidate has this reason, at the observed centre that Start was given.") };
 }
 

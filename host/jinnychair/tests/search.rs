@@ -208,6 +208,59 @@ fn one_axis_is_refused_where_a_tilt_y_is_not_0() {
     assert!(told[1].contains("(32). Set tilt y of such seeds to 0"), "{}", told[1]);
 }
 
+/// A camera that fits 4 of 900 rows exactly at one tilt, and otherwise all rows a pixel off.
+fn four_of_nine_hundred(seed: &Seed) -> Solution {
+    let camera = PinholeCamera { k: K, dist: BrownConrady5::default() };
+    let few = seed.sensor.tilt_x == 0.12;
+    let error = if few { 0.0 } else { 1.0 + seed.sensor.tilt_x.abs() };
+    let flags = (0..900).map(|i| u8::from(!few || i < 4)).collect();
+    Solution { camera, rows: [0.0, 0.0, K.cx + error, K.cy].repeat(900), flags }
+}
+
+#[test]
+fn a_mean_over_too_few_rows_is_skipped() {
+    let mut options = one_axis();
+    options.refine_rounds = 0;
+    let winner = |options: &Options| {
+        let winner = search(options).run(|seed| Some(four_of_nine_hundred(seed))).unwrap();
+        winner.sensor.tilt_x
+    };
+    assert_eq!(winner(&options), 0.12);
+    options.min_counted = 1;
+    assert_eq!(winner(&options), 0.0);
+    options.min_counted = 100;
+    assert_eq!(winner(&options), 0.0);
+    let mut outcomes = vec![];
+    let watched = |tried: &Tried| {
+        let solution = tried.solution.unwrap();
+        let (camera, sensor) = (solution.camera, tried.seed.sensor);
+        let errors = geometry::count_errors(camera, sensor, solution.rows()).unwrap();
+        outcomes.push((errors.counted, tried.outcome));
+    };
+    search(&options).run_watched(|seed| Some(four_of_nine_hundred(seed)), watched).unwrap();
+    let skipped = Outcome::Skipped(SkipReason::NoMean);
+    assert_eq!(outcomes.iter().filter(|one| **one == (4, skipped)).count(), 1);
+    assert!(outcomes.iter().all(|(counted, outcome)| (*counted == 900) == (*outcome != skipped)));
+}
+
+#[test]
+fn a_share_above_all_rows_is_refused() {
+    let mut options = Options::default();
+    options.min_counted = 101;
+    let center = Pt2 { x: K.cx, y: K.cy };
+    let inputs = Inputs { views: 3, options: &options, decomposition: &[], base: K, center };
+    let error = Search::start(&inputs).unwrap_err();
+    assert_eq!((error, error.number()), (StartError::ShareTooLarge, 33));
+    assert!(error.to_string().contains("from 0 to 100"));
+    let rows = Rows { numbers: &[], flags: &[1] };
+    let camera = PinholeCamera { k: K, dist: BrownConrady5::default() };
+    let level = ScheimpflugParams::default();
+    assert_eq!(geometry::count_errors(camera, level, rows), Err(CountError::BadRows));
+    let beyond = ScheimpflugParams { tilt_x: 0.6, ..level };
+    let none = Rows { numbers: &[], flags: &[] };
+    assert_eq!(geometry::count_errors(camera, beyond, none), Err(CountError::TiltTooLarge));
+}
+
 #[test]
 fn undistorted_takes_twenty_steps() {
     let lens = BrownConrady5 { k1: -0.2, k2: 0.04, k3: 0.0, p1: 0.001, p2: -0.001 };

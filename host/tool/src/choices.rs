@@ -19,9 +19,14 @@ pub const NAMES: &[(&str, &str)] = &[
     ("rounds", "N"),
     ("seeds", "FILE"),
     ("no-decomposition", ""),
+    ("min-counted", "PERCENT"),
     ("max-tilt", "ANGLE"),
     ("max-mean", "PX"),
 ];
+
+/// How many per cent of the dots must be counted, where nothing else is chosen: a tilt whose camera turns its back to a
+/// tenth of the dots isn't compared with tilts that explain them all.
+pub const MIN_COUNTED: usize = 90;
 
 /// Choices; what isn't chosen has its default.
 #[derive(Clone, Debug, Default, PartialEq)]
@@ -46,6 +51,8 @@ pub struct Choices {
     pub seeds: Option<PathBuf>,
     /// Whether the decomposition's seed is left out.
     pub no_decomposition: Option<()>,
+    /// How many per cent of the dots must be counted.
+    pub min_counted: Option<usize>,
     /// Service's limit on either tilt, in radians.
     pub max_tilt: Option<f64>,
     /// Service's limit on the mean error, in pixels.
@@ -77,6 +84,7 @@ impl Choices {
             "rounds" => put(&mut self.rounds, rounds(&value()?)?),
             "seeds" => put(&mut self.seeds, value()?.into()),
             "no-decomposition" => put(&mut self.no_decomposition, ()),
+            "min-counted" => put(&mut self.min_counted, per_cent(&value()?)?),
             "max-tilt" => put(&mut self.max_tilt, above_0(angle::parse(&value()?)?)?),
             "max-mean" => put(&mut self.max_mean, above_0(number(&value()?)?)?),
             _ => return Ok(false),
@@ -140,6 +148,7 @@ impl Choices {
             rounds: self.rounds.or(other.rounds),
             seeds: self.seeds.or(other.seeds),
             no_decomposition: self.no_decomposition.or(other.no_decomposition),
+            min_counted: self.min_counted.or(other.min_counted),
             max_tilt: self.max_tilt.or(other.max_tilt),
             max_mean: self.max_mean.or(other.max_mean),
         }
@@ -161,8 +170,8 @@ impl Choices {
         }
     }
 
-    /// The search's options: by default the usual grid, and six rounds, which narrow it to 0.04°. On one axis the y list
-    /// is 0 alone.
+    /// The search's options: by default the usual grid, six rounds, which narrow it to 0.04°, and [`MIN_COUNTED`]. On one
+    /// axis the y list is 0 alone.
     #[must_use]
     pub fn options(&self) -> Options {
         let mut options = Options::default();
@@ -176,6 +185,7 @@ impl Choices {
         options.max_abs_tilt = self.bound.unwrap_or(options.max_abs_tilt);
         options.refine_step = self.step.unwrap_or(options.refine_step);
         options.refine_rounds = self.rounds.unwrap_or(6);
+        options.min_counted = self.min_counted.unwrap_or(MIN_COUNTED);
         options
     }
 
@@ -212,6 +222,12 @@ fn above_0(value: f64) -> Result<f64, String> {
 fn rounds(text: &str) -> Result<usize, String> {
     let rounds = text.parse().ok().filter(|rounds| *rounds <= 16);
     rounds.ok_or(format!("`{text}` isn't a whole number from 0 to 16"))
+}
+
+fn per_cent(text: &str) -> Result<usize, String> {
+    let number = text.strip_suffix('%').unwrap_or(text).trim_end().parse().ok();
+    let number = number.filter(|number| *number <= 100);
+    number.ok_or(format!("`{text}` isn't a whole per cent from 0 to 100"))
 }
 
 fn tilts(text: &str) -> Result<Vec<f64>, String> {
@@ -308,11 +324,23 @@ mod tests {
             ("centre 1 2 3", "`3` is too much for centre"),
             ("no-decomposition 1", "`1` is too much for no-decomposition"),
             ("step 0", "it isn't above 0"),
+            ("min-counted 101", "`101` isn't a whole per cent from 0 to 100"),
+            ("min-counted 0.5", "`0.5` isn't a whole per cent from 0 to 100"),
             ("step 1deg\nstep 1deg", "line 2: read `step 1deg`; it is stated twice"),
         ] {
             let told = Choices::parse(text).unwrap_err();
             assert!(told.contains(fault), "{told}");
         }
+    }
+
+    #[test]
+    fn most_dots_must_be_counted_unless_a_lab_says_otherwise() {
+        let min_counted = |text: &str| Choices::parse(text).unwrap().options().min_counted;
+        assert_eq!(min_counted(""), MIN_COUNTED);
+        assert_eq!(
+            ["0", "75", "100%", "75 %"].map(|n| min_counted(&format!("min-counted {n}"))),
+            [0, 75, 100, 75]
+        );
     }
 
     #[test]

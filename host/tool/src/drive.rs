@@ -1,6 +1,7 @@
 //! Runs the search to its end and keeps every tried tilt.
 
 use crate::residuals::{rms, row_errors};
+use jinnychair::geometry::ErrorCount;
 use jinnychair::{
     Inputs, Options, Outcome, PinholeCamera, Progress, RunError, Search, Seed, Solution, Winner,
     geometry,
@@ -84,9 +85,11 @@ pub fn run(
     let winner = search.run_watched(solve, |one| {
         let source = source(&tried, one.round, &one.seed, inputs.decomposition, sources);
         let (number, round, seed, outcome) = (one.number, one.round, one.seed, one.outcome);
-        let scored = one.solution.filter(|_| outcome.score().is_some());
-        let scored = scored.map(|solution| fit_of(&seed, solution));
-        let dots = one.solution.map(|solution| dots_of(&seed, solution));
+        let errors = one.solution.and_then(|solution| Some((solution, counted(&seed, solution)?)));
+        let scored = errors.filter(|_| outcome.score().is_some());
+        let scored = scored.map(|(solution, errors)| fit_of(&seed, solution, errors));
+        let dots = errors
+            .map(|(solution, errors)| Dots { counted: errors.counted, all: solution.flags.len() });
         let new = Tried { number, round, source, seed, outcome, scored, dots };
         watch(&new, &one.progress);
         tried.push(new);
@@ -112,18 +115,16 @@ fn source(
     place.and_then(|place| sources.get(place)).copied().unwrap_or(Source::Grid)
 }
 
-fn fit_of(seed: &Seed, solution: &Solution) -> Scored {
-    let camera = PinholeCamera { dist: solution.camera.dist.damped(), ..solution.camera };
-    let mean =
-        geometry::mean_reproj_error(camera, crate::residuals::trig(seed.sensor), solution.rows());
-    let errors = row_errors(camera, seed.sensor, solution.rows());
-    Scored { camera, mean, rms: rms(errors.iter().flatten()) }
+/// The errors that the search counts for a solution.
+fn counted(seed: &Seed, solution: &Solution) -> Option<ErrorCount> {
+    geometry::count_errors(solution.camera, seed.sensor, solution.rows()).ok()
 }
 
-fn dots_of(seed: &Seed, solution: &Solution) -> Dots {
+fn fit_of(seed: &Seed, solution: &Solution, errors: ErrorCount) -> Scored {
     let camera = PinholeCamera { dist: solution.camera.dist.damped(), ..solution.camera };
+    let mean = errors.sum / errors.counted as f64;
     let errors = row_errors(camera, seed.sensor, solution.rows());
-    Dots { counted: errors.iter().flatten().count(), all: solution.flags.len() }
+    Scored { camera, mean, rms: rms(errors.iter().flatten()) }
 }
 
 /// The earliest of the lowest-scored ones, as the search chooses it.

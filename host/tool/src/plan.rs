@@ -72,6 +72,9 @@ impl Plan {
                 if self.options.one_axis { "tilt x" } else { "each tilt" }
             ),
         });
+        let share = self.options.min_counted;
+        lines
+            .push(format!("  counted       at least {share} % of a tilt's dots, or it is skipped"));
         lines.push("what can be missed".into());
         lines.extend(self.axes.iter().flat_map(|axis| axis.missed_lines(rounds)));
         if rounds > 0 {
@@ -81,6 +84,12 @@ impl Plan {
             ));
         }
         lines.join("\n")
+    }
+
+    /// How many of a tilt's dots must be counted.
+    #[must_use]
+    pub fn counted_text(&self) -> String {
+        format!("at least {} % of a tilt's dots, or it is skipped", self.options.min_counted)
     }
 
     /// How near a winner is to the best tilt by the steps alone, for x and y, in radians: the last step, or without
@@ -215,6 +224,7 @@ mod tests {
             "HOLE          tilt x from 4.750° to 10.250°: no round can reach it\n",
             "HOLE          tilt x from -1.250° to 1.250°",
             "tilts nearer to each other than the last step, 0.250°",
+            "counted       at least 0 % of a tilt's dots, or it is skipped\n",
         ] {
             assert!(text.contains(said), "{said}\n{text}");
         }

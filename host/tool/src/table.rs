@@ -18,7 +18,7 @@ pub const FIELDS: &str = "number,round,source,tilt_x_deg,tilt_y_deg,outcome,scor
 pub const SKIPS: &[(SkipReason, char, &str)] = &[
     (SkipReason::HostFailed, 'H', "the host found no camera"),
     (SkipReason::BadCamera, 'C', "not a camera"),
-    (SkipReason::NoMean, 'E', "no finite mean error"),
+    (SkipReason::NoMean, 'E', "too few dots counted, or no finite mean"),
     (SkipReason::NoNumber, 'N', "the score is not a number"),
 ];
 

@@ -1,12 +1,12 @@
 //! What speaks against a winner, and what to do. None of this is an error: the search did what it was asked.
 
 use crate::angle::degrees;
-use crate::drive::{Finished, Tried, best, last_step, reach};
+use crate::drive::{Dots, Finished, Tried, best, last_step, reach};
 use crate::open::{Open, free_numbers};
 use crate::plan::Plan;
 use crate::residuals::{Dot, Fit};
 use crate::solve::Host;
-use jinnychair::{Options, ScheimpflugParams, Winner};
+use jinnychair::{Options, Outcome, ScheimpflugParams, SkipReason, Winner};
 
 /// Scores within this part of the winner's are as good as its own.
 const ALIKE: f64 = 0.01;
@@ -124,6 +124,28 @@ fn few_scored(finished: &Finished) -> Option<Point> {
         let what = format!("{skipped} of {tried} tilts were skipped");
         point(what, "Look at the reasons in the table or the chart, and at the views.")
     })
+}
+
+/// Tilts that were skipped because too few of their dots are counted.
+#[must_use]
+pub fn too_few_counted(tried: &[Tried], options: &Options) -> Option<Point> {
+    let per_cent = options.min_counted;
+    let no_mean = Outcome::Skipped(SkipReason::NoMean);
+    let skipped = tried.iter().filter(|one| one.outcome == no_mean).filter_map(|one| one.dots);
+    let is_short = |dots: &Dots| 100 * dots.counted < per_cent * dots.all;
+    let short: Vec<Dots> = skipped.filter(is_short).collect();
+    let most = short.iter().max_by_key(|dots| dots.counted)?;
+    let what = format!(
+        "{} of {} tilts have fewer than {per_cent} % of their dots counted, the fullest of these {} of {}",
+        short.len(),
+        tried.len(),
+        most.counted,
+        most.all
+    );
+    Some(point(
+        what,
+        "Look which views lie behind the camera, and at the poses; --min-counted asks for fewer.",
+    ))
 }
 
 fn alike(finished: &Finished, winner: &Winner, apart: [f64; 2]) -> Option<Point> {

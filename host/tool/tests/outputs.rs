@@ -7,9 +7,10 @@ use jinnychair::{
 };
 use std::collections::BTreeSet;
 use tool::chart::chart;
+use tool::choices::MIN_COUNTED;
 use tool::drive::{Finished, Source, best, last_step, run};
 use tool::table::{self, Record};
-use tool::verdict::of_search;
+use tool::verdict::{of_search, too_few_counted};
 
 const K: FxFyCxCy = FxFyCxCy { fx: 1000.0, fy: 1000.0, cx: 640.0, cy: 480.0 };
 
@@ -224,6 +225,51 @@ fn table_has_a_line_for_each_tilt_in_its_field_order_and_is_read_back() {
     assert_eq!(lines.next(), None);
     let read = Record::parse(&text).unwrap();
     assert_eq!((read.table(), chart(&read)), (text, chart(&record)));
+}
+
+/// A camera that fits 4 of 900 dots exactly at one tilt, and otherwise all dots, a pixel off.
+fn four_of_nine_hundred(seed: &Seed) -> Solution {
+    let is_few = seed.sensor.tilt_x == 0.12;
+    let mut solution = off_by(K, if is_few { 0.0 } else { 1.0 + seed.sensor.tilt_x.abs() });
+    solution.rows = solution.rows.repeat(900);
+    solution.flags = (0..900).map(|i| u8::from(!is_few || i < 4)).collect();
+    solution
+}
+
+#[test]
+fn a_tilt_with_too_few_dots_loses_and_its_dots_are_shown() {
+    let mut options = options(0);
+    options.tilt_y_seeds = vec![0.0];
+    let mut won = |min_counted: usize| {
+        options.min_counted = min_counted;
+        let finished = search(&options, |seed| Some(four_of_nine_hundred(seed)));
+        (finished.winner.unwrap().sensor.tilt_x, record(&finished))
+    };
+    assert_eq!(won(0).0, 0.12);
+    let (tilt_x, record) = won(MIN_COUNTED);
+    assert_eq!(tilt_x, 0.0);
+    let table = record.table();
+    assert!(table.contains(",6.875494,0.000000,E,-,-,-,4,900,"), "{table}");
+    assert!(table.contains(",0.000000,0.000000,S,1,1,1,900,900,"), "{table}");
+    let told = "skipped: too few dots counted, or no finite mean, 4 of 900 dots<";
+    assert!(chart(&record).contains(told) && chart(&record).contains("no finite mean: 1<"));
+}
+
+#[test]
+fn where_no_tilt_has_enough_dots_that_is_told() {
+    let mut options = options(0);
+    options.min_counted = 50;
+    let finished = search(&options, |seed| {
+        let mut solution = off_by(K, 1.0);
+        (solution.rows, solution.flags) = (solution.rows.repeat(3), vec![1, 0, 0]);
+        (seed.sensor.tilt_x < 0.15).then_some(solution)
+    });
+    assert!(finished.winner.is_err());
+    let point = too_few_counted(&finished.tried, &options).unwrap().to_string();
+    let expected = "40 of 45 tilts have fewer than 50 % of their dots counted, the fullest of these 1 of 3. Look";
+    assert!(point.starts_with(expected), "{point}");
+    options.min_counted = 33;
+    assert_eq!(too_few_counted(&finished.tried, &options), None);
 }
 
 #[test]

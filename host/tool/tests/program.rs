@@ -7,6 +7,7 @@ use std::fs::{self, File};
 use std::os::unix::ffi::OsStringExt;
 use std::path::{Path, PathBuf};
 use std::process::{Command, Stdio};
+use tool::choices::MIN_COUNTED;
 use tool::synthetic::{BUILT_IN, Truth};
 use tool::views::Plate;
 
@@ -92,6 +93,10 @@ fn words_are_explained_and_wrong_ones_end_with_2() {
         (&["search", "--step=-1deg"], "--step: it isn't above 0"),
         (&["search", "--no-decomposition=1"], "--no-decomposition takes no value"),
         (&["search", "--bound=1deg", "--bound=1deg"], "--bound: it is stated twice"),
+        (
+            &["search", "--min-counted=101"],
+            "--min-counted: `101` isn't a whole per cent from 0 to 100",
+        ),
         (&["search", "--one-axis=x"], "--one-axis takes no value"),
         (
             &["search", "--one-axis", "--tilts-y=0,1deg"],
@@ -210,6 +215,7 @@ fn built_in_plate_is_searched_read_back_from_its_file_and_charted_from_its_table
         "the built-in plate",
         "655 470 px (stated)",
         "step 1.146",
+        "at least 90 % of a tilt's dots",
         "decomposition seed",
     ] {
         assert!(chart.contains(part), "{part}");
@@ -467,6 +473,24 @@ fn limits_of_service_decide() {
         3,
         &["the mean error, 0.07", "is above the limit 0.05 px"],
     );
+}
+
+#[test]
+fn the_share_of_counted_dots_is_named_and_can_be_chosen() {
+    let here = folder("share");
+    let default = format!("({MIN_COUNTED})");
+    let help = said(&here, &["search", "--help"], 0);
+    let line = help.lines().find(|line| line.contains("--min-counted PERCENT")).unwrap();
+    assert!(line.ends_with(&default), "{line}");
+    assert_said(
+        &here,
+        &small(&[]),
+        0,
+        &["\n  counted       at least 90 % of a tilt's dots, or it is"],
+    );
+    let words = small(&["--min-counted=100%", "--out=all"]);
+    assert_said(&here, &words, 0, &["at least 100 % of a tilt's dots", "980 of 980"]);
+    assert!(file(here.join("all.csv")).contains("\n# counted: at least 100 % of a tilt's"));
 }
 
 #[test]

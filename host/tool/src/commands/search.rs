@@ -196,7 +196,11 @@ impl Case {
     ) -> (Record, Result<Vec<Point>, Fault>) {
         let judged = match finished.winner {
             Ok(winner) => self.winner_and_points(&finished, &winner).map_err(Fault::Failed),
-            Err(error) => Err(Fault::Failed(format!("{}: no winner: {error}", self.input))),
+            Err(error) => {
+                let few = verdict::too_few_counted(&finished.tried, &self.options);
+                let few = few.map_or(String::new(), |point| format!(" Also: {point}"));
+                Err(Fault::Failed(format!("{}: no winner: {error}{few}", self.input)))
+            }
         };
         let mut record = self.about();
         let against = judged.map(|(text, against)| {
@@ -260,6 +264,7 @@ impl Case {
         }
         record.add("bound_rad", &self.options.max_abs_tilt.to_string());
         record.add("options", &self.options_text());
+        record.add("counted", &self.plan.counted_text());
         record
     }
 
