@@ -9,10 +9,12 @@ pub mod Simulation
 pub mod Growth
 pub mod Taken
 pub mod Lengths
+pub mod Stopping
 pub mod Winner
 pub mod Refusals
 pub mod Starts
 pub mod Walks
+pub mod Stops
 pub mod Opening
 pub mod Ending
 pub mod Tilts

@@ -31,7 +31,8 @@ use Rattle.book.proofs.Good.{Proper, Good, waits-going, current-within}
 use Rattle.book.proofs.RunOf.{runOf, State, run-fields, run-bests, sound-run, count-bound}
 use Rattle.book.proofs.Growth.{handedIn}
 use Rattle.book.proofs.Winner.{numbers, winner}
-use Rattle.book.proofs.Walks.{walks}
+use Rattle.book.proofs.Walks.{walks, same-answers}
+use Rattle.book.proofs.Stops.{stops}
 use Rattle.book.proofs.Tilts.{all-tried}
 use Rattle.book.proofs.Taken.{not-refused}
 use Rattle.book.proofs.Simulation.{progress-is}
@@ -91,7 +92,7 @@ follows i l cs t =
     let w = walks i (opened i) l cs t in
     let g = w .state .good in
     let p : All (Proper i) (entries b) = rw (g .inputs-are) at (g .core .proper) in
-    let same : answers (runOf (opened i)) l cs ≡ entries b = unfold opened in w .same-entries in
+    let same = same-answers i l cs t in
     let out : handed (runOf (opened i)) l cs ≡ handedIn b = unfold opened handedIn in w .same-handed in
     record {
       same-replies = w .same-replies;
@@ -109,6 +110,7 @@ follows i l cs t =
       few-answers = rw same (count-bound i b g);
       answer-accepted = rw (w .run-is) (answer-open i b (listAfter (runOf (opened i)) l cs) (w .state));
       later-round = rw (w .run-is, same, progress-is i b g) (later-round i b g);
+      stops = stops i l cs t;
     }
 
 opened-number : (i : Inputs) → runOf (opened i) .place .number ≡ 0

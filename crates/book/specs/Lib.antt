@@ -5,5 +5,6 @@ pub mod Conditions
 pub mod Trace
 pub mod Named
 pub mod Rounds
+pub mod Stop
 pub mod Lent
 pub mod Theorem
