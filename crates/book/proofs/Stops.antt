@@ -16,7 +16,6 @@ use Rattle.score_best.specs.declared.Best.{Best}
 use Rattle.score_best.specs.Best.{Chosen, nothing, chosen, bestOf, noBest, held}
 use Rattle.score_floor.specs.Floor.{floorOf}
 use Rattle.search_calls.specs.declared.stop.Outlook.{Outlook}
-use Rattle.search_calls.specs.declared.stop.Stopped.{Stopped}
 use Rattle.search_calls.specs.declared.stop.Stopped.the-variants.{Standing, Refused}
 use Rattle.search_calls.specs.Stop.{outlookOf, stopDef}
 use Rattle.book.specs.Calls.{Call}

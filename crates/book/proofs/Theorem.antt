@@ -22,7 +22,7 @@ use Rattle.search_answer.specs.Answer.{answerRefusal}
 use Rattle.search_calls.specs.Result.{resultDef}
 use Rattle.book.specs.Calls.{Call}
 use Rattle.book.specs.Book.{Inputs, demand, Book, entries, number, current, runBest, opened, after}
-use Rattle.book.specs.Trace.{handed, answers, listAfter}
+use Rattle.book.specs.Trace.{handed, listAfter}
 use Rattle.book.specs.Named.{outcomesIn, handings}
 use Rattle.book.specs.Theorem.{startedList, NoNan, Over, Follows, SearchIsBook}
 use Rattle.book.proofs.Cases.{case-chosen}

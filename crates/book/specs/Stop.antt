@@ -1,5 +1,4 @@
 -- 02, E9: what a reply of the stop call means in a run, as a type. Definitions only.
-use Prim.Native.Nat.{ℕ}
 use mathlib.Core.Path.{_≡_}
 use mathlib.Core.Logic.{_↔_}
 use mathlib.Core.Bool.{true, false}

@@ -6,7 +6,7 @@ use lib.Dec.{T}
 use lib.Ieee.{Float, binary64, ofBits, lt, isNan, fits}
 use lib.Ieee.Fits.{add-fits, mul-fits}
 use Rattle.common.specs.Tests.{case}
-use Rattle.float.specs.Binary64.{_+₆₄_}
+use Rattle.float.specs.Binary64.{_+₆₄_, _*₆₄_}
 use Rattle.float.specs.Float.{signBit}
 use Rattle.float.specs.Literals.{plusZero}
 use Rattle.float.specs.Sign.{unsigned-not-below, sign-add, sign-mul, sign-square}
@@ -34,7 +34,7 @@ zero-plus = refl
 abbrev Plus : Float → Type 0
 Plus x = signBit x ≡ false
 
-times : (x y : Float) → Plus x → Plus y → Plus (lib.Ieee.mul binary64 x y)
+times : (x y : Float) → Plus x → Plus y → Plus (x *₆₄ y)
 times x y h k = sign-mul binary64 x y (rw (h, k) refl)
 
 distortion-plus : (d : BrownConrady5) → Plus (distortionPenalty d)

@@ -1,9 +1,9 @@
 -- When seeds are left, and what the floor of a reply means: it is the lowest penalty of the seeds left, and none of them can score below it, whatever list is lent.
 -- Assumes nothing.
-use Prim.Native.Nat.{ℕ, zero, suc, _+_, _-_, _≤_, _<_}
+use Prim.Native.Nat.{ℕ, suc, _-_, _≤_, _<_}
 use native.Mathlib.Omega.{arith}
 use mathlib.Core.Path.{_≡_, refl, sym, ap, _∙_}
-use mathlib.Core.Bool.{Bool, true, false, cond, true≢false}
+use mathlib.Core.Bool.{true, false, true≢false}
 use mathlib.Core.List.{List, [], _∷_, List·Memᴰ}
 use borrow.Author.Tests.{lt-ltb, le-ltb}
 use lib.Dec.{ltb}
@@ -21,7 +21,7 @@ use Rattle.score_best.specs.Best.{noBest}
 use Rattle.score_floor.specs.Floor.{floorOf, seedsFrom, seedsBetween}
 use Rattle.score_floor.specs.FloorLaws.{floor-holds}
 use Rattle.search_record.specs.Record.{sound}
-use Rattle.search_record.specs.Laws.{Bounds, bounds, waiting-at}
+use Rattle.search_record.specs.Laws.{bounds, waiting-at}
 use Rattle.search_record.specs.declared.run.Run.{Run}
 use Rattle.search_calls.specs.declared.stop.Outlook.{Outlook}
 use Rattle.search_calls.specs.declared.stop.Stopped.the-variants.{Standing, Refused}

@@ -1,6 +1,6 @@
 -- `score_floor::counted_penalty` meets its contract: `!=` tells a NaN from itself. Assumes nothing.
 use mathlib.Core.Path.{_≡_, sym, ap, _∙_}
-use mathlib.Core.Bool.{Bool, true, false, cond}
+use mathlib.Core.Bool.{true, false}
 use borrow.Author.Needs.{needs}
 use lib.Ieee.{Float, isNan, ne}
 use Rattle.float.specs.Literals.{infinity}
