@@ -23,12 +23,16 @@ use Rattle.search_calls.specs.Next.{nextDef, seedLent, seedPart}
 use Rattle.search_answer.specs.Answer.{nextSeeds, closeRound, enterDef, answerDef}
 use Rattle.search_calls.specs.declared.result.Resulted.the-variants.{Result, Refused}
 use Rattle.search_calls.specs.Result.{resultDef}
+use Rattle.search_calls.specs.Progress.{progressDef}
+use Rattle.search_calls.specs.Stop.{leftSeeds, bestSoFar, outlookOf, stopDef}
+use Rattle.score_floor.specs.Floor.{countedPenalty, floorOf, seedsFrom}
 use Rattle.book.specs.Walk.{runCall, walk}
 use Rattle.book.specs.Trace.{runAfter}
 use Rattle.book.specs.Theorem.{startedList}
 use Rattle.cases.specs.Words.{sixty, walkFrom}
 use Rattle.cases.specs.Whole.{wholeInputs, wholeRun, wholeCalls, wholeWinner, wholeReplies}
 use Rattle.cases.specs.Lost.{lostInputs, firstCalls, firstReplies, betweenCalls, betweenReplies, allLostInputs, allLostRun, allLostCalls, allLostReplies}
+use Rattle.cases.specs.Asked.{askedInputs, askedCalls, askedReplies}
 use Rattle.cases.specs.Ended.{emptyInputs, emptyCalls, emptyReplies, failedInputs, failedCalls, failedReplies}
 
 pub record OnWalk : Type 0 where
@@ -37,10 +41,11 @@ pub record OnWalk : Type 0 where
   pub whole : walkFrom wholeInputs wholeCalls ≡ wholeReplies
   pub first-lost : walkFrom lostInputs firstCalls ≡ firstReplies
   pub between-lost : walkFrom lostInputs betweenCalls ≡ betweenReplies
+  pub asked : walkFrom askedInputs askedCalls ≡ askedReplies
   pub all-lost : walkFrom allLostInputs allLostCalls ≡ allLostReplies
   pub all-lost-result : resultDef (runAfter allLostRun (startedList allLostInputs sixty) allLostCalls) ≡ Refused 11
   pub whole-result : resultDef (runAfter wholeRun (startedList wholeInputs sixty) wholeCalls) ≡ Result wholeWinner
 
 pub on-walk : OnWalk
-unfolding coefficientOf hornerOf seriesOf beyondHalf trigOf every absOf isFinite minOf maxOf clampOf rootIn isqrt rootOf root productOf firstOther secondOther minorOf cofactorOf determinantOf inverseOf tiltProjectionMatrix tiltVerdict forwardDepth inverseDepth applyHomography applyHomographyInverse radialFactor tangentialX tangentialY distorted jacobianRadial radialDerivative jacobianAt keep hasNear push mergedInto closer tiltNear cameraNear near within inBound pairs seedGrid initialList offsets nextList laid readFrom damped finiteIntrinsics finiteDistortion validCamera distortionPenalty tiltPenalty centrePenalty scoreOf rowsOf tiltMatrix projected rowError isCounted countedErrors summed errorSum meanOf anyAboveOne solvedRefusal findingRefusal meanWith scoringOf evaluated outcomeOf beats unbeaten firstUnbeaten bestOf noBest isBetter improved hasPlace sound awaiting withOutcome entered nextStep roundOpened ended goodSeed tooMany demandOf openingOf startReply startList nextDef seedLent seedPart nextSeeds closeRound enterDef answerDef resultDef runCall walk runAfter add sub mul div neg lt le eq isNan ofBits ofInt sum round units odd size span climb
-on-walk = record { empty = refl; failed = refl; whole = refl; first-lost = refl; between-lost = refl; all-lost = refl; all-lost-result = refl; whole-result = refl }
+unfolding coefficientOf hornerOf seriesOf beyondHalf trigOf every absOf isFinite minOf maxOf clampOf rootIn isqrt rootOf root productOf firstOther secondOther minorOf cofactorOf determinantOf inverseOf tiltProjectionMatrix tiltVerdict forwardDepth inverseDepth applyHomography applyHomographyInverse radialFactor tangentialX tangentialY distorted jacobianRadial radialDerivative jacobianAt keep hasNear push mergedInto closer tiltNear cameraNear near within inBound pairs seedGrid initialList offsets nextList laid readFrom damped finiteIntrinsics finiteDistortion validCamera distortionPenalty tiltPenalty centrePenalty scoreOf rowsOf tiltMatrix projected rowError isCounted countedErrors summed errorSum meanOf anyAboveOne solvedRefusal findingRefusal meanWith scoringOf evaluated outcomeOf beats unbeaten firstUnbeaten bestOf noBest isBetter improved hasPlace sound awaiting withOutcome entered nextStep roundOpened ended goodSeed tooMany demandOf openingOf startReply startList nextDef seedLent seedPart nextSeeds closeRound enterDef answerDef resultDef progressDef leftSeeds bestSoFar outlookOf stopDef countedPenalty floorOf seedsFrom runCall walk runAfter add sub mul div neg lt le eq isNan ofBits ofInt sum round units odd size span climb
+on-walk = record { empty = refl; failed = refl; whole = refl; first-lost = refl; between-lost = refl; asked = refl; all-lost = refl; all-lost-result = refl; whole-result = refl }

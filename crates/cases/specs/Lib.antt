@@ -4,3 +4,4 @@ pub mod Words
 pub mod Whole
 pub mod Ended
 pub mod Lost
+pub mod Asked
