@@ -302,6 +302,15 @@ typedef struct {
     size_t round, rounds, answered, total, answered_in_run;
 } jc_progress_reply;
 
+/* 0, and what a stopped run has: the best so far, where has_best is 1; where has_floor is 1 the lowest tilt penalty among the seeds of this
+ * round's list that are not answered yet, where it is 0 none is left; and no_gain 1 where that isn't below the best's score, so that this
+ * round can't find a better one. Or a refusal. */
+typedef struct {
+    uint8_t number, has_best, has_floor, no_gain;
+    jc_candidate best;
+    double floor;
+} jc_stop_flat;
+
 /* ---- root, camera, tilt, distortion ---- */
 
 /* The correctly rounded square root. */
@@ -401,6 +410,10 @@ jc_result_flat jc_result(jc_run_record run);
  * exactly the number of x tilts times the number of y tilts that lie within the bound, of x - s, x, x + s and y - s, y, y + s around the best
  * of the round before, each sum rounded. Refuses nothing; of a record that no call returned all numbers are 0. */
 jc_progress_reply jc_progress(jc_run_record run);
+/* The best so far, as jc_result gives it, and the floor: no candidate from the seeds left in this round can score below it, whichever camera the
+ * host finds. Later rounds aren't covered. May be called at any time, also while a seed waits and after the end; the run goes on unchanged. The
+ * waiting seed counts as the run keeps it, the others as they stand in the list now, a penalty that isn't a number as infinity. 10. */
+jc_stop_flat jc_stop(jc_run_record run, const double *list, size_t list_len);
 
 /* ---- for tests only: each struct as it came, to see that both sides lay it out alike ---- */
 
@@ -434,6 +447,7 @@ jc_next_flat jc_echo_next_flat(jc_next_flat x);
 jc_answer_flat jc_echo_answer_flat(jc_answer_flat x);
 jc_result_flat jc_echo_result_flat(jc_result_flat x);
 jc_progress_reply jc_echo_progress_reply(jc_progress_reply x);
+jc_stop_flat jc_echo_stop_flat(jc_stop_flat x);
 
 #ifdef __cplusplus
 }
@@ -552,6 +566,12 @@ JC_ASSERT(offsetof(jc_progress_reply, rounds) == 8);
 JC_ASSERT(offsetof(jc_progress_reply, answered) == 16);
 JC_ASSERT(offsetof(jc_progress_reply, total) == 24);
 JC_ASSERT(offsetof(jc_progress_reply, answered_in_run) == 32);
+JC_ASSERT(sizeof(jc_stop_flat) == 128);
+JC_ASSERT(offsetof(jc_stop_flat, has_best) == 1);
+JC_ASSERT(offsetof(jc_stop_flat, has_floor) == 2);
+JC_ASSERT(offsetof(jc_stop_flat, no_gain) == 3);
+JC_ASSERT(offsetof(jc_stop_flat, best) == 8);
+JC_ASSERT(offsetof(jc_stop_flat, floor) == 120);
 
 #undef JC_ASSERT
 

@@ -92,6 +92,10 @@ pub record Good (i : Inputs) (b : Book) : Type 0 where
 pub waits-going : (i : Inputs) (b : Book) → Good i b → b .waits ≡ true → b .over ≡ false
 waits-going i b g w = case (b .over) (λ o. absurd (true≢false (sym w ∙ g .calm o))) (λ o. o)
 
+-- no more are answered than the list has
+pub at-most : (i : Inputs) (b : Book) → Good i b → length (b .answered) ≤ length (b .list)
+at-most i b g = case (b .over) (λ o. let e = g .full o in omega arith) (λ o. let e = g .room o in omega arith)
+
 -- ---- Next
 await-core : (b : Book) → Core b → Core (withWaiting b)
 unfolding withWaiting

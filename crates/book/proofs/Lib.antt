@@ -11,11 +11,13 @@ pub mod Simulation
 pub mod Growth
 pub mod Taken
 pub mod Lengths
+pub mod Stopping
 pub mod Winner
 pub mod Refusals
 pub mod Starts
 pub mod Walks
 pub mod Share
+pub mod Stops
 pub mod Opening
 pub mod Ending
 pub mod Tilts

@@ -7,10 +7,11 @@ use mathlib.Core.List.{List, [], _∷_, _++_, append-assoc}
 use borrow.Author.Tests.{ltb-true, ltb-false, lt-ltb, le-ltb}
 use lib.Dec.{ltb}
 use lib.ListN.{length, getD, take, drop, length-append, length-take, length-drop}
-use lib.Seq.{getD-append-add, drop-append-add, take-append-add}
+use lib.Seq.{getD-append-add, drop-append-add, take-append-add, drop-cons, drop-length}
 use lib.Ieee.{Float, nan}
 use Rattle.seed_rules.specs.declared.CandidateSeed.{CandidateSeed}
 use Rattle.seed_rules.specs.Layout.{laid, six, flat, seedAt, written}
+use Rattle.score_floor.specs.Floor.{seedsFrom, seedsBetween}
 use Rattle.book.specs.Book.{noSeed}
 
 -- ---- the seeds in the list
@@ -66,6 +67,17 @@ give-back d ss k m f = record {
   long = rw length-append (let p = f .long in omega arith);
   fits = f .fits;
 }
+
+-- the seeds from place k on, as they stand there
+seeds-from : (ss : List CandidateSeed) (t : List Float) (k n : ℕ) → k + n ≡ length ss → seedsFrom (flat ss ++ t) k n ≡ drop k ss
+unfolding seedsFrom
+seeds-from ss t k zero h = let e : k ≡ length ss = omega arith in rw e (sym (drop-length ss))
+seeds-from ss t k (suc n) h =
+    let l : k < length ss = omega arith in
+    rw (seed-at ss t k l, seeds-from ss t (suc k) n (omega arith)) (sym (drop-cons ss k noSeed l))
+
+pub seeds-there : {d : ℕ} (ss : List CandidateSeed) (l : List Float) (k : ℕ) → Front d ss l → k ≤ length ss → seedsBetween l k (length ss) ≡ drop k ss
+seeds-there ss l k f h = rw (f .list-is) (seeds-from ss (f .tail) k (length ss - k) (omega arith))
 
 -- a list is written over the front
 pub write-front : (d : ℕ) (ts : List CandidateSeed) (l : List Float) → d ≤ length l → 6 * length ts ≤ d → Front d ts (written ts l)

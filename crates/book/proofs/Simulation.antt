@@ -8,6 +8,7 @@ use mathlib.Core.List.{List, [], _∷_, _++_, append-assoc, append-nil}
 use borrow.Author.Tests.{ltb-true, ltb-false, le-leb, lt-leb}
 use lib.Dec.{ltb, eqb, eqb·suc-zero}
 use lib.ListN.{length, take, drop, length-append, take-append-drop}
+use lib.Seq.{drop-cons}
 use lib.Ieee.{Float}
 use Rattle.common.specs.Tests.{case}
 use Rattle.float.specs.Binary64.{_*₆₄_}
@@ -29,15 +30,18 @@ use Rattle.search_calls.specs.Next.{nextDef, seedLent, seedPart}
 use Rattle.search_answer.specs.Answer as ans
 use Rattle.search_calls.specs.Result.{resultDef}
 use Rattle.search_calls.specs.Progress.{progressDef}
-use Rattle.book.specs.Calls.{Call, next, seed, answer, ask, progress, Reply, over, part, result, bar, refused}
-use Rattle.book.specs.Book.{Inputs, demand, Entry, Book, entries, number, current, scoredOf, roundBest, runBest, orElse, stepOf, listAround, withWaiting, withEntry, withRound, withEnd, closeRound, bookEnter, Kept, kept, bookNext, bookSeed, replyTo, bookAnswer, bookResult, bookProgress, bookCall}
-use Rattle.book.specs.Walk.{Step, runCall, answeredReply}
+use Rattle.search_calls.specs.declared.stop.Stopped.the-variants.{Standing, Refused}
+use Rattle.score_floor.specs.Floor.{seedsBetween}
+use Rattle.search_calls.specs.Stop.{leftSeeds, bestSoFar, outlookOf, stopDef}
+use Rattle.book.specs.Calls.{Call, next, seed, answer, ask, progress, stop, Reply, over, part, result, bar, stopped, refused}
+use Rattle.book.specs.Book.{Inputs, demand, Entry, Book, entries, number, noSeed, current, scoredOf, roundBest, runBest, orElse, stepOf, listAround, withWaiting, withEntry, withRound, withEnd, closeRound, bookEnter, Kept, kept, bookNext, bookSeed, replyTo, bookAnswer, bookResult, bookProgress, leftIn, restOf, bookStop, bookCall}
+use Rattle.book.specs.Walk.{Step, runCall, answeredReply, stoppedReply}
 use Rattle.book.proofs.Cases.{case-chosen, case-list, case-outcome}
 use Rattle.book.proofs.Moves.{entry}
 use Rattle.book.proofs.Seeds.{nine}
-use Rattle.book.proofs.Good.{Good, waits-going}
+use Rattle.book.proofs.Good.{Good, waits-going, at-most}
 use Rattle.book.proofs.RunOf.{runOf, State, run-waiting, run-round-best, run-run-best, run-max, run-one-axis, run-fields, run-bests, sound-run}
-use Rattle.book.proofs.Lists.{seed-at, part-at, Front, lend, give-back, write-front, no-front, short}
+use Rattle.book.proofs.Lists.{seed-at, part-at, seeds-there, Front, lend, give-back, write-front, no-front, short}
 
 -- a call's step beside the book's
 pub record Agrees (x : Step) (k : Kept) : Type 0 where
@@ -115,6 +119,51 @@ progress-is i b g = simp (run-fields, sound-run i b g)
 progress-agrees : (i : Inputs) (b : Book) (l : List Float) → State i b l → Agrees (runCall (runOf b) l progress) (bookProgress b)
 unfolding runCall bookProgress
 progress-agrees i b l f = simp (progress-is i b (f .good)) (unmoved b l (f .there) (bar _))
+
+-- ---- the stop call
+left-is : (b : Book) (l : List Float) → There b l → length (b .answered) ≤ length (b .list) → (b .waits ≡ true → length (b .answered) < length (b .list))
+    → leftSeeds (runOf b) l ≡ leftIn b
+unfolding leftSeeds
+left-is b l f h k =
+    case (b .waits)
+    (λ w. simp (run-fields, w) (left-after b l f (k w)))
+    (λ w. simp (run-fields, w) (seeds-there (b .list) l (length (b .answered)) f h))
+  where
+    left-after : (b : Book) (l : List Float) → There b l → length (b .answered) < length (b .list)
+        → current b ∷ seedsBetween l (length (b .answered) + 1) (length (b .list)) ≡ leftIn b
+    left-after b l f k =
+        rw (add-one (length (b .answered)), seeds-there (b .list) l (suc (length (b .answered))) f (omega arith))
+        (sym (drop-cons (b .list) (length (b .answered)) noSeed k))
+
+best-is : (b : Book) → bestSoFar (runOf b) ≡ held (runBest b)
+unfolding bestSoFar
+best-is b = case-chosen (runBest b) (λ e. simp (run-bests, e)) (λ w e. simp (run-bests, e))
+
+outlook-read : (c : Chosen) (ss : List CandidateSeed) → stoppedReply (Standing (outlookOf (held c) ss)) ≡ stopped c (restOf ss c)
+unfolding outlookOf restOf noBest
+outlook-read nothing [] = refl
+outlook-read nothing (s ∷ ss) = refl
+outlook-read (chosen w) [] = refl
+outlook-read (chosen w) (s ∷ ss) = refl
+
+pub stop-is : (i : Inputs) (b : Book) (l : List Float) (n : ℕ) → State i b l
+    → stopDef (runOf b) (take n l) ≡ cond (ltb n (demand (b .inputs))) (Refused 10) (Standing (outlookOf (held (runBest b)) (leftIn b)))
+unfolding stopDef
+stop-is i b l n f =
+    let d = short (demand (b .inputs)) l n (f .there .long) in
+    let t = sound-run i b (f .good) in
+    case (ltb n (demand (b .inputs)))
+    (λ s. simp (run-fields, t, d, s))
+    (λ s.
+    let g = lend (demand (b .inputs)) (b .list) l n (f .there) (ltb-false n (demand (b .inputs)) s) in
+    simp (run-fields, t, d, s, best-is b, left-is b (take n l) g (at-most i b (f .good)) (λ w. f .good .room (waits-going i b (f .good) w))))
+
+stop-agrees : (i : Inputs) (b : Book) (l : List Float) (n : ℕ) → State i b l → Agrees (runCall (runOf b) l (stop n)) (bookStop b n)
+unfolding runCall bookStop
+stop-agrees i b l n f =
+    case (ltb n (demand (b .inputs)))
+    (λ s. simp (stop-is i b l n f, s) (unmoved b l (f .there) (refused 10)))
+    (λ s. simp (stop-is i b l n f, s, outlook-read) (unmoved b l (f .there) (stopped (runBest b) (restOf (leftIn b) (runBest b)))))
 
 -- ---- the end of a round
 -- the run and the list that go with a book
@@ -332,3 +381,4 @@ call-agrees i b l (seed n) f = seed-agrees i b l n f
 call-agrees i b l (answer n f rows flags) g = answer-agrees i b l n f rows flags g
 call-agrees i b l ask f = result-agrees i b l f
 call-agrees i b l progress f = progress-agrees i b l f
+call-agrees i b l (stop n) f = stop-agrees i b l n f

@@ -27,7 +27,7 @@ use Rattle.search_answer.specs.Answer.{answerRefusal}
 use Rattle.search_calls.specs.Result.{resultDef}
 use Rattle.book.specs.Calls.{Call}
 use Rattle.book.specs.Book.{Inputs, demand, Book, entries, number, current, scoredOf, runBest, opened, after}
-use Rattle.book.specs.Trace.{Handing, tiltY, handedInRound, handed, answers, listAfter}
+use Rattle.book.specs.Trace.{Handing, tiltY, handedInRound, handed, listAfter}
 use Rattle.book.specs.Named.{outcomesIn, handings}
 use Rattle.book.specs.Share.{AnsweredBy}
 use Rattle.book.specs.Theorem.{startedList, NoNan, Over, Follows, SearchIsBook}
@@ -39,7 +39,8 @@ use Rattle.book.proofs.Good.{Proper, Good, waits-going, current-seeded}
 use Rattle.book.proofs.RunOf.{runOf, State, run-fields, run-bests, sound-run, count-bound}
 use Rattle.book.proofs.Growth.{waitingHanding, handedIn, handingNow}
 use Rattle.book.proofs.Winner.{numbers, winner}
-use Rattle.book.proofs.Walks.{walks}
+use Rattle.book.proofs.Walks.{walks, same-answers}
+use Rattle.book.proofs.Stops.{stops}
 use Rattle.book.proofs.Share.{by-calls}
 use Rattle.book.proofs.Tilts.{all-tried}
 use Rattle.book.proofs.Taken.{not-refused}
@@ -141,7 +142,7 @@ follows i l cs t =
     let g = w .state .good in
     let p : All (Proper i) (entries b) = rw (g .inputs-are) at (g .core .proper) in
     let seeded = subst (λ (j : Inputs). All (HandedSeed j) (handedIn b)) (g .inputs-are) (handed-seeded i b g) in
-    let same : answers (runOf (opened i)) l cs ≡ entries b = unfold opened in w .same-entries in
+    let same = same-answers i l cs t in
     let out : handed (runOf (opened i)) l cs ≡ handedIn b = unfold opened handedIn in w .same-handed in
     record {
       same-replies = w .same-replies;
@@ -165,6 +166,7 @@ follows i l cs t =
       few-answers = rw same (count-bound i b g);
       answer-accepted = rw (w .run-is) (answer-open i b (listAfter (runOf (opened i)) l cs) (w .state));
       later-round = rw (w .run-is, same, progress-is i b g) (later-round i b g);
+      stops = stops i l cs t;
     }
 
 opened-number : (i : Inputs) → runOf (opened i) .place .number ≡ 0

@@ -4,8 +4,8 @@ use Prim.Native.Nat.{ℕ, zero, suc, _+_, _-_, _*_, _/_}
 use mathlib.Core.Bool.{Bool, true, false, not, _&&_, cond}
 use mathlib.Core.List.{List, [], _∷_, _++_}
 use lib.Dec.{ltb, eqb}
-use lib.ListN.{length, getD}
-use lib.Ieee.{Float}
+use lib.ListN.{length, getD, drop}
+use lib.Ieee.{Float, lt}
 use Rattle.common.specs.Refusal.{_when_, firstRefusal}
 use Rattle.float.specs.Binary64.{_*₆₄_}
 use Rattle.float.specs.Literals.{plusZero, half₆₄}
@@ -20,7 +20,8 @@ use Rattle.score_outcome.specs.declared.Outcome.the-variants.{Skipped, Scored}
 use Rattle.score_outcome.specs.Evaluation.{outcomeOf, findingRefusal}
 use Rattle.score_best.specs.declared.Candidate.{Candidate}
 use Rattle.score_best.specs.Best.{Chosen, nothing, chosen, bestOf, candidateOf}
-use Rattle.book.specs.Calls.{Call, next, seed, answer, ask, progress, Reply, candidate, over, part, scored, skipped, result, bar, refused}
+use Rattle.score_floor.specs.Floor.{floorOf}
+use Rattle.book.specs.Calls.{Call, next, seed, answer, ask, progress, stop, Rest, nothing-left, floor, Reply, candidate, over, part, scored, skipped, result, bar, stopped, refused}
 
 -- ---- what Start is given
 pub record Inputs : Type 0 where
@@ -224,12 +225,30 @@ unfoldable pub bookProgress : Book → Kept
 bookProgress b =
     kept (bar (record { round = b .round; rounds = b .inputs .rounds; answered = length (b .answered); total = length (b .list); in-run = number b })) b
 
+-- the stop call: the seeds of this round's list not yet answered, the waiting one first
+abbrev pub leftIn : Book → List CandidateSeed
+leftIn b = drop (length (b .answered)) (b .list)
+
+-- the round can gain nothing where the floor isn't below the best's score; with no best nothing is said of gain
+abbrev pub noGain : Float → Chosen → Bool
+noGain x nothing = false
+noGain x (chosen w) = not (lt x (w .score))
+
+unfoldable pub restOf : List CandidateSeed → Chosen → Rest
+restOf [] best = nothing-left
+restOf (s ∷ ss) best = floor (floorOf (s ∷ ss)) (noGain (floorOf (s ∷ ss)) best)
+
+-- 10 the list is too short; else the run's best, if any, and what is left
+unfoldable pub bookStop : Book → ℕ → Kept
+bookStop b n = unless (firstRefusal ((10 when ltb n (demand (b .inputs))) ∷ [])) b (kept (stopped (runBest b) (restOf (leftIn b) (runBest b))) b)
+
 unfoldable pub bookCall : Book → Call → Kept
 bookCall b (next n) = bookNext b n
 bookCall b (seed n) = bookSeed b n
 bookCall b (answer n f rows flags) = bookAnswer b n f rows flags
 bookCall b ask = bookResult b
 bookCall b progress = bookProgress b
+bookCall b (stop n) = bookStop b n
 
 -- ---- a whole list of calls: the book's replies, and the book after them
 unfoldable pub replies : Book → List Call → List Reply

@@ -1,9 +1,11 @@
 -- The calls that follow Start, and their replies by 01's numbers. Definitions only.
 use Prim.Native.Nat.{ℕ}
+use mathlib.Core.Bool.{Bool}
 use mathlib.Core.List.{List}
 use lib.Ieee.{Float}
 use Rattle.score_outcome.specs.declared.Finding.{Finding}
 use Rattle.score_best.specs.declared.Candidate.{Candidate}
+use Rattle.score_best.specs.Best.{Chosen}
 
 -- A call, with its arguments. n is how many numbers of the seed list the host lends, from its front, so that a list may be too short.
 pub data Call : Type 0 where
@@ -12,6 +14,7 @@ pub data Call : Type 0 where
   answer : ℕ → Finding → List Float → List ℕ → Call
   ask : Call
   progress : Call
+  stop : ℕ → Call
 
 -- how far a run has come: its round, and the rounds asked for; of this round's list the answered seeds, and all; and the answered ones of the run
 pub record Progress : Type 0 where
@@ -21,6 +24,11 @@ pub record Progress : Type 0 where
   pub total : ℕ
   pub in-run : ℕ
 
+-- what is left of a round: nothing, or the floor of its seeds that are left and whether the round can gain nothing
+pub data Rest : Type 0 where
+  nothing-left : Rest
+  floor : Float → Bool → Rest
+
 pub data Reply : Type 0 where
   candidate : ℕ → Reply
   over : Reply
@@ -29,4 +37,5 @@ pub data Reply : Type 0 where
   skipped : ℕ → Reply
   result : Candidate → Reply
   bar : Progress → Reply
+  stopped : Chosen → Rest → Reply
   refused : ℕ → Reply

@@ -5,6 +5,7 @@ pub mod Conditions
 pub mod Trace
 pub mod Named
 pub mod Rounds
+pub mod Stop
 pub mod Lent
 pub mod Share
 pub mod Theorem

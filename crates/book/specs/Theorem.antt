@@ -4,7 +4,7 @@ use mathlib.Core.Path.{_≡_}
 use mathlib.Core.Logic.{_⊎_}
 use mathlib.Core.Bool.{true, false}
 use mathlib.Core.List.{List, List·Memᴰ}
-use lib.ListN.{length}
+use lib.ListN.{length, take}
 use lib.Ieee.{Float, neg, lt, le, eq, isNan}
 use Rattle.common.specs.Each.{All}
 use Rattle.common.specs.Refusal.{firstRefusal}
@@ -34,6 +34,9 @@ use Rattle.search_calls.specs.Next.{nextDef}
 use Rattle.search_answer.specs.Answer.{answerRefusal}
 use Rattle.search_calls.specs.Result.{resultDef}
 use Rattle.search_calls.specs.Progress.{progressDef}
+use Rattle.search_calls.specs.declared.stop.Outlook.{Outlook}
+use Rattle.search_calls.specs.declared.stop.Stopped.the-variants.{Standing}
+use Rattle.search_calls.specs.Stop.{stopDef}
 use Rattle.book.specs.Calls.{Call}
 use Rattle.book.specs.Book.{Inputs, demand, Entry, entries, scoredOf, firstList, opened, replies, after}
 use Rattle.book.specs.Conditions.{FirstHolds, NoneHolds, conditions}
@@ -42,6 +45,7 @@ use Rattle.book.specs.Trace.{Handing, tiltY, handedInRound, handed, answ
 use Rattle.book.specs.Named.{outcomesIn, handings}
 use Rattle.book.specs.Rounds.{LaterRound}
 use Rattle.book.specs.Share.{AnsweredBy}
+use Rattle.book.specs.Stop.{Stops}
 use Rattle.book.specs.Lent.{Lent, through, accepted, stillLeft, Turn, AllTaken, turns}
 
 -- ---- Start, on the book's inputs and a lent list
@@ -128,6 +132,8 @@ pub record Follows (i : Inputs) (r : Run) (l : List Float) (cs : List Call) : Ty
       → (f ≡ Failed) ⊎ (firstRefusal (rowChecks rows flags) ≡ 0) → answerRefusal (runAfter r l cs) (length (listAfter r l cs)) f rows flags ≡ 0
   -- the progress bar: after round 0 its total is exactly what the rules for the tilts give
   pub later-round : 0 < progressDef (runAfter r l cs) .round → LaterRound i (answers r l cs) (progressDef (runAfter r l cs) .round) (progressDef (runAfter r l cs) .total)
+  -- the stop call, of which n numbers of the list are lent: what it says of this round is so, whatever calls follow
+  pub stops : (n : ℕ) (o : Outlook) → stopDef (runAfter r l cs) (take n (listAfter r l cs)) ≡ Standing o → Stops r l cs o
 
 -- ---- the end of a run, whatever list each call is lent and whatever is answered: s is the run after the calls cs
 pub record Ends (i : Inputs) (r : Run) (cs : List Lent) (s : Run) : Type 0 where

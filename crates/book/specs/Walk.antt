@@ -1,8 +1,11 @@
 -- The run beside the book: a list of calls, each given the run and the seed list as the calls before left them, by the very definitions
 -- that the entry points' contracts name. Definitions only.
+use mathlib.Core.Bool.{cond}
 use mathlib.Core.List.{List, [], _∷_, _++_}
 use lib.ListN.{take, drop}
 use lib.Ieee.{Float}
+use Rattle.score_best.specs.declared.Best.{Best}
+use Rattle.score_best.specs.Best.{Chosen, nothing, chosen}
 use Rattle.search_record.specs.declared.run.Run.{Run}
 use Rattle.search_calls.specs.declared.next.Handed.{Handed}
 use Rattle.search_calls.specs.declared.next.Handed.the-variants as handed
@@ -11,11 +14,14 @@ use Rattle.search_answer.specs.declared.Answered.the-variants as answered
 use Rattle.search_calls.specs.declared.result.Resulted.{Resulted}
 use Rattle.search_calls.specs.declared.result.Resulted.the-variants as resulted
 use Rattle.search_calls.specs.declared.progress.ProgressReply.{ProgressReply}
+use Rattle.search_calls.specs.declared.stop.Stopped.{Stopped}
+use Rattle.search_calls.specs.declared.stop.Stopped.the-variants as stopped-as
 use Rattle.search_calls.specs.Next.{nextDef, seedPart}
 use Rattle.search_answer.specs.Answer.{answerDef}
 use Rattle.search_calls.specs.Result.{resultDef}
 use Rattle.search_calls.specs.Progress.{progressDef}
-use Rattle.book.specs.Calls.{Call, next, seed, answer, ask, progress, Reply, candidate, over, part, scored, skipped, result, bar, refused}
+use Rattle.search_calls.specs.Stop.{stopDef}
+use Rattle.book.specs.Calls.{Call, next, seed, answer, ask, progress, stop, nothing-left, floor, Reply, candidate, over, part, scored, skipped, result, bar, stopped, refused}
 
 -- ---- the entry points' replies, by 01's numbers
 abbrev pub handedReply : Handed → Reply
@@ -35,6 +41,13 @@ resultedReply (resulted.Refused n) = refused n
 abbrev pub progressReply : ProgressReply → Reply
 progressReply p = bar (record { round = p .round; rounds = p .rounds; answered = p .answered; total = p .total; in-run = p .«answered_in_run» })
 
+abbrev pub chosenOf : Best → Chosen
+chosenOf b = cond (b .found) (chosen (b .candidate)) nothing
+
+abbrev pub stoppedReply : Stopped → Reply
+stoppedReply (stopped-as.Standing o) = stopped (chosenOf (o .best)) (cond (o .«has_floor») (floor (o .floor) (o .«no_gain»)) nothing-left)
+stoppedReply (stopped-as.Refused n) = refused n
+
 -- ---- what a call replies, and the run and the whole seed list after it
 pub record Step : Type 0 where
   pub reply : Reply
@@ -49,6 +62,7 @@ runCall r l (answer n f rows flags) =
     record { reply = answeredReply (a .reply .reply); run = a .reply .run; list = a .list ++ drop n l }
 runCall r l ask = record { reply = resultedReply (resultDef r); run = r; list = l }
 runCall r l progress = record { reply = progressReply (progressDef r); run = r; list = l }
+runCall r l (stop n) = record { reply = stoppedReply (stopDef r (take n l)); run = r; list = l }
 
 unfoldable pub walk : Run → List Float → List Call → List Reply
 walk r l [] = []

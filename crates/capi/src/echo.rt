@@ -23,6 +23,7 @@ use capi_records::run::AnswerFlat;
 use capi_records::run::NextFlat;
 use capi_records::run::ResultFlat;
 use capi_records::run::StartFlat;
+use capi_records::run::StopFlat;
 use capi_records::scoring::ErrorCountReply;
 use score_best::Candidate;
 use score_camera::pinhole::PinholeCamera;
@@ -236,6 +237,13 @@ pub extern "C" fn jc_echo_result_flat(x: ResultFlat) -> ResultFlat
 
 #[no_mangle]
 pub extern "C" fn jc_echo_progress_reply(x: ProgressReply) -> ProgressReply
+    ensures { λ r. ⌜ r ≡ x ⌝ }
+{
+    x
+}
+
+#[no_mangle]
+pub extern "C" fn jc_echo_stop_flat(x: StopFlat) -> StopFlat
     ensures { λ r. ⌜ r ≡ x ⌝ }
 {
     x

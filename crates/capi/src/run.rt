@@ -1,12 +1,13 @@
-// The search: Start, Next, the seed call, Answer, Result and the progress call over the run's record. The caller keeps the record that a call returns and hands it to the next.
+// The search: Start, Next, the seed call, Answer, Result, the progress call and the stop call over the run's record. The caller keeps the record that a call returns and hands it to the next.
 ghost use mathlib.Core.Path.{_≡_};
 ghost use Rattle.search_start.specs.Start.{startReply, startList};
 ghost use Rattle.search_calls.specs.Next.{nextDef, seedPart};
 ghost use Rattle.search_answer.specs.Answer.{answerDef};
 ghost use Rattle.search_calls.specs.Result.{resultDef};
 ghost use Rattle.search_calls.specs.Progress.{progressDef};
+ghost use Rattle.search_calls.specs.Stop.{stopDef};
 ghost use Rattle.capi_records.specs.Record.{optionsFrom, runFrom};
-ghost use Rattle.capi_records.specs.Run.{flatStarted, flatNext, flatAnswer, flatResult, findingOf, copied, copyCount};
+ghost use Rattle.capi_records.specs.Run.{flatStarted, flatNext, flatAnswer, flatResult, flatStopped, findingOf, copied, copyCount};
 use camera_models::intrinsics::FxFyCxCy;
 use camera_models::math::Pt2;
 use capi_records::record::OptionsRecord;
@@ -17,12 +18,14 @@ use capi_records::run::AnswerFlat;
 use capi_records::run::NextFlat;
 use capi_records::run::ResultFlat;
 use capi_records::run::StartFlat;
+use capi_records::run::StopFlat;
 use capi_records::run::answer_flat;
 use capi_records::run::copy_part;
 use capi_records::run::finding_of;
 use capi_records::run::next_flat;
 use capi_records::run::result_flat;
 use capi_records::run::start_flat;
+use capi_records::run::stop_flat;
 use score_camera::pinhole::PinholeCamera;
 use search_calls::progress::ProgressReply;
 
@@ -106,4 +109,12 @@ pub extern "C" fn jc_progress(run: RunRecord) -> ProgressReply
     ensures { λ r. ⌜ r ≡ progressDef (runFrom run) ⌝ }
 {
     search_calls::progress::progress(run_of(run))
+}
+
+// The stop call: the best so far, and how much this round could still gain.
+#[no_mangle]
+pub extern "C" fn jc_stop(run: RunRecord, list: &[f64]) -> StopFlat
+    ensures { λ r. ⌜ r ≡ flatStopped (stopDef (runFrom run) (now (list .entry))) ⌝ }
+{
+    stop_flat(search_calls::stop::stop(run_of(run), list))
 }

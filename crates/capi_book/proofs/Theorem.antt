@@ -2,10 +2,10 @@
 use Prim.Native.Nat.{ℕ, _≤_}
 use native.Mathlib.Omega.{arith}
 use mathlib.Core.Path.{_≡_, refl, ap, _∙_}
-use mathlib.Core.Bool.{cond, true≢false}
+use mathlib.Core.Bool.{Bool, true, false, cond, true≢false}
 use mathlib.Core.List.{List, [], _∷_, _++_, map}
 use borrow.Author.Tests.{le-leb, ne-eqb}
-use lib.Dec.{eqb}
+use lib.Dec.{ltb, eqb}
 use lib.ListN.{length, take, drop, length-take}
 use lib.Ieee.{Float}
 use Rattle.common.specs.Tests.{case}
@@ -16,7 +16,9 @@ use Rattle.score_outcome.specs.declared.Outcome.{Outcome}
 use Rattle.score_outcome.specs.declared.Outcome.the-variants.{Skipped, Scored}
 use Rattle.score_outcome.specs.Evaluation.{outcomeOf}
 use Rattle.score_outcome.specs.Facts.{skipped-reason}
+use Rattle.score_best.specs.Best.{noBest}
 use Rattle.search_record.specs.declared.run.Run.{Run}
+use Rattle.search_record.specs.Record.{sound}
 use Rattle.search_start.specs.declared.Started.the-variants.{Accepted, Refused}
 use Rattle.search_start.specs.Start.{startReply, startRefusal}
 use Rattle.search_calls.specs.declared.next.Handed.{Handed}
@@ -28,15 +30,18 @@ use Rattle.search_answer.specs.Answer.{answerRefusal, enterDef, answerDef, repl
 use Rattle.search_calls.specs.declared.progress.ProgressReply.{ProgressReply}
 use Rattle.search_calls.specs.Result.{resultRefusal, resultDef}
 use Rattle.search_calls.specs.Progress.{progressDef}
-use Rattle.capi_records.specs.Record.{flatRun}
+use Rattle.search_calls.specs.declared.stop.Outlook.{Outlook}
+use Rattle.search_calls.specs.declared.stop.Stopped.the-variants.{Standing}
+use Rattle.search_calls.specs.Stop.{bestSoFar, leftSeeds, nothingLeft, outlookOf, stopDef}
+use Rattle.capi_records.specs.Record.{flagOf, isSet, flatRun}
 use Rattle.capi_records.specs.RoundTrip.{run-back}
-use Rattle.capi_records.specs.Run.{flatStarted, flatHanded, flatNext, flatAnswered, flatAnswer, flatResult, findingOf, copied, copyCount}
+use Rattle.capi_records.specs.Run.{flatStarted, flatHanded, flatNext, flatAnswered, flatAnswer, flatResult, flatStopped, findingOf, copied, copyCount}
 use Rattle.book.specs.Book.{Inputs}
 use Rattle.book.specs.Calls.{Reply, part}
-use Rattle.book.specs.Walk.{Step, handedReply, answeredReply, resultedReply, progressReply, runCall, walk}
+use Rattle.book.specs.Walk.{Step, handedReply, answeredReply, resultedReply, progressReply, stoppedReply, runCall, walk}
 use Rattle.book.specs.Theorem.{optionsOf, startOf, startedList}
 use Rattle.book.proofs.Theorem.{search-is-book}
-use Rattle.capi_book.specs.Exported.{Exported, jc-next, jc-seed, jc-answer, jc-result, jc-progress, callOf, readNext, readAnswer, readResult, readProgress, FlatStep, flatCall, flatWalk}
+use Rattle.capi_book.specs.Exported.{Exported, jc-next, jc-seed, jc-answer, jc-result, jc-progress, jc-stop, callOf, readNext, readAnswer, readResult, readProgress, readStop, FlatStep, flatCall, flatWalk}
 use Rattle.capi_book.specs.Theorem.{ExportedIsWalk, ExportedIsBook}
 
 -- ---- the record in a reply
@@ -64,6 +69,25 @@ result-read r = case (eqb (resultRefusal r) 0) (λ h. simp h) (λ h. simp h)
 
 progress-read : (p : ProgressReply) → readProgress p ≡ progressReply p
 progress-read p = refl
+
+-- a flag as it was set
+flag-read : {A : Type 0} (b : Bool) (x y : A) → cond (eqb (flagOf b) 0) x y ≡ cond b y x
+flag-read true x y = refl
+flag-read false x y = refl
+
+set-read : (b : Bool) → isSet (flagOf b) ≡ b
+set-read true = refl
+set-read false = refl
+
+outlook-read : (o : Outlook) → readStop (flatStopped (Standing o)) ≡ stoppedReply (Standing o)
+outlook-read o = rw (flag-read (o .best .found), flag-read (o .«has_floor»), set-read (o .«no_gain»))
+
+stop-read : (r : Run) (l : List Float) → readStop (flatStopped (stopDef r l)) ≡ stoppedReply (stopDef r l)
+unfolding stopDef
+stop-read r l =
+    case (sound r)
+    (λ s. case (ltb (length l) (r .place .demand)) (λ t. simp (s, t)) (λ t. simp (s, t) (outlook-read (outlookOf (bestSoFar r) (leftSeeds r l)))))
+    (λ s. simp s (outlook-read (nothingLeft noBest)))
 
 outcome-read : (share : ℕ) (f : Finding) (sensor : ScheimpflugParams) (center : Pt2) (rows : List Float) (flags : List ℕ) (r : Run)
     → readAnswer (flatAnswered (replyOf (outcomeOf share f sensor center rows flags)) r) ≡ answeredReply (replyOf (outcomeOf share f sensor center rows flags))
@@ -118,6 +142,7 @@ call-same r l (jc-answer n solved camera rows flags) =
     }
 call-same r l jc-result = record { reply = rw (run-back r) (result-read r); run = refl; list = refl }
 call-same r l jc-progress = record { reply = rw (run-back r) (progress-read (progressDef r)); run = refl; list = refl }
+call-same r l (jc-stop n) = record { reply = rw (run-back r) (stop-read r (take n l)); run = refl; list = refl }
 
 walk-more : (r : Run) (l : List Float) (c : Exported) (cs : List Exported)
     → ((s : Run) (k : List Float) → flatWalk (flatRun s) k cs ≡ walk s k (map callOf cs)) → flatWalk (flatRun r) l (c ∷ cs) ≡ walk r l (map callOf (c ∷ cs))

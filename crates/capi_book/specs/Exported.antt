@@ -12,13 +12,16 @@ use Rattle.search_answer.specs.Answer.{answerDef}
 use Rattle.search_calls.specs.declared.progress.ProgressReply.{ProgressReply}
 use Rattle.search_calls.specs.Result.{resultDef}
 use Rattle.search_calls.specs.Progress.{progressDef}
+use Rattle.search_calls.specs.Stop.{stopDef}
 use Rattle.capi_records.specs.declared.record.RunRecord.{RunRecord}
 use Rattle.capi_records.specs.declared.run.NextFlat.{NextFlat}
 use Rattle.capi_records.specs.declared.run.AnswerFlat.{AnswerFlat}
 use Rattle.capi_records.specs.declared.run.ResultFlat.{ResultFlat}
-use Rattle.capi_records.specs.Record.{runFrom}
-use Rattle.capi_records.specs.Run.{flatNext, flatAnswer, flatResult, findingOf, copied, copyCount}
-use Rattle.book.specs.Calls.{Call, Reply, candidate, over, part, scored, skipped, result, bar, refused}
+use Rattle.capi_records.specs.declared.run.StopFlat.{StopFlat}
+use Rattle.capi_records.specs.Record.{isSet, runFrom}
+use Rattle.capi_records.specs.Run.{flatNext, flatAnswer, flatResult, flatStopped, findingOf, copied, copyCount}
+use Rattle.score_best.specs.Best.{nothing, chosen}
+use Rattle.book.specs.Calls.{Call, nothing-left, floor, Reply, candidate, over, part, scored, skipped, result, bar, stopped, refused}
 use Rattle.book.specs.Calls as book
 
 -- An exported call with its arguments, but for the run's record and the seed list. n is how many numbers of the list are lent; jc_seed also
@@ -29,6 +32,7 @@ pub data Exported : Type 0 where
   jc-answer : ℕ → ℕ → PinholeCamera → List Float → List ℕ → Exported
   jc-result : Exported
   jc-progress : Exported
+  jc-stop : ℕ → Exported
 
 -- the call of the book that it makes
 abbrev pub callOf : Exported → Call
@@ -37,6 +41,7 @@ callOf (jc-seed n to room) = book.seed n
 callOf (jc-answer n solved camera rows flags) = book.answer n (findingOf solved camera) rows flags
 callOf jc-result = book.ask
 callOf jc-progress = book.progress
+callOf (jc-stop n) = book.stop n
 
 -- ---- what a host reads off a reply: a number that isn't 0 is a refusal's, and then the flags say which field counts
 abbrev pub readNext : NextFlat → Reply
@@ -50,6 +55,12 @@ readResult f = cond (eqb (f .number) 0) (result (f .candidate)) (refused (f .num
 
 abbrev pub readProgress : ProgressReply → Reply
 readProgress p = bar (record { round = p .round; rounds = p .rounds; answered = p .answered; total = p .total; in-run = p .«answered_in_run» })
+
+abbrev pub readStop : StopFlat → Reply
+readStop f =
+    cond (eqb (f .number) 0)
+    (stopped (cond (eqb (f .«has_best») 0) nothing (chosen (f .best))) (cond (eqb (f .«has_floor») 0) nothing-left (floor (f .floor) (isSet (f .«no_gain»)))))
+    (refused (f .number))
 
 -- ---- what is read of a call, and the record and the whole seed list after it
 pub record FlatStep : Type 0 where
@@ -68,6 +79,7 @@ flatCall r l (jc-answer n solved camera rows flags) =
     record { reply = readAnswer f; run = f .run; list = a .list ++ drop n l }
 flatCall r l jc-result = record { reply = readResult (flatResult (resultDef (runFrom r))); run = r; list = l }
 flatCall r l jc-progress = record { reply = readProgress (progressDef (runFrom r)); run = r; list = l }
+flatCall r l (jc-stop n) = record { reply = readStop (flatStopped (stopDef (runFrom r) (take n l))); run = r; list = l }
 
 unfoldable pub flatWalk : RunRecord → List Float → List Exported → List Reply
 flatWalk r l [] = []

@@ -21,11 +21,15 @@ use Rattle.search_answer.specs.declared.Answered.the-variants as answered
 use Rattle.search_answer.specs.declared.AnswerReply.{AnswerReply}
 use Rattle.search_calls.specs.declared.result.Resulted.{Resulted}
 use Rattle.search_calls.specs.declared.result.Resulted.the-variants as resulted
-use Rattle.capi_records.specs.Record.{flatRun, noRun}
+use Rattle.search_calls.specs.declared.stop.Outlook.{Outlook}
+use Rattle.search_calls.specs.declared.stop.Stopped.{Stopped}
+use Rattle.search_calls.specs.declared.stop.Stopped.the-variants as stopped
+use Rattle.capi_records.specs.Record.{flagOf, flatRun, noRun}
 use Rattle.capi_records.specs.declared.run.StartFlat.{StartFlat}
 use Rattle.capi_records.specs.declared.run.NextFlat.{NextFlat}
 use Rattle.capi_records.specs.declared.run.AnswerFlat.{AnswerFlat}
 use Rattle.capi_records.specs.declared.run.ResultFlat.{ResultFlat}
+use Rattle.capi_records.specs.declared.run.StopFlat.{StopFlat}
 
 -- 01, 'Start'
 abbrev pub flatStarted : Started → StartFlat
@@ -54,6 +58,21 @@ flatAnswer a = flatAnswered (a .reply) (a .run)
 abbrev pub flatResult : Resulted → ResultFlat
 flatResult (resulted.Result c) = record { number = 0; candidate = c }
 flatResult (resulted.Refused n) = record { number = n; candidate = noBest .candidate }
+
+-- 02, E9
+abbrev pub flatOutlook : Outlook → StopFlat
+flatOutlook o = record {
+  number = 0;
+  «has_best» = flagOf (o .best .found);
+  «has_floor» = flagOf (o .«has_floor»);
+  «no_gain» = flagOf (o .«no_gain»);
+  best = o .best .candidate;
+  floor = o .floor;
+}
+
+abbrev pub flatStopped : Stopped → StopFlat
+flatStopped (stopped.Standing o) = flatOutlook o
+flatStopped (stopped.Refused n) = record { number = n; «has_best» = 0; «has_floor» = 0; «no_gain» = 0; best = noBest .candidate; floor = plusZero }
 
 -- the host's finding: Failed, or Solved where the flag is set
 abbrev pub findingOf : ℕ → PinholeCamera → Finding

@@ -4,8 +4,9 @@ ghost use Prim.Native.Nat.{_≤_};
 ghost use lib.ListN.{length};
 ghost use lib.Seq.{sets};
 ghost use Rattle.score_best.specs.Best.{noBest};
-ghost use Rattle.capi_records.specs.Run.{flatStarted, flatNext, flatAnswer, flatResult, findingOf, copied, copyCount};
+ghost use Rattle.capi_records.specs.Run.{flatStarted, flatNext, flatAnswer, flatResult, flatOutlook, flatStopped, findingOf, copied, copyCount};
 use crate::record::RunRecord;
+use crate::record::flag;
 use crate::record::no_run;
 use crate::record::run_record;
 use score_best::Candidate;
@@ -16,6 +17,8 @@ use search_answer::Answered;
 use search_calls::next::Handed;
 use search_calls::next::NextReply;
 use search_calls::result::Resulted;
+use search_calls::stop::Outlook;
+use search_calls::stop::Stopped;
 use search_start::Started;
 
 // 0 and the run, or 1 to 8, or 27.
@@ -48,6 +51,17 @@ pub struct AnswerFlat {
 pub struct ResultFlat {
     pub number: u8,
     pub candidate: Candidate,
+}
+
+// 0, the run's best where has_best is 1, and the floor where has_floor is 1; or 10.
+#[repr(C)]
+pub struct StopFlat {
+    pub number: u8,
+    pub has_best: u8,
+    pub has_floor: u8,
+    pub no_gain: u8,
+    pub best: Candidate,
+    pub floor: f64,
 }
 
 pub fn start_flat(s: Started) -> StartFlat
@@ -137,6 +151,36 @@ pub fn result_flat(s: Resulted) -> ResultFlat
         Resulted::Refused(n) => ResultFlat {
             number: n,
             candidate: no_candidate(),
+        },
+    }
+}
+
+fn outlook_flat(outlook: Outlook) -> StopFlat
+    ensures { λ r. ⌜ r ≡ flatOutlook outlook ⌝ }
+{
+    let best = outlook.best.candidate;
+    StopFlat {
+        number: 0,
+        has_best: flag(outlook.best.found),
+        has_floor: flag(outlook.has_floor),
+        no_gain: flag(outlook.no_gain),
+        best,
+        floor: outlook.floor,
+    }
+}
+
+pub fn stop_flat(s: Stopped) -> StopFlat
+    ensures { λ r. ⌜ r ≡ flatStopped s ⌝ }
+{
+    match s {
+        Stopped::Standing(outlook) => outlook_flat(outlook),
+        Stopped::Refused(number) => StopFlat {
+            number,
+            has_best: 0,
+            has_floor: 0,
+            no_gain: 0,
+            best: no_candidate(),
+            floor: 0.0,
         },
     }
 }

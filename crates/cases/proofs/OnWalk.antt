@@ -24,6 +24,9 @@ use Rattle.search_calls.specs.Next.{nextDef, seedLent, seedPart}
 use Rattle.search_answer.specs.Answer.{nextSeeds, closeRound, enterDef, answerDef}
 use Rattle.search_calls.specs.declared.result.Resulted.the-variants.{Result, Refused}
 use Rattle.search_calls.specs.Result.{resultDef}
+use Rattle.search_calls.specs.Progress.{progressDef}
+use Rattle.search_calls.specs.Stop.{leftSeeds, bestSoFar, outlookOf, stopDef}
+use Rattle.score_floor.specs.Floor.{countedPenalty, floorOf, seedsFrom}
 use Rattle.book.specs.Calls.{next, candidate, refused}
 use Rattle.book.specs.Walk.{runCall, walk}
 use Rattle.book.specs.Trace.{runAfter}
@@ -33,6 +36,7 @@ use Rattle.cases.specs.Whole.{wholeInputs, wholeRun, wholeCalls, wholeWi
 use Rattle.cases.specs.Lost.{lostInputs, firstCalls, firstReplies, betweenCalls, betweenReplies, allLostInputs, allLostRun, allLostCalls, allLostReplies}
 use Rattle.cases.specs.OneAxis.{axisInputs, axisRun, axisCalls, axisWinner, axisReplies}
 use Rattle.cases.specs.Few.{fewInputs, fewCalls, enoughReplies, fewReplies}
+use Rattle.cases.specs.Asked.{askedInputs, askedCalls, askedReplies}
 use Rattle.cases.specs.Ended.{emptyInputs, emptyCalls, emptyReplies, failedInputs, failedCalls, failedReplies}
 
 pub record OnWalk : Type 0 where
@@ -41,6 +45,7 @@ pub record OnWalk : Type 0 where
   pub whole : walkFrom wholeInputs wholeCalls ≡ wholeReplies
   pub first-lost : walkFrom lostInputs firstCalls ≡ firstReplies
   pub between-lost : walkFrom lostInputs betweenCalls ≡ betweenReplies
+  pub asked : walkFrom askedInputs askedCalls ≡ askedReplies
   pub all-lost : walkFrom allLostInputs allLostCalls ≡ allLostReplies
   pub one-axis : walkFrom axisInputs axisCalls ≡ axisReplies
   pub enough-counted : walkFrom (fewInputs 33) fewCalls ≡ enoughReplies
@@ -53,5 +58,5 @@ pub record OnWalk : Type 0 where
   pub whole-result : resultDef (runAfter wholeRun (startedList wholeInputs sixty) wholeCalls) ≡ Result wholeWinner
 
 pub on-walk : OnWalk
-unfolding coefficientOf hornerOf seriesOf beyondHalf trigOf every absOf isFinite minOf maxOf clampOf rootIn isqrt rootOf root productOf firstOther secondOther minorOf cofactorOf determinantOf inverseOf tiltProjectionMatrix tiltVerdict forwardDepth inverseDepth applyHomography applyHomographyInverse radialFactor tangentialX tangentialY distorted jacobianRadial radialDerivative jacobianAt keep hasNear push mergedInto closer tiltNear cameraNear near within inBound pairs seedGrid initialList untiltedY offsets yOffsets nextList laid readFrom damped finiteIntrinsics finiteDistortion validCamera distortionPenalty tiltPenalty centrePenalty scoreOf rowsOf tiltMatrix projected rowError isCounted countedErrors summed errorSum meanOf anyAboveOne solvedRefusal findingRefusal errorsWith meanWith enough enoughWith scoringOf evaluated outcomeOf beats unbeaten firstUnbeaten bestOf noBest isBetter improved hasPlace sound awaiting withOutcome entered nextStep roundOpened ended goodSeed onlyZero tooMany demandOf openingOf startReply startList nextDef seedLent seedPart nextSeeds closeRound enterDef answerDef resultDef runCall walk runAfter add sub mul div neg lt le eq isNan ofBits ofInt sum round units odd size span climb
-on-walk = record { empty = refl; failed = refl; whole = refl; first-lost = refl; between-lost = refl; all-lost = refl; one-axis = refl; enough-counted = refl; few-counted = refl; all-asked = refl; more-asked = refl; all-lost-result = refl; one-axis-result = refl; whole-result = refl }
+unfolding coefficientOf hornerOf seriesOf beyondHalf trigOf every absOf isFinite minOf maxOf clampOf rootIn isqrt rootOf root productOf firstOther secondOther minorOf cofactorOf determinantOf inverseOf tiltProjectionMatrix tiltVerdict forwardDepth inverseDepth applyHomography applyHomographyInverse radialFactor tangentialX tangentialY distorted jacobianRadial radialDerivative jacobianAt keep hasNear push mergedInto closer tiltNear cameraNear near within inBound pairs seedGrid initialList untiltedY offsets yOffsets nextList laid readFrom damped finiteIntrinsics finiteDistortion validCamera distortionPenalty tiltPenalty centrePenalty scoreOf rowsOf tiltMatrix projected rowError isCounted countedErrors summed errorSum meanOf anyAboveOne solvedRefusal findingRefusal errorsWith meanWith enough enoughWith scoringOf evaluated outcomeOf beats unbeaten firstUnbeaten bestOf noBest isBetter improved hasPlace sound awaiting withOutcome entered nextStep roundOpened ended goodSeed onlyZero tooMany demandOf openingOf startReply startList nextDef seedLent seedPart nextSeeds closeRound enterDef answerDef resultDef progressDef leftSeeds bestSoFar outlookOf stopDef countedPenalty floorOf seedsFrom runCall walk runAfter add sub mul div neg lt le eq isNan ofBits ofInt sum round units odd size span climb
+on-walk = record { empty = refl; failed = refl; whole = refl; first-lost = refl; between-lost = refl; asked = refl; all-lost = refl; one-axis = refl; enough-counted = refl; few-counted = refl; all-asked = refl; more-asked = refl; all-lost-result = refl; one-axis-result = refl; whole-result = refl }

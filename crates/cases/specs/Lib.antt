@@ -6,3 +6,4 @@ pub mod Ended
 pub mod Lost
 pub mod OneAxis
 pub mod Few
+pub mod Asked

@@ -9,3 +9,6 @@ pub mod Exceeds
 pub mod Differences
 pub mod Limited
 pub mod NotBelow
+pub mod Sums
+pub mod Lower
+pub mod Squares

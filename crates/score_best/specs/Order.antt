@@ -160,6 +160,11 @@ lead-old ws w v l h = record {
   unbeaten-by = all-append (λ u. beats u w ≡ false) (l .behind) (v ∷ []) (l .unbeaten-by) (h, tt);
 }
 
+-- and several that aren't better
+pub lead-on : (ws : List Candidate) (w : Candidate) (vs : List Candidate) → Leads ws w → All (λ v. beats v w ≡ false) vs → Leads (ws ++ vs) w
+lead-on ws w [] l h = rw append-nil l
+lead-on ws w (v ∷ vs) l h = rw (append-assoc ws (v ∷ []) vs) at (lead-on (ws ++ v ∷ []) w vs (lead-old ws w v l (h .0)) (h .1))
+
 -- the first number
 pub lead-first : (ws : List Candidate) (v : Candidate) → All Lost ws → Sound v → Leads (ws ++ v ∷ []) v
 lead-first ws v h n = record { before = ws; behind = []; split = refl; number = n; ahead = all-map Lost (λ u. beats v u ≡ true) (λ u k. number-beats-nan v u n k) ws h; unbeaten-by = tt }

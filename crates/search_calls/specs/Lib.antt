@@ -2,3 +2,5 @@ pub mod Next
 pub mod NextLaws
 pub mod Result
 pub mod Progress
+pub mod Stop
+pub mod StopLaws
