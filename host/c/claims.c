@@ -151,6 +151,30 @@ static void progress(void) {
     claim(p.round + p.rounds + p.answered + p.total + p.answered_in_run == 0, "a record that no call returned has zeros");
 }
 
+static void stop(void) {
+    jc_options options = {0, 0, 0.02, 0, 0};
+    jc_pt2 center = {640, 480};
+    const double tilts[] = {0, 0.01, 0.02};
+    double list[54];
+    jc_run_record run = jc_start(3, options, tilts, 3, tilts, 1, tilts, 0, K, center, list, 54).run;
+    claim(jc_stop(run, list, 53).number == JC_LIST_SHORTENED, "10 of the stop");
+    jc_stop_flat s = jc_stop(run, list, 54);
+    claim(s.number == 0 && s.has_best == 0 && s.has_floor == 1 && s.floor == 0 && s.no_gain == 0, "no best yet, and a floor of 0");
+    jc_pinhole_camera solved = {K, {0, 0, 0, 0, 0}};
+    const double row[] = {0, 0, 640, 480};
+    const uint8_t one[] = {1};
+    run = jc_next(run, list, 54).run;
+    list[4] = 0.02;
+    claim(jc_stop(run, list, 54).floor == 0, "the waiting seed counts as it was handed out");
+    run = jc_answer(run, 1, solved, row, 4, one, 1, list, 54).run;
+    s = jc_stop(run, list, 54);
+    claim(s.has_best == 1 && s.best.score == 0 && s.best.number == 0, "the best so far, as jc_result gives it");
+    claim(s.has_floor == 1 && s.floor == 0.25 * (0.01 * 0.01) && s.no_gain == 1, "a floor not below the best's score: nothing to gain");
+    while (!run.place.over) run = jc_answer(jc_next(run, list, 54).run, 1, solved, row, 4, one, 1, list, 54).run;
+    s = jc_stop(run, list, 54);
+    claim(s.number == 0 && s.has_best == 1 && s.has_floor == 0 && s.floor == 0 && s.no_gain == 0, "nothing is left at the end");
+}
+
 static void counted(void) {
     jc_pt2 center = {640, 480};
     double list[54];
@@ -217,6 +241,7 @@ int main(void) {
     one_axis();
     progress();
     counted();
+    stop();
     limits();
     if (!failed) printf("the header's words hold\n");
     return failed;

@@ -2,10 +2,11 @@
 
 use crate::findings::Sent;
 use crate::inputs::{for_library, on_one_axis};
-use crate::record_words::{of_book, of_book_progress, of_progress, of_run};
+use crate::record_words::*;
+use crate::unsound;
 use book::{Book, Inputs};
-use jinnychair::record::{Run, answer, next, progress, result, seed, start};
-use jinnychair::{Finding, Handed, Outcome, SkipReason};
+use jinnychair::record::{Run, answer, next, progress, result, seed, start, stop};
+use jinnychair::{Handed, Outcome, SkipReason};
 use random::Random;
 use words::{float_words, word};
 
@@ -28,6 +29,8 @@ pub struct Tally {
     pub errors: [usize; 2],
     /// After how many calls a round after round 0 had so many seeds.
     pub later_totals: [usize; 10],
+    /// After how many calls nothing was left, nothing was scored, the round could gain, and it couldn't.
+    pub stops: [usize; 4],
 }
 
 impl Default for Tally {
@@ -41,6 +44,7 @@ impl Default for Tally {
             results: [0; 2],
             errors: [0; 2],
             later_totals: [0; 10],
+            stops: [0; 4],
         }
     }
 }
@@ -72,12 +76,10 @@ pub fn play(mut inputs: Inputs, random: &mut Random, tally: &mut Tally) -> Resul
     for i in 0..calls {
         pair.call(random, tally).map_err(|fault| format!("call {i}: {fault}"))?;
         if random.once_in(40) {
-            unsound(&pair, random, tally).map_err(|fault| format!("after call {i}: {fault}"))?;
+            tally.unsound += unsound::compare(&pair.run, &pair.list, random)
+                .map_err(|fault| format!("after call {i}: {fault}"))?;
         }
-        let progress = pair.book.progress();
-        if progress.round > 0 {
-            tally.later_totals[progress.total] += 1;
-        }
+        pair.count(tally);
         past_end += usize::from(pair.book.is_over());
         if past_end > 8 {
             break;
@@ -123,7 +125,11 @@ fn lean_aside(inputs: &mut Inputs, random: &mut Random) {
     inputs.decomposition.extend([0.01, random.pick(&[-5e-324, 0.01, -0.0])]);
 }
 
-fn differ<T: PartialEq + std::fmt::Debug>(what: &str, library: T, book: T) -> Result<(), String> {
+pub(crate) fn differ<T: PartialEq + std::fmt::Debug>(
+    what: &str,
+    library: T,
+    book: T,
+) -> Result<(), String> {
     if library == book {
         return Ok(());
     }
@@ -131,9 +137,9 @@ fn differ<T: PartialEq + std::fmt::Debug>(what: &str, library: T, book: T) -> Re
 }
 
 /// A reply as words: its kind, then its numbers.
-type Reply = Vec<u64>;
+pub(crate) type Reply = Vec<u64>;
 
-fn handed_words(handed: Result<Handed, u8>) -> Reply {
+pub(crate) fn handed_words(handed: Result<Handed, u8>) -> Reply {
     match handed {
         Ok(Handed::Candidate { number, seed }) => {
             [vec![0, number as u64], float_words(&seed.numbers())].concat()
@@ -179,13 +185,31 @@ impl Pair {
         differ("the run", of_run(&self.run), of_book(&self.book))?;
         let (library, book) = (progress(&self.run), self.book.progress());
         differ("the progress", of_progress(library), of_book_progress(book))?;
+        let (library, book) = self.stop(self.list.len());
+        differ("the stop call", library, book)?;
         differ("the list", float_words(&self.list), float_words(&self.book_list))
+    }
+
+    /// Counts what was compared after a call.
+    fn count(&self, tally: &mut Tally) {
+        let progress = self.book.progress();
+        if progress.round > 0 {
+            tally.later_totals[progress.total] += 1;
+        }
+        let stopped = self.book.stop(&self.book_list).expect("the whole list");
+        let kind = match (stopped.floor, stopped.best, stopped.no_gain) {
+            (None, _, _) => 0,
+            (Some(_), None, _) => 1,
+            (Some(_), Some(_), false) => 2,
+            (Some(_), Some(_), true) => 3,
+        };
+        tally.stops[kind] += 1;
     }
 
     /// One call: mostly the one that is due, with the whole list lent.
     fn call(&mut self, random: &mut Random, tally: &mut Tally) -> Result<(), String> {
         let due = if self.book.waiting().is_some() { 1 } else { 0 };
-        let which = if random.once_in(4) { random.below(4) } else { due };
+        let which = if random.once_in(4) { random.below(5) } else { due };
         let len = self.list.len();
         let lent = if random.once_in(15) { random.below(len + 1) } else { len };
         if random.once_in(25) {
@@ -198,7 +222,8 @@ impl Pair {
                 seed(&self.run, &self.list[..lent]).map_or(vec![], |numbers| float_words(&numbers)),
                 float_words(self.book.seed(&self.book_list[..lent])),
             ),
-            _ => self.result(),
+            3 => self.result(),
+            _ => self.stop(lent),
         };
         tally.calls += 1;
         match *library {
@@ -207,7 +232,7 @@ impl Pair {
             [1, reason] => tally.entered[reason as usize] += 1,
             _ => {}
         }
-        let names = ["Next", "Answer", "the seed call", "Result"];
+        let names = ["Next", "Answer", "the seed call", "Result", "the stop call"];
         differ(names[which], library, book)?;
         self.compare()
     }
@@ -270,87 +295,25 @@ impl Pair {
 
     fn result(&self) -> (Reply, Reply) {
         let library = match result(&self.run) {
-            Ok(w) => {
-                let (k, d) = (w.camera.k, w.camera.dist);
-                let (tilts, mean) = (w.sensor, w.mean_reproj_error);
-                let camera = [k.fx, k.fy, k.cx, k.cy, d.k1, d.k2, d.k3, d.p1, d.p2];
-                let others = [tilts.tilt_x, tilts.tilt_y, mean, w.score];
-                let numbers = [&camera[..], &others];
-                [vec![0, w.number as u64], float_words(&numbers.concat())].concat()
-            }
+            Ok(winner) => [vec![0], of_candidate(&winner)].concat(),
             Err(error) => vec![2, error.number().into()],
         };
         let book = match self.book.result() {
-            Ok(w) => {
-                let (c, s) = (w.scored.camera, w.scored);
-                let numbers =
-                    [&c.k[..], &c.radial, &c.tangential, &w.tilts, &[s.mean, s.score]].concat();
-                [vec![0, w.number as u64], float_words(&numbers)].concat()
-            }
+            Ok(winner) => [vec![0], of_book_candidate(&winner)].concat(),
             Err(number) => vec![2, number.into()],
         };
         (library, book)
     }
-}
 
-/// Damages a record so that no search can have made it: every call must answer as a run that ended with nothing scored, and
-/// change nothing.
-fn unsound(pair: &Pair, random: &mut Random, tally: &mut Tally) -> Result<(), String> {
-    let mut run = pair.run;
-    let big = random.pick(&[usize::MAX, 1 << 63, 1 << 32, 4000]);
-    let place = &mut run.place;
-    match random.below(11) {
-        0 => run.options.refine_rounds = big,
-        1 => place.round = run.options.refine_rounds + 1 + random.below(3),
-        2 => place.len = big,
-        3 => place.number = random.pick(&[657, big]),
-        4 => place.demand = random.pick(&[0, 53, 3073, big]),
-        5 => place.len = place.demand / 6 + 1,
-        6 => (place.over, run.waiting.is_waiting) = (1, random.pick(&[1, 2, 255])),
-        7 => (place.over, place.at) = (0, place.len),
-        8 => (place.over, place.at) = (0, big),
-        9 => run.options.min_counted = random.pick(&[101, big]),
-        _ => run = zeroed(run),
+    fn stop(&self, lent: usize) -> (Reply, Reply) {
+        let library = match stop(&self.run, &self.list[..lent]) {
+            Ok(stopped) => [vec![0], of_stopped(&stopped)].concat(),
+            Err(error) => vec![2, error.number().into()],
+        };
+        let book = match self.book.stop(&self.book_list[..lent]) {
+            Ok(stopped) => [vec![0], of_book_stopped(&stopped)].concat(),
+            Err(number) => vec![2, number.into()],
+        };
+        (library, book)
     }
-    let damaged = of_run(&with_plain_flags(run));
-    let mut list = pair.list.clone();
-    let replies = [
-        handed_words(next(&mut run, &list).map_err(|e| e.number())),
-        seed(&run, &list).map_or(vec![], |numbers| float_words(&numbers)),
-        vec![
-            2,
-            answer(&mut run, &Finding::Failed, &mut list).map_or_else(|e| e.number().into(), |_| 0),
-        ],
-        vec![2, result(&run).map_or_else(|e| e.number().into(), |_| 0)],
-        of_progress(progress(&run)),
-    ];
-    tally.unsound += replies.len();
-    let expected: [Reply; 5] = [vec![2, 11], vec![], vec![2, 12], vec![2, 11], vec![0; 5]];
-    if replies != expected {
-        return Err(format!("an unsound record {:?} gets {replies:?}", run));
-    }
-    differ("an unsound record afterwards", of_run(&run), damaged)?;
-    differ("the list beside it", float_words(&list), float_words(&pair.list))
-}
-
-/// A flag is read as 0 or not 0, and comes back as 0 or 1.
-fn with_plain_flags(mut run: Run) -> Run {
-    let Run { options, place, waiting, round_best, run_best, .. } = &mut run;
-    let bests = [&mut round_best.found, &mut run_best.found];
-    let others = [&mut options.one_axis, &mut place.over, &mut waiting.is_waiting];
-    let flags = others.into_iter().chain(bests);
-    for flag in flags {
-        *flag = (*flag).min(1);
-    }
-    run
-}
-
-/// The record that a refused Start leaves.
-fn zeroed(mut run: Run) -> Run {
-    run.options.refine_rounds = 0;
-    let place = &mut run.place;
-    (place.demand, place.round, place.len, place.at, place.number) = (0, 0, 0, 0, 0);
-    (place.step, place.over, run.waiting.is_waiting) = (0.0, 0, 0);
-    (run.round_best.found, run.run_best.found) = (0, 0);
-    run
 }

@@ -79,7 +79,7 @@ impl Sent {
             return Self::Failed;
         }
         if ties && !random.once_in(6) {
-            return Self::exact(random.pick(&[1.0, 1.0, 1.0, 2.0]));
+            return Self::exact(random.pick(&[1.0, 1.0, 1.0, 2.0, 1.0, 0.0]));
         }
         let [fx, fy, cx, cy, tilt_x, tilt_y] = *seed;
         let mut camera = [fx, fy, cx, cy, 0.1, -0.2, 0.3, 0.0, 0.0];

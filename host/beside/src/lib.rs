@@ -5,3 +5,4 @@ pub mod calls;
 pub mod findings;
 pub mod inputs;
 pub mod record_words;
+pub mod unsound;

@@ -2,6 +2,7 @@
 
 use book::{Book, Seed as BookSeed, Winner as BookWinner};
 use jinnychair::record::{Best, Progress, Run};
+use jinnychair::{Stopped, Winner};
 use words::{float_words, word};
 
 /// Every number of a record.
@@ -19,13 +20,23 @@ pub fn of_run(run: &Run) -> Vec<u64> {
 }
 
 fn of_best(best: &Best) -> Vec<u64> {
-    let c = best.candidate;
-    let (k, d) = (c.camera.k, c.camera.dist);
-    let mut words = vec![best.found.into(), c.number as u64];
-    words.extend(float_words(&[k.fx, k.fy, k.cx, k.cy, d.k1, d.k2, d.k3, d.p1, d.p2]));
-    let sensor = c.sensor;
-    words.extend(float_words(&[sensor.tilt_x, sensor.tilt_y, c.mean_reproj_error, c.score]));
-    words
+    [vec![best.found.into()], of_candidate(&best.candidate)].concat()
+}
+
+/// Every number of a scored candidate.
+pub fn of_candidate(c: &Winner) -> Vec<u64> {
+    let (k, d, sensor) = (c.camera.k, c.camera.dist, c.sensor);
+    let camera = [k.fx, k.fy, k.cx, k.cy, d.k1, d.k2, d.k3, d.p1, d.p2];
+    let others = [sensor.tilt_x, sensor.tilt_y, c.mean_reproj_error, c.score];
+    [vec![c.number as u64], float_words(&camera), float_words(&others)].concat()
+}
+
+/// A reply of the stop call, with zeros for what it hasn't.
+pub fn of_stopped(stopped: &Stopped) -> Vec<u64> {
+    let best = stopped.best.as_ref();
+    let best = best.map_or(vec![0; 15], |best| [vec![1], of_candidate(best)].concat());
+    let floor = stopped.floor.map_or([0; 2], |floor| [1, word(floor)]);
+    [&best[..], &floor, &[stopped.no_gain.into()]].concat()
 }
 
 /// The record that a run with this book must have.
@@ -46,13 +57,20 @@ pub fn of_book(book: &Book) -> Vec<u64> {
 
 /// Zeros where there is no best.
 fn of_winner(winner: Option<BookWinner>) -> Vec<u64> {
-    let Some(w) = winner else { return vec![0; 15] };
-    let camera = w.scored.camera;
-    let mut words = vec![1, w.number as u64];
-    words.extend(float_words(&[&camera.k[..], &camera.radial, &camera.tangential].concat()));
-    words.extend(float_words(&w.tilts));
-    words.extend(float_words(&[w.scored.mean, w.scored.score]));
-    words
+    winner.map_or(vec![0; 15], |winner| [vec![1], of_book_candidate(&winner)].concat())
+}
+
+/// Every number of a candidate that the book has scored.
+pub fn of_book_candidate(w: &BookWinner) -> Vec<u64> {
+    let (c, s) = (w.scored.camera, w.scored);
+    let numbers = [&c.k[..], &c.radial, &c.tangential, &w.tilts, &[s.mean, s.score]].concat();
+    [vec![w.number as u64], float_words(&numbers)].concat()
+}
+
+/// The book's reply when it is stopped.
+pub fn of_book_stopped(stopped: &book::Stopped) -> Vec<u64> {
+    let floor = stopped.floor.map_or([0; 2], |floor| [1, word(floor)]);
+    [&of_winner(stopped.best)[..], &floor, &[stopped.no_gain.into()]].concat()
 }
 
 /// The five numbers of the progress call.

@@ -20,6 +20,7 @@ fn every_reply_every_list_and_every_record_are_the_books() {
     assert!(tally.results.iter().all(|&times| times > 0), "{tally:?}");
     // Later rounds with all their tilts within the bound, and with fewer.
     assert!([1, 2, 3, 4, 6, 9].iter().all(|&total| tally.later_totals[total] > 0), "{tally:?}");
+    assert!(tally.stops.iter().all(|&times| times > 100), "{tally:?}");
     // Counted errors; and rows that were counted, but too few of them.
     assert!(tally.errors[0] > 10_000 && tally.errors[1] > 1000, "{tally:?}");
     assert!(tally.entered.iter().all(|&times| times > 100), "{tally:?}");

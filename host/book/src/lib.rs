@@ -7,5 +7,5 @@ mod pages;
 mod seeds;
 
 pub use outcome::{Camera, Errors, Finding, Outcome, Rows, Scored};
-pub use pages::{Answered, Book, Entry, Handed, Progress, Winner};
+pub use pages::{Answered, Book, Entry, Handed, Progress, Stopped, Winner};
 pub use seeds::{Inputs, Seed};

@@ -107,6 +107,11 @@ fn tilt_matrix(tilts: [f64; 2]) -> Matrix {
     product(p, r)
 }
 
+/// What a score has for its tilts alone.
+pub(crate) fn tilt_penalty(tilts: [f64; 2]) -> f64 {
+    0.25 * (tilts[0] * tilts[0] + tilts[1] * tilts[1])
+}
+
 impl Camera {
     fn damped(self) -> Self {
         // A NaN stays, and so does −0.
@@ -169,7 +174,7 @@ impl Camera {
         let ([k1, k2, k3], [p1, p2]) = (self.radial, self.tangential);
         let radial = k1 * k1 + k2 * k2 + 0.25 * k3 * k3;
         let distortion = 0.25 * (radial + (p1 * p1 + p2 * p2));
-        let tilt = 0.25 * (tilts[0] * tilts[0] + tilts[1] * tilts[1]);
+        let tilt = tilt_penalty(tilts);
         // Weight 0, kept since it is NaN where the square overflows.
         let [dx, dy] = [0, 1].map(|i| (self.k[2 + i] - centre[i]) / self.k[i].max(1.0));
         mean + distortion + tilt + 0.0 * (dx * dx + dy * dy)

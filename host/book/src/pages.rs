@@ -1,5 +1,6 @@
 //! The book: the round, its list, the candidates with their outcomes, and which one waits.
 
+use crate::outcome::tilt_penalty;
 use crate::{Finding, Inputs, Outcome, Rows, Scored, Seed};
 
 /// An answered candidate.
@@ -59,6 +60,17 @@ pub struct Progress {
     pub total: usize,
     /// How many seeds of the run are answered.
     pub answered_in_run: usize,
+}
+
+/// How a run stands when it is stopped.
+#[derive(Clone, Copy, Debug, PartialEq)]
+pub struct Stopped {
+    /// The run's best so far.
+    pub best: Option<Winner>,
+    /// The lowest tilt penalty among the seeds of the round's list that aren't answered; nothing where none is left.
+    pub floor: Option<f64>,
+    /// Whether there is a best, and the floor isn't below its score.
+    pub no_gain: bool,
 }
 
 /// A run's book.
@@ -181,6 +193,26 @@ impl Book {
             return Err(14);
         }
         self.run_best().ok_or(11)
+    }
+
+    /// How the run stands. The waiting seed counts as it was handed out, the others as they stand in the lent list.
+    ///
+    /// # Errors
+    ///
+    /// 10 where the lent list is too short.
+    pub fn stop(&self, lent: &[f64]) -> Result<Stopped, u8> {
+        if lent.len() < self.inputs.demand() {
+            return Err(10);
+        }
+        let listed = lent.chunks_exact(6).take(self.list_len).map(Seed::from_numbers);
+        let taken = self.position() + usize::from(self.waiting.is_some());
+        let left = self.waiting.into_iter().chain(listed.skip(taken));
+        // A penalty that isn't a number comes from a changed list.
+        let penalties = left.map(|seed| tilt_penalty(seed.tilts));
+        let floor = penalties.map(|p| if p.is_nan() { f64::INFINITY } else { p }).reduce(f64::min);
+        let best = self.run_best();
+        let no_gain = best.zip(floor).is_some_and(|(best, floor)| floor >= best.scored.score);
+        Ok(Stopped { best, floor, no_gain })
     }
 
     /// How far the run has come. The total of a later round is the book's own count.

@@ -1,7 +1,9 @@
 //! 01's own values, and runs of a few calls that can be followed by hand.
 #![allow(missing_docs)]
 
-use book::{Answered, Book, Camera, Errors, Finding, Handed, Inputs, Outcome, Progress, Rows};
+use book::{
+    Answered, Book, Camera, Errors, Finding, Handed, Inputs, Outcome, Progress, Rows, Stopped,
+};
 
 fn inputs(x: &[f64], y: &[f64]) -> Inputs {
     Inputs {
@@ -310,4 +312,37 @@ fn progress_ends_with_the_last_rounds_numbers() {
     let none = Book::start(inputs(&[0.5], &[0.0]), &mut lent).unwrap().progress();
     let zeros = Progress { round: 0, rounds: 1, answered: 0, total: 0, answered_in_run: 0 };
     assert_eq!(none, zeros);
+}
+
+#[test]
+fn stop_gives_the_floor_of_what_is_left() {
+    let mut lent = [0.0; 54];
+    let inputs = Inputs { rounds: 0, ..inputs(&[0.25, 0.125, 0.0], &[0.0]) };
+    let mut book = Book::start(inputs, &mut lent).unwrap();
+    let told = |book: &Book, lent: &[f64]| {
+        let Stopped { best, floor, no_gain } = book.stop(lent).unwrap();
+        (best.map(|best| best.number), floor, no_gain)
+    };
+    assert_eq!(book.stop(&lent[..53]), Err(10));
+    assert_eq!(told(&book, &lent), (None, Some(0.0), false));
+    book.next(&lent);
+    // The waiting seed is taken as it was handed out.
+    (lent[4], lent[10], lent[16]) = (0.0, 0.125, 0.5);
+    assert_eq!(told(&book, &lent), (None, Some(0.25 * 0.125 * 0.125), false));
+    // An exact fit: the score is the penalty, 0.25 * 0.25 * 0.25.
+    answer(&mut book, &mut lent, 0.0);
+    assert_eq!(told(&book, &lent), (Some(0), Some(0.25 * 0.125 * 0.125), false));
+    // A floor that equals the best's score gains nothing.
+    lent[10] = 0.25;
+    assert_eq!(told(&book, &lent), (Some(0), Some(0.25 * 0.25 * 0.25), true));
+    // A penalty that isn't a number counts as infinity.
+    (lent[10], lent[16]) = (f64::NAN, f64::INFINITY);
+    assert_eq!(told(&book, &lent), (Some(0), Some(f64::INFINITY), true));
+    for error in [2.0, 3.0] {
+        book.next(&lent);
+        book.answer(&Finding::Failed, Rows { numbers: &row(error), flags: &[1] }, &mut lent);
+    }
+    assert_eq!(told(&book, &lent), (Some(0), None, false));
+    assert_eq!(book.stop(&lent[..53]), Err(10));
+    assert_eq!(book.result().unwrap().number, 0);
 }

@@ -141,5 +141,8 @@ fn print_tally(tally: &Tally) {
         "  calls after which a later round had so many seeds, from 0: {:?}",
         tally.later_totals
     );
+    let [nothing_left, unscored, gain, no_gain] = tally.stops;
+    println!("  stopped with nothing left after {nothing_left} calls, with nothing scored {unscored},");
+    println!("    with something to gain {gain}, with nothing to gain {no_gain}");
     println!("  {} calls on records that no search can have made", tally.unsound);
 }

@@ -167,6 +167,13 @@ refusals! {
 }
 
 refusals! {
+    /// Why a run doesn't say how it stands.
+    StopError {
+        ListShortened = 10;
+    }
+}
+
+refusals! {
     /// Why points aren't mapped. The destination is unchanged.
     PointMapError {
         BadPoints = 17;

@@ -31,8 +31,9 @@
 //! # Ok::<(), Box<dyn std::error::Error>>(())
 //! ```
 //!
-//! [`Search::run_watched`] also shows each tried seed, with how far the search has come; [`Search::next`], [`Search::answer`] and
-//! [`Search::progress`] are for a host with a loop of its own. Angles are in radians, pixels and focal lengths in pixels.
+//! [`Search::run_watched`] also shows each tried seed, with how far the search has come, and [`Search::run_until`] can be stopped
+//! between two answers. [`Search::next`], [`Search::answer`], [`Search::progress`] and [`Search::stop`] are for a host with a
+//! loop of its own. Angles are in radians, pixels and focal lengths in pixels.
 //!
 //! # What is assumed of the machine
 //!
@@ -55,11 +56,12 @@ mod version;
 
 pub use error::{
     AnswerError, ConicError, CountError, NextError, NormalizeError, PlateError, PointMapError,
-    ResultError, RowsError, RunError, StartError, TiltError, TrigError,
+    ResultError, RowsError, RunError, StartError, StopError, TiltError, TrigError,
 };
 pub use record::Progress;
 pub use search::{
-    Finding, Handed, Inputs, Options, Outcome, Rows, Search, SkipReason, Solution, Tried,
+    Ended, Finding, Handed, Inputs, Options, Outcome, Rows, Search, SkipReason, Solution, Stopped,
+    Tried,
 };
 pub use types::{
     BrownConrady5, FxFyCxCy, PinholeCamera, Pt2, ScheimpflugParams, Seed, TiltTrig, Winner,

@@ -123,6 +123,17 @@ pub(crate) struct ResultReply {
     pub candidate: Winner,
 }
 
+#[derive(Clone, Copy, Debug, PartialEq)]
+#[repr(C)]
+pub(crate) struct StopReply {
+    pub number: u8,
+    pub has_best: u8,
+    pub has_floor: u8,
+    pub no_gain: u8,
+    pub best: Winner,
+    pub floor: f64,
+}
+
 /// Stops the build where a struct isn't laid out as the header says.
 macro_rules! laid_out {
     ($($name:ident: $size:literal { $($field:ident: $offset:literal),+ $(,)? })+) => {
@@ -164,6 +175,7 @@ laid_out! {
     AnswerReply: 424 { number: 0, skipped: 1, score: 8, run: 16 }
     ResultReply: 120 { number: 0, candidate: 8 }
     Progress: 40 { round: 0, rounds: 8, answered: 16, total: 24, answered_in_run: 32 }
+    StopReply: 128 { number: 0, has_best: 1, has_floor: 2, no_gain: 3, best: 8, floor: 120 }
 }
 
 unsafe extern "C" {
@@ -267,6 +279,7 @@ unsafe extern "C" {
     ) -> AnswerReply;
     safe fn jc_result(run: Run) -> ResultReply;
     pub(crate) safe fn jc_progress(run: Run) -> Progress;
+    fn jc_stop(run: Run, list: *const f64, list_len: usize) -> StopReply;
 }
 
 #[inline]
@@ -422,6 +435,11 @@ pub(crate) fn result(run: Run) -> ResultReply {
     jc_result(run)
 }
 
+pub(crate) fn stop(run: Run, list: &[f64]) -> StopReply {
+    // SAFETY: the slice is valid for its length.
+    unsafe { jc_stop(run, list.as_ptr(), list.len()) }
+}
+
 #[cfg(test)]
 mod tests {
     use super::*;
@@ -457,6 +475,7 @@ mod tests {
         safe fn jc_echo_answer_flat(x: AnswerReply) -> AnswerReply;
         safe fn jc_echo_result_flat(x: ResultReply) -> ResultReply;
         safe fn jc_echo_progress_reply(x: Progress) -> Progress;
+        safe fn jc_echo_stop_flat(x: StopReply) -> StopReply;
     }
 
     /// Distinct numbers: no field can stand for another.
@@ -638,6 +657,10 @@ mod tests {
         let [round, rounds, answered, total, answered_in_run] = std::array::from_fn(|_| n.whole());
         let x = Progress { round, rounds, answered, total, answered_in_run };
         assert_eq!(jc_echo_progress_reply(x), x);
+        let [number, has_best, has_floor, no_gain] = std::array::from_fn(|_| n.byte());
+        let (best, floor) = (n.winner(), n.float());
+        let x = StopReply { number, has_best, has_floor, no_gain, best, floor };
+        assert_eq!(jc_echo_stop_flat(x), x);
         let x = StartReply { number: n.byte(), run: n.run() };
         assert_eq!(jc_echo_start_flat(x), x);
         let n = &mut Count(0);

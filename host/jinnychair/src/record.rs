@@ -6,7 +6,7 @@
 
 use crate::{
     AnswerError, Finding, FxFyCxCy, Handed, NextError, Outcome, Pt2, ResultError, Seed, SkipReason,
-    StartError, Winner, check_version, raw,
+    StartError, StopError, Stopped, Winner, check_version, raw,
 };
 
 /// The numbers of a search's options; the tilts of its grid stand beside them.
@@ -189,4 +189,19 @@ pub fn result(run: &Run) -> Result<Winner, ResultError> {
 #[must_use]
 pub fn progress(run: &Run) -> Progress {
     raw::jc_progress(*run)
+}
+
+/// How the run stands: the best so far, and how much its round could still gain. Nothing changes, and the run can go on.
+///
+/// # Errors
+///
+/// Less of the list is lent than [`start`] needed.
+pub fn stop(run: &Run, list: &[f64]) -> Result<Stopped, StopError> {
+    let reply = raw::stop(*run, list);
+    StopError::check(reply.number)?;
+    Ok(Stopped {
+        best: (reply.has_best != 0).then_some(reply.best),
+        floor: (reply.has_floor != 0).then_some(reply.floor),
+        no_gain: reply.no_gain != 0,
+    })
 }

@@ -7,6 +7,7 @@ use crate::{
     Winner,
 };
 use std::fmt::{Display, Formatter, Result as FmtResult};
+use std::ops::ControlFlow;
 
 /// Which tilts are tried. Later versions have more options, each with a default: start from [`Options::default`], and
 /// change what should differ.
@@ -214,6 +215,29 @@ pub struct Tried<'a> {
     pub progress: Progress,
 }
 
+/// How a search stands when it is stopped between two answers. It speaks of the current round: later rounds can score below
+/// the floor.
+#[derive(Clone, Copy, Debug, PartialEq)]
+pub struct Stopped {
+    /// The best candidate so far, if any was scored.
+    pub best: Option<Winner>,
+    /// No candidate from the seeds that the round has left can score below this, whichever camera the host finds: the lowest
+    /// tilt penalty among them. Nothing where no seed is left, which is once the search is over.
+    pub floor: Option<f64>,
+    /// Whether there is a best whose score the floor isn't below: then the round can gain nothing.
+    pub no_gain: bool,
+}
+
+/// How a search that can be stopped ends.
+#[derive(Clone, Copy, Debug, PartialEq)]
+#[must_use]
+pub enum Ended {
+    /// It came to its end, with this winner.
+    Over(Winner),
+    /// It was stopped, and can go on.
+    Stopped(Stopped),
+}
+
 /// A search that is under way.
 ///
 /// It owns its record and its seed list, and only its own calls change them. So each call gets both as the calls before
@@ -279,15 +303,56 @@ impl Search {
     /// As [`Search::run`].
     pub fn run_watched(
         &mut self,
-        mut solve: impl FnMut(&Seed) -> Option<Solution>,
+        solve: impl FnMut(&Seed) -> Option<Solution>,
         mut watch: impl FnMut(&Tried),
     ) -> Result<Winner, RunError> {
+        let ended = self.run_until(solve, |tried| {
+            watch(tried);
+            ControlFlow::Continue(())
+        });
+        match ended? {
+            Ended::Over(winner) => Ok(winner),
+            Ended::Stopped(_) => unreachable!("nothing stops it"),
+        }
+    }
+
+    /// As [`Search::run_watched`]; where `watch` breaks, the search is stopped after that answer. Another `run` goes on with it.
+    /// A break after the last answer stops nothing.
+    ///
+    /// ```
+    /// use jinnychair::{Ended, RunError, Search, Seed, Solution, Tried};
+    /// use std::ops::ControlFlow::{Break, Continue};
+    /// use std::time::{Duration, Instant};
+    ///
+    /// fn twenty_minutes(
+    ///     search: &mut Search,
+    ///     solve: impl FnMut(&Seed) -> Option<Solution>,
+    /// ) -> Result<(), RunError> {
+    ///     let end = Instant::now() + Duration::from_secs(20 * 60);
+    ///     let watch = |_: &Tried| if Instant::now() < end { Continue(()) } else { Break(()) };
+    ///     match search.run_until(solve, watch)? {
+    ///         Ended::Over(winner) => println!("no. {} won", winner.number),
+    ///         Ended::Stopped(stopped) if stopped.no_gain => println!("this round can gain nothing"),
+    ///         Ended::Stopped(stopped) => println!("nothing left in it scores below {:?}", stopped.floor),
+    ///     }
+    ///     Ok(())
+    /// }
+    /// ```
+    ///
+    /// # Errors
+    ///
+    /// As [`Search::run`].
+    pub fn run_until(
+        &mut self,
+        mut solve: impl FnMut(&Seed) -> Option<Solution>,
+        mut watch: impl FnMut(&Tried) -> ControlFlow<()>,
+    ) -> Result<Ended, RunError> {
         loop {
             let (number, seed) = match self.waiting() {
                 Some(seed) => (self.answered(), seed),
                 None => match self.next()? {
                     Handed::Candidate { number, seed } => (number, seed),
-                    Handed::Over => return Ok(self.result()?),
+                    Handed::Over => return Ok(Ended::Over(self.result()?)),
                 },
             };
             let progress = self.progress();
@@ -295,7 +360,14 @@ impl Search {
             let outcome =
                 self.answer(&solution.as_ref().map_or(Finding::Failed, Solution::finding))?;
             let (round, solution) = (progress.round, solution.as_ref());
-            watch(&Tried { number, round, seed, solution, outcome, progress });
+            let flow = watch(&Tried { number, round, seed, solution, outcome, progress });
+            if flow.is_continue() {
+                continue;
+            }
+            let stopped = self.stop();
+            if stopped.floor.is_some() {
+                return Ok(Ended::Stopped(stopped));
+            }
         }
     }
 
@@ -343,6 +415,13 @@ impl Search {
     #[must_use]
     pub fn progress(&self) -> Progress {
         record::progress(&self.run)
+    }
+
+    /// How the search stands, between two answers or while a seed waits: the best so far, and how much the current round could
+    /// still gain. Nothing changes, and the search can go on.
+    #[must_use]
+    pub fn stop(&self) -> Stopped {
+        record::stop(&self.run, &self.list).expect("a search lends its whole list")
     }
 
     /// How many candidates are answered.

@@ -171,7 +171,7 @@ fn numbered() -> Vec<(String, u8, &'static str, &'static str)> {
             })+
         };
     }
-    add!("JC": StartError NextError AnswerError ResultError PointMapError TrigError CountError TiltError ConicError PlateError NormalizeError RowsError);
+    add!("JC": StartError NextError AnswerError ResultError StopError PointMapError TrigError CountError TiltError ConicError PlateError NormalizeError RowsError);
     add!("JC_SKIP": SkipReason);
     all
 }

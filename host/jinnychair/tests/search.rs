@@ -2,6 +2,7 @@
 #![allow(missing_docs)]
 
 use jinnychair::*;
+use std::ops::ControlFlow;
 
 const K: FxFyCxCy = FxFyCxCy { fx: 1000.0, fy: 1000.0, cx: 640.0, cy: 480.0 };
 
@@ -94,6 +95,57 @@ fn who_watches_sees_the_progress_before_each_answer() {
         )
         .unwrap();
     assert_eq!(last, Some((2, 2)));
+}
+
+#[test]
+fn a_stopped_search_says_what_could_be_gained_and_goes_on() {
+    let options = Options::default();
+    let whole = search(&options).run(|seed| Some(solution(seed))).unwrap();
+    let mut search = search(&options);
+    assert_eq!(search.stop(), Stopped { best: None, floor: Some(0.0), no_gain: false });
+    for after in [1, 30, 45, 50] {
+        let watch = |tried: &Tried| match tried.number + 1 {
+            answered if answered == after => ControlFlow::Break(()),
+            _ => ControlFlow::Continue(()),
+        };
+        let ended = search.run_until(|seed| Some(solution(seed)), watch).unwrap();
+        let Ended::Stopped(stopped) = ended else { panic!("{ended:?}") };
+        assert_eq!((search.answered(), stopped), (after, search.stop()));
+        let (best, floor) = (stopped.best.unwrap(), stopped.floor.unwrap());
+        assert_eq!(stopped.no_gain, floor >= best.score);
+        // The waiting seed belongs to those that are left.
+        let _ = search.next().unwrap();
+        assert_eq!(search.stop(), stopped);
+    }
+    assert_eq!(search.run(|seed| Some(solution(seed))), Ok(whole));
+    assert_eq!(search.stop(), Stopped { best: Some(whole), floor: None, no_gain: false });
+}
+
+#[test]
+fn a_round_that_can_gain_nothing_is_told() {
+    let mut options = Options::default();
+    (options.tilt_x_seeds, options.tilt_y_seeds) = (vec![0.0, 0.1, 0.2], vec![0.0]);
+    let mut search = search(&options);
+    let mut exact = solution(&Seed::from_numbers([0.0; 6]));
+    exact.rows[2] = K.cx;
+    let ended = search.run_until(|_| Some(exact.clone()), |_| ControlFlow::Break(())).unwrap();
+    let Ended::Stopped(stopped) = ended else { panic!("{ended:?}") };
+    // Tilt 0 fits exactly, and 0.1 costs 0.25 * 0.1 * 0.1.
+    assert_eq!((stopped.best.unwrap().score, stopped.floor), (0.0, Some(0.25 * (0.1 * 0.1))));
+    assert!(stopped.no_gain);
+}
+
+#[test]
+fn a_break_after_the_last_answer_stops_nothing() {
+    let mut options = Options::default();
+    options.refine_rounds = 0;
+    let mut search = search(&options);
+    let last = |tried: &Tried| match tried.number {
+        44 => ControlFlow::Break(()),
+        _ => ControlFlow::Continue(()),
+    };
+    let ended = search.run_until(|seed| Some(solution(seed)), last).unwrap();
+    assert_eq!(ended, Ended::Over(search.result().unwrap()));
 }
 
 #[test]

@@ -17,6 +17,7 @@ pub const NAMES: &[(&str, &str)] = &[
     ("bound", "ANGLE"),
     ("step", "ANGLE"),
     ("rounds", "N"),
+    ("minutes", "N"),
     ("seeds", "FILE"),
     ("no-decomposition", ""),
     ("min-counted", "PERCENT"),
@@ -47,6 +48,8 @@ pub struct Choices {
     pub step: Option<f64>,
     /// How many rounds follow the grid.
     pub rounds: Option<usize>,
+    /// After how many minutes the search is stopped.
+    pub minutes: Option<f64>,
     /// A file of seeds.
     pub seeds: Option<PathBuf>,
     /// Whether the decomposition's seed is left out.
@@ -82,6 +85,7 @@ impl Choices {
             "bound" => put(&mut self.bound, above_0(angle::parse(&value()?)?)?),
             "step" => put(&mut self.step, above_0(angle::parse(&value()?)?)?),
             "rounds" => put(&mut self.rounds, rounds(&value()?)?),
+            "minutes" => put(&mut self.minutes, above_0(number(&value()?)?)?),
             "seeds" => put(&mut self.seeds, value()?.into()),
             "no-decomposition" => put(&mut self.no_decomposition, ()),
             "min-counted" => put(&mut self.min_counted, per_cent(&value()?)?),
@@ -146,6 +150,7 @@ impl Choices {
             bound: self.bound.or(other.bound),
             step: self.step.or(other.step),
             rounds: self.rounds.or(other.rounds),
+            minutes: self.minutes.or(other.minutes),
             seeds: self.seeds.or(other.seeds),
             no_decomposition: self.no_decomposition.or(other.no_decomposition),
             min_counted: self.min_counted.or(other.min_counted),

@@ -1,11 +1,12 @@
-//! Runs the search to its end and keeps every tried tilt.
+//! Runs the search to its end, or until it is stopped, and keeps every tried tilt.
 
 use crate::residuals::{rms, row_errors};
 use jinnychair::geometry::ErrorCount;
 use jinnychair::{
-    Inputs, Options, Outcome, PinholeCamera, Progress, RunError, Search, Seed, Solution, Winner,
-    geometry,
+    Ended, Inputs, Options, Outcome, PinholeCamera, Progress, ResultError, RunError, Search, Seed,
+    Solution, Stopped, Winner, geometry,
 };
+use std::ops::ControlFlow;
 
 /// A tried tilt.
 #[derive(Clone, Copy, Debug, PartialEq)]
@@ -59,17 +60,35 @@ pub struct Dots {
     pub all: usize,
 }
 
-/// A search that came to its end.
+/// A search that came to its end, or was stopped.
 #[derive(Clone, Debug)]
 pub struct Finished {
     /// Every tried tilt, in order.
     pub tried: Vec<Tried>,
     /// The best one, or why there is none.
     pub winner: Result<Winner, RunError>,
+    /// How it stood when it was stopped, if it was.
+    pub stop: Option<Stop>,
+}
+
+/// A search that was stopped.
+#[derive(Clone, Debug, PartialEq)]
+pub struct Stop {
+    /// By what.
+    pub why: String,
+    /// The best so far, and what the round could still gain.
+    pub stopped: Stopped,
+    /// How far it had come.
+    pub progress: Progress,
+}
+
+/// For a search that runs to its end, whatever is tried.
+pub fn to_the_end(_: &Tried, _: &Progress) -> ControlFlow<String> {
+    ControlFlow::Continue(())
 }
 
 /// Runs the search; `sources` says where each decomposition seed of the inputs comes from, and `watch` sees each tried
-/// tilt, with how far the search had come until then.
+/// tilt, with how far the search had come until then. It may break, and says why.
 ///
 /// # Errors
 ///
@@ -78,23 +97,38 @@ pub fn run(
     inputs: &Inputs,
     sources: &[Source],
     solve: impl FnMut(&Seed) -> Option<Solution>,
-    mut watch: impl FnMut(&Tried, &Progress),
+    mut watch: impl FnMut(&Tried, &Progress) -> ControlFlow<String>,
 ) -> Result<Finished, String> {
     let mut search = Search::start(inputs).map_err(|e| format!("the search can't start: {e}"))?;
     let mut tried: Vec<Tried> = Vec::new();
-    let winner = search.run_watched(solve, |one| {
+    let mut why = String::new();
+    let ended = search.run_until(solve, |one| {
         let source = source(&tried, one.round, &one.seed, inputs.decomposition, sources);
-        let (number, round, seed, outcome) = (one.number, one.round, one.seed, one.outcome);
-        let errors = one.solution.and_then(|solution| Some((solution, counted(&seed, solution)?)));
-        let scored = errors.filter(|_| outcome.score().is_some());
-        let scored = scored.map(|(solution, errors)| fit_of(&seed, solution, errors));
-        let dots = errors
-            .map(|(solution, errors)| Dots { counted: errors.counted, all: solution.flags.len() });
-        let new = Tried { number, round, source, seed, outcome, scored, dots };
-        watch(&new, &one.progress);
+        let new = kept(one, source);
+        let flow = watch(&new, &one.progress);
         tried.push(new);
+        flow.map_break(|reason| why = reason)
     });
-    Ok(Finished { tried, winner })
+    let (winner, stop) = match ended {
+        Ok(Ended::Over(winner)) => (Ok(winner), None),
+        Ok(Ended::Stopped(stopped)) => {
+            let stop = Stop { why, stopped, progress: search.progress() };
+            (stopped.best.ok_or(RunError::Result(ResultError::NotOver)), Some(stop))
+        }
+        Err(error) => (Err(error), None),
+    };
+    Ok(Finished { tried, winner, stop })
+}
+
+/// A tried tilt as it is kept.
+fn kept(one: &jinnychair::Tried, source: Source) -> Tried {
+    let (number, round, seed, outcome) = (one.number, one.round, one.seed, one.outcome);
+    let errors = one.solution.and_then(|solution| Some((solution, counted(&seed, solution)?)));
+    let scored = errors.filter(|_| outcome.score().is_some());
+    let scored = scored.map(|(solution, errors)| fit_of(&seed, solution, errors));
+    let dots = errors
+        .map(|(solution, errors)| Dots { counted: errors.counted, all: solution.flags.len() });
+    Tried { number, round, source, seed, outcome, scored, dots }
 }
 
 /// Where a seed comes from: a later round lies around the best of the round before, or where that has none, of all.
@@ -137,7 +171,13 @@ pub fn best<'a>(tried: impl IntoIterator<Item = &'a Tried>) -> Option<&'a Tried>
 /// The step of the last round, in radians; that of the first where none follows.
 #[must_use]
 pub fn last_step(options: &Options) -> f64 {
-    let halvings = options.refine_rounds.saturating_sub(1);
+    step_of(options, options.refine_rounds)
+}
+
+/// The step of a round after the grid, in radians; it halves from round to round.
+#[must_use]
+pub fn step_of(options: &Options, round: usize) -> f64 {
+    let halvings = round.saturating_sub(1);
     options.refine_step * 0.5f64.powi(i32::try_from(halvings).unwrap_or(i32::MAX))
 }
 

@@ -14,6 +14,7 @@
 //! | [`solve`] | base camera, decomposition seed, and the solved camera of each tilt |
 //! | [`drive`] | runs the search and keeps every tried tilt |
 //! | [`progress`] | how far the search has come, and the time left |
+//! | [`stop`] | stops it after some minutes, or by Enter |
 //! | [`residuals`] | the errors, dot by dot and view by view |
 //! | [`open`] | how far the winner's tilts are left open |
 //! | [`verdict`] | what speaks against the winner, and what to do |
@@ -38,6 +39,7 @@ pub mod report;
 pub mod residuals;
 pub mod screen;
 pub mod solve;
+pub mod stop;
 pub mod synthetic;
 pub mod table;
 pub mod verdict;

@@ -33,6 +33,8 @@ pub struct Plan {
     pub axes: [Axis; 2],
     seeds: Vec<String>,
     options: Options,
+    /// Whether every typed tilt is tried.
+    is_grid_whole: bool,
 }
 
 impl Plan {
@@ -51,7 +53,17 @@ impl Plan {
             axes: [x, if options.one_axis { Axis::held("y") } else { y }],
             seeds: words.collect(),
             options: options.clone(),
+            is_grid_whole: true,
         }
+    }
+
+    /// What is left of the plan where the search is stopped in a round: the rounds before it.
+    #[must_use]
+    pub fn stopped_in(&self, round: usize) -> Self {
+        let mut plan = self.clone();
+        plan.options.refine_rounds = round.saturating_sub(1);
+        plan.is_grid_whole = round > 0;
+        plan
     }
 
     /// What will be tried, and what can be missed, in degrees.
@@ -93,11 +105,12 @@ impl Plan {
     }
 
     /// How near a winner is to the best tilt by the steps alone, for x and y, in radians: the last step, or without
-    /// rounds the largest gap of the list; 0 for one that is held.
+    /// rounds the largest gap of the list, and where not all of it is tried, its width; 0 for one that is held.
     #[must_use]
     pub fn steps(&self) -> [f64; 2] {
         [0, 1].map(|i| match &self.axes[i] {
             axis if axis.is_held => 0.0,
+            axis if !self.is_grid_whole => axis.width(),
             _ if self.options.refine_rounds > 0 => last_step(&self.options),
             axis => axis.largest_gap().map_or(0.0, |[a, b]| b - a),
         })
@@ -131,6 +144,10 @@ impl Axis {
     fn held(name: &'static str) -> Self {
         let (dropped, merged, holes) = (vec![], vec![], vec![]);
         Self { name, is_held: true, kept: vec![0.0], dropped, merged, holes, ends: [0.0; 2] }
+    }
+
+    fn width(&self) -> f64 {
+        self.kept.last().zip(self.kept.first()).map_or(0.0, |(last, first)| last - first)
     }
 
     fn largest_gap(&self) -> Option<[f64; 2]> {
@@ -243,6 +260,17 @@ mod tests {
         let plan = plan(&[-2.0, 0.0, 3.0], &[0.0], 0);
         assert!((plan.steps()[0].to_degrees() - 3.0).abs() < 1e-12 && plan.steps()[1] == 0.0);
         assert!(plan.text().contains("none after the grid") && !plan.text().contains("HOLE"));
+    }
+
+    #[test]
+    fn a_stopped_search_is_as_near_as_its_last_whole_round() {
+        let plan = plan(&[-2.0, 0.0, 3.0], &[0.0, 1.0], 3);
+        let steps =
+            |round: usize| plan.stopped_in(round).steps().map(|step| step.to_degrees().round());
+        // In the grid any typed tilt may be missing; in round 1 the gaps are left; in round 2 the first step.
+        assert_eq!([0, 1, 2].map(steps), [[5.0, 1.0], [3.0, 1.0], [1.0, 1.0]]);
+        let last = plan.stopped_in(3).steps()[0].to_degrees();
+        assert!((last - 0.5).abs() < 1e-12, "{last}");
     }
 
     #[test]

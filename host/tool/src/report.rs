@@ -1,12 +1,12 @@
 //! The winner in words: the numbers that people ask for first.
 
 use crate::angle::degrees;
-use crate::drive::{Finished, Tried};
+use crate::drive::{Finished, Stop, Tried, last_step, step_of};
 use crate::open::{Held, Open};
 use crate::residuals::Fit;
 use crate::table::source_text;
 use crate::verdict::Point;
-use jinnychair::Winner;
+use jinnychair::{Options, Progress, Stopped, Winner};
 
 /// How many of the worst dots are shown.
 const WORST: usize = 3;
@@ -21,7 +21,8 @@ pub fn winner(finished: &Finished, winner: &Winner, one: &Tried, fit: &Fit, open
     };
     let lines = [
         format!(
-            "winner          candidate {} of {} ({})",
+            "{:16}candidate {} of {} ({})",
+            if finished.stop.is_some() { "best so far" } else { "winner" },
             winner.number,
             finished.tried.len(),
             source_text(one.source)
@@ -40,6 +41,59 @@ pub fn winner(finished: &Finished, winner: &Winner, one: &Tried, fit: &Fit, open
         worst(fit),
     ];
     lines.join("\n")
+}
+
+/// By what a search was stopped, and where.
+#[must_use]
+pub fn stop_place(stop: &Stop) -> String {
+    let Progress { round, rounds, answered, total, .. } = stop.progress;
+    format!(
+        "by {}, in round {round} of {rounds}, with {answered} of its {total} tilts tried",
+        stop.why
+    )
+}
+
+/// Where a search was stopped, and what could still be gained.
+#[must_use]
+pub fn stop(stop: &Stop, options: &Options) -> String {
+    let Progress { round, rounds, .. } = stop.progress;
+    let later = match rounds - round {
+        0 => "none follows".into(),
+        1 => format!(
+            "one follows, with a step of {}°; nothing is said of it",
+            degrees(last_step(options))
+        ),
+        more => format!(
+            "{more} follow, with steps from {}° down to {}°; nothing is said of them",
+            degrees(step_of(options, round + 1)),
+            degrees(last_step(options))
+        ),
+    };
+    [
+        format!("stopped         {}", stop_place(stop)),
+        format!("this round      {}", gain(&stop.stopped)),
+        format!("later rounds    {later}"),
+    ]
+    .join("\n")
+}
+
+/// What a round that isn't over could still gain, in words.
+#[must_use]
+pub fn gain(stopped: &Stopped) -> String {
+    let floor = stopped.floor.unwrap_or(f64::INFINITY);
+    let text = if floor == 0.0 { "0".into() } else { format!("{floor:.5}") };
+    let left = format!("no tilt left in it can score below {text}");
+    match stopped.best {
+        None => left,
+        Some(best) if stopped.no_gain => {
+            format!("can gain nothing: {left}, and the best has {:.5}", best.score)
+        }
+        Some(best) => format!(
+            "could gain at most {:.5} in score: {left}, and the best has {:.5}",
+            best.score - floor,
+            best.score
+        ),
+    }
 }
 
 /// A tilt y that is held at 0, beside what the views want.

@@ -1,12 +1,12 @@
 //! What speaks against a winner, and what to do. None of this is an error: the search did what it was asked.
 
 use crate::angle::degrees;
-use crate::drive::{Dots, Finished, Tried, best, last_step, reach};
+use crate::drive::{Dots, Finished, Stop, Tried, best, last_step, reach};
 use crate::open::{Open, free_numbers};
 use crate::plan::Plan;
 use crate::residuals::{Dot, Fit};
 use crate::solve::Host;
-use jinnychair::{Options, Outcome, ScheimpflugParams, SkipReason, Winner};
+use jinnychair::{Options, Outcome, Progress, ScheimpflugParams, SkipReason, Winner};
 
 /// Scores within this part of the winner's are as good as its own.
 const ALIKE: f64 = 0.01;
@@ -352,6 +352,25 @@ pub fn of_limits(winner: &Winner, open: &Open, limits: Limits) -> Vec<Point> {
         ));
     }
     points
+}
+
+/// A search that was stopped before its end.
+#[must_use]
+pub fn of_stop(stop: &Stop) -> Point {
+    let Progress { round, rounds, answered, total, .. } = stop.progress;
+    let later = match rounds - round {
+        0 => String::new(),
+        1 => "; the round after it wasn't begun".into(),
+        more => format!("; the {more} rounds after it weren't begun"),
+    };
+    let what = format!(
+        "the search was stopped by {} in round {round} of {rounds}, with {} of its {total} tilts left: this round \
+         {}{later}",
+        stop.why,
+        total - answered,
+        if stop.stopped.no_gain { "can gain nothing" } else { "may have a better one" },
+    );
+    point(what, "Search with more time, with fewer tilts, or with fewer rounds.")
 }
 
 /// A tilt y that is held at 0 while the views want another: by more than the steps, twice the noise and the centre's

@@ -2,15 +2,17 @@
 #![allow(missing_docs)]
 
 use jinnychair::{
-    BrownConrady5, FxFyCxCy, Inputs, Options, Outcome, PinholeCamera, Pt2, RunError,
+    BrownConrady5, FxFyCxCy, Inputs, Options, Outcome, PinholeCamera, Progress, Pt2, RunError,
     ScheimpflugParams, Seed, SkipReason, Solution,
 };
 use std::collections::BTreeSet;
+use std::ops::ControlFlow;
 use tool::chart::chart;
 use tool::choices::MIN_COUNTED;
-use tool::drive::{Finished, Source, best, last_step, run};
+use tool::drive::{Finished, Source, Tried, best, last_step, run, to_the_end};
+use tool::report;
 use tool::table::{self, Record};
-use tool::verdict::{of_search, too_few_counted};
+use tool::verdict::{of_search, of_stop, too_few_counted};
 
 const K: FxFyCxCy = FxFyCxCy { fx: 1000.0, fy: 1000.0, cx: 640.0, cy: 480.0 };
 
@@ -23,7 +25,7 @@ fn options(rounds: usize) -> Options {
 fn search(options: &Options, solve: impl FnMut(&Seed) -> Option<Solution>) -> Finished {
     let center = Pt2 { x: K.cx, y: K.cy };
     let inputs = Inputs { views: 3, options, decomposition: &[], base: K, center };
-    run(&inputs, &[], solve, |_, _| ()).unwrap()
+    run(&inputs, &[], solve, to_the_end).unwrap()
 }
 
 /// The record of a search whose input has a name that XML and a table would take for their own.
@@ -151,7 +153,7 @@ fn chart_marks_seeds_and_tells_where_the_bound_is() {
     let inputs = Inputs { views: 3, options: &options, decomposition: &given, base: K, center };
     let sources = [Source::Decomposition, Source::SeedFile];
     let finished =
-        run(&inputs, &sources, |seed| Some(off_by(K, near(seed, -0.03))), |_, _| ()).unwrap();
+        run(&inputs, &sources, |seed| Some(off_by(K, near(seed, -0.03))), to_the_end).unwrap();
     let found: Vec<_> = finished.tried.iter().map(|one| one.source).collect();
     assert_eq!(found[..3], [Source::Decomposition, Source::SeedFile, Source::Grid]);
     let number = best(finished.tried.iter().filter(|one| one.round == 1)).unwrap().number;
@@ -287,6 +289,80 @@ fn what_is_no_table_is_named_with_its_line() {
         let told = Record::parse(&good.replacen(old, new, 1)).unwrap_err();
         assert!(told.contains(fault), "{told}");
     }
+}
+
+/// A search that is stopped after so many tilts.
+fn stopped(
+    options: &Options,
+    after: usize,
+    solve: impl FnMut(&Seed) -> Option<Solution>,
+) -> Finished {
+    let center = Pt2 { x: K.cx, y: K.cy };
+    let inputs = Inputs { views: 3, options, decomposition: &[], base: K, center };
+    let watch = |one: &Tried, _: &Progress| match one.number + 1 {
+        tried if tried == after => ControlFlow::Break("the bell".into()),
+        _ => ControlFlow::Continue(()),
+    };
+    run(&inputs, &[], solve, watch).unwrap()
+}
+
+#[test]
+fn a_stopped_search_says_what_could_be_gained() {
+    let options = options(3);
+    let told = |after: usize| {
+        let finished = stopped(&options, after, |seed| Some(off_by(K, near(seed, 0.03) + 0.1)));
+        assert_eq!(finished.tried.len(), after);
+        let stop = finished.stop.unwrap();
+        assert_eq!(finished.winner.ok(), stop.stopped.best);
+        format!("{}\n{}", report::stop(&stop, &options), of_stop(&stop))
+    };
+    let in_grid = told(20);
+    for part in [
+        "stopped         by the bell, in round 0 of 3, with 20 of its 45 tilts tried\n",
+        "this round      could gain at most 7.10040 in score: no tilt left in it can score below 0, and the best",
+        "later rounds    3 follow, with steps from 1.146° down to 0.286°; nothing is said of them\n",
+        "stopped by the bell in round 0 of 3, with 25 of its 45 tilts left: this round may have a better one; the 3 rounds",
+    ] {
+        assert!(in_grid.contains(part), "{part}\n{in_grid}");
+    }
+    // After a round's last tilt the next round is the one that is left.
+    let between = told(45);
+    assert!(between.contains("in round 1 of 3, with 0 of its 9 tilts tried"), "{between}");
+    let late = told(45 + 9 + 4);
+    assert!(
+        late.contains("one follows, with a step of 0.286°")
+            && late.contains("the round after it wasn't begun"),
+        "{late}"
+    );
+    let last = told(45 + 9 + 9 + 1);
+    assert!(
+        last.contains("none follows") && last.contains("may have a better one. Search"),
+        "{last}"
+    );
+}
+
+#[test]
+fn a_round_that_can_gain_nothing_is_told() {
+    let mut options = options(0);
+    (options.tilt_x_seeds, options.tilt_y_seeds) = (vec![0.0, 0.1, 0.2], vec![0.0]);
+    let stop = stopped(&options, 1, |_| Some(off_by(K, 0.0))).stop.unwrap();
+    let text = report::stop(&stop, &options);
+    let expected =
+        "can gain nothing: no tilt left in it can score below 0.00250, and the best has 0.00000";
+    assert!(text.contains(expected), "{text}");
+    assert!(
+        of_stop(&stop).what.ends_with("with 2 of its 3 tilts left: this round can gain nothing")
+    );
+}
+
+#[test]
+fn a_search_that_is_stopped_before_a_score_has_no_winner() {
+    let finished = stopped(&options(1), 2, |_| None);
+    assert_eq!(finished.winner.map_err(RunError::number), Err(14));
+    let text = report::stop(&finished.stop.unwrap(), &options(1));
+    assert!(text.contains("\nthis round      no tilt left in it can score below 0\n"));
+    // The end comes before a stop.
+    assert_eq!(stopped(&options(0), 45, moody).stop, None);
 }
 
 fn near(seed: &Seed, x: f64) -> f64 {

@@ -65,7 +65,7 @@ fn small<'a>(words: &[&'a str]) -> Vec<&'a str> {
 }
 
 #[test]
-fn words_are_explained_and_wrong_ones_end_with_2() {
+fn words_are_explained() {
     let here = folder("words");
     let version = concat!("jinnychair ", env!("CARGO_PKG_VERSION"), "\n");
     assert_said(&here, &["--version"], 0, &[version]);
@@ -79,6 +79,12 @@ fn words_are_explained_and_wrong_ones_end_with_2() {
     }
     assert_said(&here, &["search", "--help"], 0, &["--centre X Y", "--tilts-x=-3deg,0,3deg"]);
     assert_said(&here, &["chart", "--help"], 0, &["jinnychair chart TABLE"]);
+    assert!(names(&here).is_empty());
+}
+
+#[test]
+fn wrong_words_end_with_2() {
+    let here = folder("wrong-words");
     let none: [&str; 0] = [];
     assert_said(&here, &none, 2, &["no command is named"]);
     for (words, fault) in [
@@ -97,6 +103,7 @@ fn words_are_explained_and_wrong_ones_end_with_2() {
             &["search", "--min-counted=101"],
             "--min-counted: `101` isn't a whole per cent from 0 to 100",
         ),
+        (&["search", "--minutes=0"], "--minutes: it isn't above 0"),
         (&["search", "--one-axis=x"], "--one-axis takes no value"),
         (
             &["search", "--one-axis", "--tilts-y=0,1deg"],
@@ -258,6 +265,31 @@ fn progress_is_told_round_by_round_where_no_terminal_is() {
     let words = ["search", "--one-axis", "--tilts-x=-1deg", "--bound=1.1deg", "--step=0.5deg"];
     let words = [&words[..], &["--rounds=1", "--no-decomposition"]].concat();
     assert_said(&here, &words, 3, &["\nround 0 of 1: 1 of 1", "\nround 1 of 1: 2 of 2 tried"]);
+}
+
+#[test]
+fn a_time_limit_stops_between_two_tilts() {
+    let here = folder("minutes");
+    let expected = [
+        "stopped         by the time limit of 0.000000001 min, in round 0 of 6, with 1 of its 46 tilts tried\n",
+        "this round      could gain at most 0.07335 in score: no tilt left in it can score below 0,",
+        "best so far     candidate 0 of 1 (decomposition)",
+        // Of the grid any tilt may be missing.
+        "by the steps  ±18.335° x, ±4.584° y",
+        "1. the search was stopped by the time limit of 0.000000001 min in round 0 of 6, with 45 of its 46 tilts left",
+    ];
+    assert_said(&here, &["search", "--minutes=1e-9"], 3, &expected);
+    let table = file(here.join("tilts.csv"));
+    assert!(
+        table.contains("\n# stopped: by the time limit of 0.000000001 min, in round 0"),
+        "{table}"
+    );
+    assert!(table.contains("\n# against: the search was stopped by the time limit"), "{table}");
+    assert!(file(here.join("tilts.svg")).contains("1 tilts tried, 0 skipped"));
+    // Time enough.
+    fs::write(here.join("lab.txt"), "minutes 1e9\n").unwrap();
+    said(&here, &small(&["--options=lab.txt"]), 0);
+    assert!(!file(here.join("tilts.csv")).contains("stopped"));
 }
 
 #[test]

@@ -6,7 +6,7 @@ use jinnychair::{
     BrownConrady5, FxFyCxCy, Inputs, Options, PinholeCamera, Pt2, ScheimpflugParams, Seed,
     Solution, Winner,
 };
-use tool::drive::{last_step, run};
+use tool::drive::{last_step, run, to_the_end};
 use tool::open::Open;
 use tool::plan::Plan;
 use tool::solve::Host;
@@ -58,7 +58,7 @@ fn search_with(host: &Host, options: &Options, decomposition: &[Seed]) -> Winner
     let base = host.base().unwrap();
     let (views, center) = (host.plate().views.len(), host.observed_centre());
     let inputs = Inputs { views, options, decomposition, base, center };
-    run(&inputs, &[], |seed| host.solve(seed), |_, _| ()).unwrap().winner.unwrap()
+    run(&inputs, &[], |seed| host.solve(seed), to_the_end).unwrap().winner.unwrap()
 }
 
 fn each_axis() -> impl Iterator<Item = ScheimpflugParams> {
@@ -72,7 +72,7 @@ fn scripted_host_finds_small_negative_tilts() {
         let center = Pt2 { x: SCRIPTED.cx, y: SCRIPTED.cy };
         let inputs =
             Inputs { views: 3, options: &options, decomposition: &[], base: SCRIPTED, center };
-        let finished = run(&inputs, &[], |seed| Some(scripted(seed, planted)), |_, _| ()).unwrap();
+        let finished = run(&inputs, &[], |seed| Some(scripted(seed, planted)), to_the_end).unwrap();
         assert_found(&finished.winner.unwrap(), planted, &options);
     }
 }

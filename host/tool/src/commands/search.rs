@@ -6,20 +6,22 @@ use crate::angle::degrees;
 use crate::chart::{self, chart};
 use crate::choices::{Choices, parse_seeds};
 use crate::date::now;
-use crate::drive::{self, Finished, Source};
+use crate::drive::{self, Finished, Source, Tried};
 use crate::files::{check_free, read, with_ending, write};
 use crate::open::Open;
 use crate::plan::Plan;
 use crate::progress::Bar;
 use crate::report;
-use crate::screen::Screen;
+use crate::screen::{Screen, aside};
 use crate::solve::Host;
+use crate::stop::Stopper;
 use crate::synthetic::BUILT_IN;
 use crate::table::{self, Record};
 use crate::verdict::{self, Point};
 use crate::views::{self, Plate};
-use jinnychair::{FxFyCxCy, Inputs, Options, Seed, Winner};
+use jinnychair::{FxFyCxCy, Inputs, Options, Progress, RunError, Seed, Winner};
 use std::io::IsTerminal;
+use std::ops::ControlFlow;
 use std::path::{Path, PathBuf};
 
 pub(super) const COMMAND: Command = Command {
@@ -177,12 +179,15 @@ impl Case {
             center,
         };
         let mut bar = Bar::new(&self.options, std::io::stderr().is_terminal());
-        let finished = drive::run(
-            &inputs,
-            &sources,
-            |seed| self.host.solve(seed),
-            |one, before| bar.show(one, before),
-        )?;
+        let mut stopper = Stopper::new(self.choices.minutes);
+        if stopper.hears_enter() {
+            aside("Enter stops the search after the tilt that is being tried.\n");
+        }
+        let watch = |one: &Tried, before: &Progress| {
+            bar.show(one, before);
+            stopper.asks().map_or(ControlFlow::Continue(()), ControlFlow::Break)
+        };
+        let finished = drive::run(&inputs, &sources, |seed| self.host.solve(seed), watch)?;
         bar.end(finished.tried.len());
         Ok(finished)
     }
@@ -196,13 +201,13 @@ impl Case {
     ) -> (Record, Result<Vec<Point>, Fault>) {
         let judged = match finished.winner {
             Ok(winner) => self.winner_and_points(&finished, &winner).map_err(Fault::Failed),
-            Err(error) => {
-                let few = verdict::too_few_counted(&finished.tried, &self.options);
-                let few = few.map_or(String::new(), |point| format!(" Also: {point}"));
-                Err(Fault::Failed(format!("{}: no winner: {error}{few}", self.input)))
-            }
+            Err(error) => Err(Fault::Failed(self.no_winner(&finished, error))),
         };
         let mut record = self.about();
+        if let Some(stop) = &finished.stop {
+            screen.say(report::stop(stop, &self.options));
+            record.add("stopped", &report::stop_place(stop));
+        }
         let against = judged.map(|(text, against)| {
             screen.say(text);
             screen.say(report::verdict(&against));
@@ -215,6 +220,16 @@ impl Case {
         }
         record.tried = finished.tried;
         (record, against)
+    }
+
+    fn no_winner(&self, finished: &Finished, error: RunError) -> String {
+        let cause = match &finished.stop {
+            None => error.to_string(),
+            Some(stop) => format!("stopped by {} before any tilt was scored", stop.why),
+        };
+        let few = verdict::too_few_counted(&finished.tried, &self.options);
+        let few = few.map_or(String::new(), |point| format!(" Also: {point}"));
+        format!("{}: no winner: {cause}{few}", self.input)
     }
 
     fn winner_and_points(
@@ -230,11 +245,14 @@ impl Case {
             .host
             .fit(&one.seed)
             .ok_or("the winner's camera can't be solved for again".to_owned())?;
-        let open = Open::new(&self.host, winner, &one.seed, &self.plan, self.choices.centre_within);
+        let stop = finished.stop.as_ref();
+        let plan = stop.map_or(self.plan.clone(), |s| self.plan.stopped_in(s.progress.round));
+        let open = Open::new(&self.host, winner, &one.seed, &plan, self.choices.centre_within);
         let noise = open.noise.unwrap_or_default();
         let apart = [0, 1].map(|i| (4.0 * open.steps[i]).max(2.0 * noise[i]));
         let [middle, half] = self.host.seen();
         let against = [
+            stop.map(verdict::of_stop).into_iter().collect(),
             verdict::of_centre(self.host.held_centre(), self.is_guessed, middle, half),
             verdict::of_plan(&self.plan, &self.options),
             verdict::of_search(finished, winner, &self.options, apart),
