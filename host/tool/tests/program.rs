@@ -216,8 +216,9 @@ fn built_in_plate_is_searched_read_back_from_its_file_and_charted_from_its_table
     said(&here, &["chart", "tilts.csv"], 0);
     assert!(file(here.join("drawn.svg")) == file(here.join("tilts.svg")), "the chart differs");
     let chart = file(here.join("tilts.svg"));
+    let [_, major, minor, patch] = jinnychair::VERSION.to_be_bytes();
     for part in [
-        "jinnychair ",
+        &format!("jinnychair {major}.{minor}.{patch}<")[..],
         " UTC<",
         "the built-in plate",
         "655 470 px (stated)",

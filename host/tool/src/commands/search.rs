@@ -265,7 +265,8 @@ impl Case {
 
     fn about(&self) -> Record {
         let mut record = Record::default();
-        record.add("library", concat!("jinnychair ", env!("CARGO_PKG_VERSION")));
+        let [_, major, minor, patch] = jinnychair::VERSION.to_be_bytes();
+        record.add("library", &format!("jinnychair {major}.{minor}.{patch}"));
         record.add("date", &now());
         record.add(
             "input",
