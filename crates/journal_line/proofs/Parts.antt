@@ -1,14 +1,16 @@
 -- The parts of a line, stored one after the other. Assumes nothing.
 use Prim.Native.Nat.{ℕ, _+_, _*_, _<_, _≤_}
 use mathlib.Core.Path.{_≡_, refl, sym, ap, _∙_, subst}
-use mathlib.Core.Bool.{true, false}
+use mathlib.Core.Bool.{Bool, true, false, not, _||_}
 use mathlib.Core.List.{List, [], _∷_, _++_, map, append-assoc}
 use native.Mathlib.Omega.{arith}
 use native.Mathlib.Nat.{zero-add}
-use borrow.Author.Tests.{le-ltb, lt-ltb}
+use borrow.Author.Tests.{ltb-false, not-false}
+use lib.Dec.{ltb}
 use lib.Ieee.{Float}
 use lib.ListN.{length, drop, replicate, length-append}
 use lib.Seq.{sets-eq, append-snoc}
+use Rattle.common.specs.Tests.{both-false}
 use Rattle.seed_rules.specs.Layout.{six}
 use Rattle.journal_line.specs.declared.ScoredFields.{ScoredFields}
 use Rattle.journal_line.specs.declared.Recorded.{Recorded}
@@ -89,18 +91,24 @@ line-parts l =
     let b = restOfLine (outcomeFields (l .outcome)) in
     append-assoc (d ++ 44 ∷ e) a b ∙ append-assoc d (44 ∷ e) (a ++ b) ∙ ap (λ (r : List ℕ). d ++ 44 ∷ (e ++ r)) (sym (rest-of-commas (map real (six (l .seed))) (outcomeFields (l .outcome))))
 
-module _ (l : Line) (o o₁ o₂ o₃ : List ℕ) (big : 256 ≤ length o) (can : Writable l) where
-  not-refused : refusesLine l o ≡ false
-  unfolding refusesLine
-  not-refused = simp (le-ltb (length o) 256 big, can)
+-- what the writer's test says, and what is known where it passes
+pub refuses-so : (l : Line) (o : List ℕ) (b : Bool) → b ≡ writable l → (ltb (length o) 256 || not b) ≡ refusesLine l o
+unfolding refusesLine
+refuses-so l o b e = rw e
 
+pub taken-so : (l : Line) (o : List ℕ) → refusesLine l o ≡ false → (256 ≤ length o) × Writable l
+unfolding refusesLine
+taken-so l o e = let b = both-false (ltb (length o) 256) (not (writable l)) e in (ltb-false (length o) 256 (b .0), not-false (writable l) (b .1))
+
+module _ (l : Line) (o o₁ o₂ o₃ : List ℕ) (taken : refusesLine l o ≡ false) where
   accepts : (n : ℕ) → n ≡ length (lineBytes l) → Stored o 0 (lineBytes l) o₃ → Writes l o o₃ (Length n)
   unfolding writeReply writeInto
   accepts n e s =
-      let b = line-bounds l can in
+      let k = taken-so l o taken in
+      let b = line-bounds l (k .1) in
       record {
-        reply-is = rw (not-refused, e);
-        out-is = rw not-refused (s .now-is ∙ sets-eq (lineBytes l) o 0 (omega arith) ∙ ap (λ (k : ℕ). lineBytes l ++ drop k o) (zero-add (length (lineBytes l))));
+        reply-is = rw (taken, e);
+        out-is = rw taken (s .now-is ∙ sets-eq (lineBytes l) o 0 (omega arith) ∙ ap (λ (k : ℕ). lineBytes l ++ drop k o) (zero-add (length (lineBytes l))));
       }
 
   pub line-stored : (at n : ℕ) (xs : List Float) → at ≡ decimalWidth (l .number) + (decimalWidth (l .round) + 1) → xs ≡ six (l .seed)
@@ -121,11 +129,3 @@ module _ (l : Line) (o o₁ o₂ o₃ : List ℕ) (big : 256 ≤ length o) (can 
 pub line-refused : (l : Line) (o : List ℕ) → refusesLine l o ≡ true → Writes l o o (Refused 28)
 unfolding writeReply writeInto
 line-refused l o e = record { reply-is = rw e; out-is = rw e }
-
-pub too-small : (l : Line) (o : List ℕ) → length o < 256 → refusesLine l o ≡ true
-unfolding refusesLine
-too-small l o h = simp (lt-ltb (length o) 256 h)
-
-pub cannot : (l : Line) (o : List ℕ) → 256 ≤ length o → writable l ≡ false → refusesLine l o ≡ true
-unfolding refusesLine
-cannot l o h e = simp (le-ltb (length o) 256 h, e)

@@ -189,10 +189,7 @@ fn put_head(out: &mut [u8], number: usize, round: usize) -> usize
 pub fn write_line(line: Line, out: &mut [u8]) -> Written
     ensures { λ r. ⌜ Writes line (now (out .entry)) (now (out .exit)) r × LineFits line ⌝ }
 {
-    if out.len() < 256 {
-        return Written::Refused(28);
-    }
-    if !is_writable(line) {
+    if (out.len() < 256) | !is_writable(line) {
         return Written::Refused(28);
     }
     let at = put_head(out, line.number, line.round);
