@@ -20,7 +20,7 @@ use Rattle.journal_line.specs.declared.Read.the-variants.{Got, End, Refu
 use Rattle.journal_line.specs.Line.{lineBytes, writable}
 use Rattle.journal_line.specs.Reading.{numberAt, decimalWidthAt, reals, scoredAt, reasonOf, outcomeAt, fromRound, fromSeed, uncheckedLine, begins, ofForm, lineNumber, readLine}
 use Rattle.journal_line.specs.Unique.{begins-is}
-use Rattle.journal_line.specs.Writing.{refusesLine, writeReply, writeInto, Writes}
+use Rattle.journal_line.specs.Writing.{refusesLine, writeReply, writeInto}
 
 -- ---- what the writer's reply tells
 not-small : (l : Line) (o : List ℕ) → length o ≡ 256 → refusesLine l o ≡ not (writable l)
@@ -33,17 +33,17 @@ module _ (l : Line) (o m : List ℕ) (n : ℕ) (big : length o ≡ 256) where
     pub long : n ≡ length (lineBytes l)
     pub front : take n m ≡ lineBytes l
 
-  pub done : (w : Written) → Writes l o m w → w ≡ W.Length n → Done
+  pub done : (w : Written) → w ≡ writeReply l o → m ≡ writeInto l o → w ≡ W.Length n → Done
   unfolding writeReply writeInto
-  done w s e = case (writable l) (λ c.
+  done w s t e = case (writable l) (λ c.
       let r : refusesLine l o ≡ false = not-small l o big ∙ simp c in
-      let a : W.Length n ≡ W.Length (length (lineBytes l)) = sym e ∙ s .reply-is ∙ simp r in
+      let a : W.Length n ≡ W.Length (length (lineBytes l)) = sym e ∙ s ∙ simp r in
       let b : n ≡ length (lineBytes l) = cc in
-      let d : m ≡ lineBytes l ++ drop (length (lineBytes l)) o = s .out-is ∙ simp r in
+      let d : m ≡ lineBytes l ++ drop (length (lineBytes l)) o = t ∙ simp r in
       record { can = c; long = b; front = ap (take n) d ∙ take-at (lineBytes l) (drop (length (lineBytes l)) o) n (sym b) })
       (λ c.
       let r : refusesLine l o ≡ true = not-small l o big ∙ simp c in
-      let a : W.Length n ≡ W.Refused 28 = sym e ∙ s .reply-is ∙ simp r in
+      let a : W.Length n ≡ W.Refused 28 = sym e ∙ s ∙ simp r in
       let z : _≡_ {A = ℕ} 0 1 = cc in
       absurd (omega arith))
 
@@ -55,11 +55,11 @@ module _ (l : Line) (o m : List ℕ) (n : ℕ) (big : length o ≡ 256) (d : Don
   pub front-room : n ≤ length m
   front-room = omega (arith, front-long, length-take n m)
 
-pub undone : (l : Line) (o m : List ℕ) (k : ℕ) → length o ≡ 256 → (w : Written) → Writes l o m w → w ≡ W.Refused k → writable l ≡ false
+pub undone : (l : Line) (o : List ℕ) (k : ℕ) → length o ≡ 256 → (w : Written) → w ≡ writeReply l o → w ≡ W.Refused k → writable l ≡ false
 unfolding writeReply
-undone l o m k big w s e = case (writable l) (λ c.
+undone l o k big w s e = case (writable l) (λ c.
     let r : refusesLine l o ≡ false = not-small l o big ∙ simp c in
-    let a : W.Refused k ≡ W.Length (length (lineBytes l)) = sym e ∙ s .reply-is ∙ simp r in
+    let a : W.Refused k ≡ W.Length (length (lineBytes l)) = sym e ∙ s ∙ simp r in
     let z : _≡_ {A = ℕ} 0 1 = cc in
     absurd (omega arith))
     (λ c. c)

@@ -1,5 +1,5 @@
 -- The parts of a line, stored one after the other. Assumes nothing.
-use Prim.Native.Nat.{ℕ, _+_, _*_, _<_, _≤_}
+use Prim.Native.Nat.{ℕ, _+_, _*_, _≤_}
 use mathlib.Core.Path.{_≡_, refl, sym, ap, _∙_, subst}
 use mathlib.Core.Bool.{Bool, true, false, not, _||_}
 use mathlib.Core.List.{List, [], _∷_, _++_, map, append-assoc}
@@ -22,7 +22,7 @@ use Rattle.journal_line.specs.Steps.{commaFields, Stored}
 use Rattle.journal_line.specs.DigitLaws.{digits-length, decimal-length}
 use Rattle.journal_line.specs.FieldLaws.{real-length, rest-of-commas, rest-length}
 use Rattle.journal_line.specs.Unique.{line-length, line-bounds}
-use Rattle.journal_line.specs.Writing.{refusesLine, writeReply, writeInto, Writes}
+use Rattle.journal_line.specs.Writing.{refusesLine, writeReply, writeInto}
 use Rattle.journal_line.proofs.Stores.{stored-then}
 
 -- the same bytes by another name
@@ -101,20 +101,17 @@ unfolding refusesLine
 taken-so l o e = let b = both-false (ltb (length o) 256) (not (writable l)) e in (ltb-false (length o) 256 (b .0), not-false (writable l) (b .1))
 
 module _ (l : Line) (o o₁ o₂ o₃ : List ℕ) (taken : refusesLine l o ≡ false) where
-  accepts : (n : ℕ) → n ≡ length (lineBytes l) → Stored o 0 (lineBytes l) o₃ → Writes l o o₃ (Length n)
+  accepts : (n : ℕ) → n ≡ length (lineBytes l) → Stored o 0 (lineBytes l) o₃ → (Length n ≡ writeReply l o) × (o₃ ≡ writeInto l o)
   unfolding writeReply writeInto
   accepts n e s =
       let k = taken-so l o taken in
       let b = line-bounds l (k .1) in
-      record {
-        reply-is = rw (taken, e);
-        out-is = rw taken (s .now-is ∙ sets-eq (lineBytes l) o 0 (omega arith) ∙ ap (λ (k : ℕ). lineBytes l ++ drop k o) (zero-add (length (lineBytes l))));
-      }
+      (rw (taken, e), rw taken (s .now-is ∙ sets-eq (lineBytes l) o 0 (omega arith) ∙ ap (λ (k : ℕ). lineBytes l ++ drop k o) (zero-add (length (lineBytes l)))))
 
   pub line-stored : (at n : ℕ) (xs : List Float) → at ≡ decimalWidth (l .number) + (decimalWidth (l .round) + 1) → xs ≡ six (l .seed)
       → Stored o 0 (decimal (l .number) ++ 44 ∷ decimal (l .round)) o₁ → Stored o₁ at (commaFields (map real xs)) o₂
       → n ≡ at + 102 + length (restOfLine (outcomeFields (l .outcome))) → Stored o₂ (at + 102) (restOfLine (outcomeFields (l .outcome))) o₃
-      → Writes l o o₃ (Length n)
+      → (Length n ≡ writeReply l o) × (o₃ ≡ writeInto l o)
   line-stored at n xs e f p q g r =
       let h = decimal (l .number) ++ 44 ∷ decimal (l .round) in
       let a = commaFields (map real (six (l .seed))) in
@@ -126,6 +123,6 @@ module _ (l : Line) (o o₁ o₂ o₃ : List ℕ) (taken : refusesLine l o ≡ f
       let t = stored-then (h ++ a) w o o₂ o₃ 0 (at + 102) s r (omega (arith, length-append h a, comma-fields-length (six (l .seed)))) in
       accepts n (omega (arith, line-length l, rest-length (outcomeFields (l .outcome)))) (stored-as o 0 ((h ++ a) ++ w) (lineBytes l) o₃ (line-parts l) t)
 
-pub line-refused : (l : Line) (o : List ℕ) → refusesLine l o ≡ true → Writes l o o (Refused 28)
+pub line-refused : (l : Line) (o : List ℕ) → refusesLine l o ≡ true → (Refused 28 ≡ writeReply l o) × (o ≡ writeInto l o)
 unfolding writeReply writeInto
-line-refused l o e = record { reply-is = rw e; out-is = rw e }
+line-refused l o e = (rw e, rw e)

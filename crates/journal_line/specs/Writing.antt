@@ -1,6 +1,5 @@
 -- What the writer replies, and what it leaves of the lent buffer. Definitions only.
 use Prim.Native.Nat.{ℕ}
-use mathlib.Core.Path.{_≡_}
 use mathlib.Core.Bool.{Bool, not, _||_, cond}
 use mathlib.Core.List.{List, _++_}
 use lib.Dec.{ltb}
@@ -20,7 +19,3 @@ writeReply l out = cond (refusesLine l out) (Refused 28) (Length (length (lineBy
 -- the line's bytes at the buffer's front, its rest unchanged; where the line is refused, the buffer as it was
 unfoldable pub writeInto : Line → List ℕ → List ℕ
 writeInto l out = cond (refusesLine l out) out (lineBytes l ++ drop (length (lineBytes l)) out)
-
-pub record Writes (l : Line) (out after : List ℕ) (reply : Written) : Type 0 where
-  pub reply-is : reply ≡ writeReply l out
-  pub out-is : after ≡ writeInto l out

@@ -6,7 +6,7 @@ ghost use lib.ListN.{length, replicate};
 ghost use Rattle.seed_rules.specs.Layout.{six};
 ghost use Rattle.journal_line.specs.Line.{digitByte, digits, decimalWidth, decimal, real, reasonLetter, eight, restOfLine, outcomeFields, recordable, writable, LineFits};
 ghost use Rattle.journal_line.specs.Steps.{commaFields, Stored};
-ghost use Rattle.journal_line.specs.Writing.{Writes};
+ghost use Rattle.journal_line.specs.Writing.{writeReply, writeInto};
 use crate::Line;
 use crate::Recorded;
 use crate::ScoredFields;
@@ -185,9 +185,12 @@ fn put_head(out: &mut [u8], number: usize, round: usize) -> usize
     n + (r + 1)
 }
 
-// Writes the line to the front of the buffer, or refuses it and writes nothing. (That the line is sound is no demand: every line of a program is.)
+// Writes the line to the front of the buffer, or refuses it and writes nothing. That the line's numbers fit is no demand: those of every line that a
+// program holds do, so what is written is read back.
 pub fn write_line(line: Line, out: &mut [u8]) -> Written
-    ensures { λ r. ⌜ Writes line (now (out .entry)) (now (out .exit)) r × LineFits line ⌝ }
+    ensures reply { λ r. ⌜ r ≡ writeReply line (now (out .entry)) ⌝ }
+    ensures written { λ _. ⌜ now (out .exit) ≡ writeInto line (now (out .entry)) ⌝ }
+    ensures fits { λ _. ⌜ LineFits line ⌝ }
 {
     if (out.len() < 256) | !is_writable(line) {
         return Written::Refused(28);

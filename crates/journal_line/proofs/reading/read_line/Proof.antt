@@ -1,9 +1,10 @@
--- `journal_line::reading::read_line` meets its contract: what the writer made of the line that the bytes would be says which answer is right. Assumes nothing.
+-- `journal_line::reading::read_line` meets its contract: what the writer made of the line that the bytes would be says which answer is right.
+-- Assumes nothing.
 use Rattle.journal_line.specs.Reading.{uncheckedLine, begins}
 use native.Mathlib.Omega.{arith}
 use Prim.Native.Nat.{ℕ}
 use mathlib.Core.List.{List}
-use lib.ListN.{length, replicate, length-replicate}
+use lib.ListN.{length, drop, replicate, length-replicate}
 use mathlib.Core.Path.{_≡_, ap, _∙_}
 use Rattle.journal_line.proofs.Found.{Done, at-end, done, front-long, front-room, rest-is, undone, got, not-so, not-written, in-journal}
 use borrow.Author.Needs.{needs}
@@ -16,11 +17,16 @@ zeros = replicate 256 0
 long : length zeros ≡ 256
 long = length-replicate {A = ℕ} 256 0
 
+-- the line that the writer is given
+line-is : (c : tie.After-unchecked-line) → c .unchecked-line .result ≡ uncheckedLine (drop (c .before .before .before .before .args .at) (c .before .before .before .before .args .bytes .now))
+line-is c = let a = c .before .before .before .before .args in c .unchecked-line .ensures ∙ ap uncheckedLine (rest-is (a .bytes .now) (a .at))
+
 -- what the writer has made, where it gave a length
-made : (c : tie.After-n) → Done (c .before .before .before .before .before .unchecked-line .result) (zeros) (c .before .before .before .write-line .last .1 .0) (c .n .given .0 .0) (long)
+made : (c : tie.After-n) → Done (c .before .before .before .before .before .unchecked-line .result) zeros (c .before .before .before .write-line .last .1 .0) (c .n .given .0 .0) long
 made c =
     let w = c .before .before .before in
-    done (w .before .before .unchecked-line .result) (zeros) (w .write-line .last .1 .0) (c .n .given .0 .0) (long) (w .write-line .result) (w .write-line .ensures .0) (c .n .given .1)
+    let e = w .write-line .ensures in
+    done (w .before .before .unchecked-line .result) zeros (w .write-line .last .1 .0) (c .n .given .0 .0) long (w .write-line .result) (e .0) (e .1 .0) (c .n .given .1)
 
 returns : tie.Need-returns
 returns c = let a = c .before .before .args in at-end (a .bytes .now) (a .at) (c .if1 .taken)
@@ -58,8 +64,8 @@ returns-2 c =
     let x = w .before .before in
     let f = x .before .before in
     let a = f .before .before .args in
-    c .refused-at .ensures ∙ not-written (a .bytes .now) (a .at) (x .unchecked-line .result) (f .if1 .left) (x .unchecked-line .ensures ∙ ap uncheckedLine (rest-is (a .bytes .now) (a .at)))
-    (undone (x .unchecked-line .result) _ _ _ (long) (w .write-line .result) (w .write-line .ensures .0) (c .before .enum-told .given .1))
+    let r = undone (x .unchecked-line .result) _ _ long (w .write-line .result) (w .write-line .ensures .0) (c .before .enum-told .given .1) in
+    c .refused-at .ensures ∙ not-written (a .bytes .now) (a .at) (x .unchecked-line .result) (f .if1 .left) (line-is x) r
 
 array-share-prefix-buffer : tie.Need-array-share-prefix-buffer
 array-share-prefix-buffer c = front-room _ _ _ _ _ (made (c .before))
@@ -77,7 +83,8 @@ add-t17 c =
     let x = n .before .before .before .before .before in
     let f = x .before .before in
     let a = f .before .before .args in
-    omega (arith, in-journal (a .bytes .now) (a .at) (x .unchecked-line .result) (f .if1 .left) (x .unchecked-line .ensures ∙ ap uncheckedLine (rest-is (a .bytes .now) (a .at))) _ _ _ _ (made n) (b .begins-with .result) (b .begins-with .ensures ∙ ap (begins _) (rest-is (a .bytes .now) (a .at))) (c .if2 .taken))
+    let e = b .begins-with .ensures ∙ ap (begins _) (rest-is (a .bytes .now) (a .at)) in
+    omega (arith, in-journal (a .bytes .now) (a .at) (x .unchecked-line .result) (f .if1 .left) (line-is x) _ _ _ _ (made n) (b .begins-with .result) e (c .if2 .taken))
 
 returns-3 : tie.Need-returns-3
 returns-3 c =
@@ -86,7 +93,8 @@ returns-3 c =
     let x = n .before .before .before .before .before in
     let f = x .before .before in
     let a = f .before .before .args in
-    got (a .bytes .now) (a .at) (x .unchecked-line .result) (f .if1 .left) (x .unchecked-line .ensures ∙ ap uncheckedLine (rest-is (a .bytes .now) (a .at))) _ _ _ _ (made n) (b .begins-with .result) (b .begins-with .ensures ∙ ap (begins _) (rest-is (a .bytes .now) (a .at))) (c .if2 .taken)
+    let e = b .begins-with .ensures ∙ ap (begins _) (rest-is (a .bytes .now) (a .at)) in
+    got (a .bytes .now) (a .at) (x .unchecked-line .result) (f .if1 .left) (line-is x) _ _ _ _ (made n) (b .begins-with .result) e (c .if2 .taken)
 
 refused-at-requires-2 : tie.Need-refused-at-requires-2
 refused-at-requires-2 c κs = search needs
@@ -98,7 +106,9 @@ returns-4 c =
     let x = n .before .before .before .before .before in
     let f = x .before .before in
     let a = f .before .before .args in
-    c .refused-at2 .ensures ∙ not-so (a .bytes .now) (a .at) (x .unchecked-line .result) (f .if1 .left) (x .unchecked-line .ensures ∙ ap uncheckedLine (rest-is (a .bytes .now) (a .at))) _ _ _ _ (made n) (b .begins-with .result) (b .begins-with .ensures ∙ ap (begins _) (rest-is (a .bytes .now) (a .at))) (c .before .if2 .left)
+    let e = b .begins-with .ensures ∙ ap (begins _) (rest-is (a .bytes .now) (a .at)) in
+    let r = not-so (a .bytes .now) (a .at) (x .unchecked-line .result) (f .if1 .left) (line-is x) _ _ _ _ (made n) (b .begins-with .result) e (c .before .if2 .left) in
+    c .refused-at2 .ensures ∙ r
 
 pub read-line-spec : {M : Type 1} → statement M
 read-line-spec =

@@ -3,7 +3,6 @@
 use Prim.Native.Nat.{_≤_}
 use mathlib.Core.Bool.{Bool, true, false, not, _||_}
 use mathlib.Core.Path.{_≡_, sym, _∙_}
-use native.Mathlib.Omega.{arith}
 use lib.Dec.{ltb}
 use lib.ListN.{length}
 use borrow.Author.Needs.{needs}
@@ -32,7 +31,8 @@ returns : tie.Need-returns
 returns c =
     let i = c .before .before .before in
     let w = c .before .is-writable in
-    (line-refused (i .args .line) (i .args .out .now) (test i (w .result) true (w .ensures) (c .if1 .taken)), every-line-fits i)
+    let r = line-refused (i .args .line) (i .args .out .now) (test i (w .result) true (w .ensures) (c .if1 .taken)) in
+    (r .0, (r .1, every-line-fits i))
 
 put-head-requires : tie.Need-put-head-requires
 put-head-requires c κs =
@@ -75,12 +75,12 @@ returns-2 c =
     let e = ph .before .before in
     let i = e .before .before .before in
     let w = e .before .is-writable in
-    let a = i .args in (
-      line-stored (a .line) (a .out .now) _ _ _ (test i (w .result) false (w .ensures) (e .if1 .left))
-          (ph .put-head .result) (po .put-outcome .result) (sn .six-numbers .result)
-          (ph .put-head .ensures .0) (sn .six-numbers .ensures) (ph .put-head .ensures .1) (pr .put-reals .ensures) (po .put-outcome .ensures .0) (po .put-outcome .ensures .1),
-      every-line-fits i,
-    )
+    let a = i .args in
+    let s = line-stored (a .line) (a .out .now) _ _ _ (test i (w .result) false (w .ensures) (e .if1 .left))
+    (ph .put-head .result) (po .put-outcome .result) (sn .six-numbers .result)
+    (ph .put-head .ensures .0) (sn .six-numbers .ensures) (ph .put-head .ensures .1) (pr .put-reals .ensures)
+    (po .put-outcome .ensures .0) (po .put-outcome .ensures .1) in
+    (s .0, (s .1, every-line-fits i))
 
 pub write-line-spec : {M : Type 1} → statement M
 write-line-spec =
