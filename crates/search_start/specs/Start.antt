@@ -15,7 +15,7 @@ use Rattle.seed_rules.specs.declared.CandidateSeed.{CandidateSeed}
 use Rattle.seed_rules.specs.Rules.{inBound, initialList}
 use Rattle.seed_rules.specs.Layout.{allSeeds, written}
 use Rattle.score_best.specs.Best.{noBest}
-use Rattle.search_record.specs.Record.{nobody}
+use Rattle.search_record.specs.Record.{nobody, noAnswer}
 use Rattle.search_record.specs.declared.run.Options.{Options}
 use Rattle.search_record.specs.declared.run.Run.{Run}
 use Rattle.search_start.specs.declared.Started.{Started}
@@ -54,6 +54,7 @@ openingOf options center demand n = record {
   waiting = nobody;
   «round_best» = noBest;
   «run_best» = noBest;
+  last = noAnswer;
 }
 
 -- 01, 'Start', and 02, E1, in their order: the refusals that need only the options and the lengths of the lists, and then the others
