@@ -12,8 +12,8 @@ use Rattle.seed_rules.specs.Layout.{six}
 use Rattle.score_outcome.specs.declared.Outcome.{Outcome}
 use Rattle.score_outcome.specs.Evaluation.{outcomeOf, findingRefusal}
 use Rattle.search_calls.specs.Next.{nextDef, seedLent, seedPart}
-use Rattle.book.specs.Calls.{Call, next, seed, answer, ask, over, part}
-use Rattle.book.specs.Book.{Inputs, demand, Book, entries, number, current, runBest, withWaiting, bookEnter, bookNext, bookSeed, bookAnswer, bookResult, bookCall}
+use Rattle.book.specs.Calls.{Call, next, seed, answer, ask, last, over, part}
+use Rattle.book.specs.Book.{Inputs, demand, Book, entries, number, current, runBest, withWaiting, bookEnter, bookNext, bookSeed, bookAnswer, bookResult, bookLast, bookCall}
 use Rattle.book.specs.Trace.{Handing, handedBy, answeredBy}
 use Rattle.book.proofs.Cases.{case-chosen}
 use Rattle.book.proofs.Lists.{lend, short}
@@ -39,6 +39,7 @@ answers-agree i b l (answer n f rows flags) g =
     (λ z. simp (run-fields, t, w, d, s, z))))
     (λ w. simp (run-fields, t, w))
 answers-agree i b l ask f = refl
+answers-agree i b l last f = refl
 
 -- ---- what was handed out so far: the answered candidates, and the one that waits
 abbrev pub waitingHanding : Book → List Handing
@@ -76,7 +77,7 @@ await-part : (i : Inputs) (b : Book) (l : List Float) → b .over ≡ false → 
 await-part i b l o f = seed-part i (withWaiting b) l (record { good = steps i .awaits b o (f .good); there = await-there b l (f .there) }) (await-round b .0) ∙ ap six (await-current b)
 
 pub hands-agree : (i : Inputs) (b : Book) (l : List Float) (c : Call) → State i b l → handedIn b ++ handedBy (runOf b) l c ≡ handedIn (bookCall b c .book)
-unfolding handedBy bookCall nextDef bookNext bookSeed bookAnswer bookResult
+unfolding handedBy bookCall nextDef bookNext bookSeed bookAnswer bookResult bookLast
 hands-agree i b l (next n) f =
     let d = short (demand (b .inputs)) l n (f .there .long) in
     let t = sound-run i b (f .good) in
@@ -101,3 +102,4 @@ hands-agree i b l (answer n f rows flags) g =
     (λ z. simp (w, s, z) q)))
     (λ w. simp w q)
 hands-agree i b l ask f = let z = append-nil (handedIn b) in case (b .over) (λ o. case-chosen (runBest b) (λ e. simp (o, e) z) (λ v e. simp (o, e) z)) (λ o. simp o z)
+hands-agree i b l last f = append-nil (handedIn b)

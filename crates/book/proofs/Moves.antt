@@ -18,8 +18,8 @@ use Rattle.score_outcome.specs.Evaluation.{outcomeOf, findingRefusal}
 use Rattle.score_outcome.specs.Facts.{ScoredFacts, scored-facts, skipped-reason}
 use Rattle.score_best.specs.declared.Candidate.{Candidate}
 use Rattle.score_best.specs.Best.{nothing, chosen}
-use Rattle.book.specs.Calls.{Call, next, seed, answer, ask}
-use Rattle.book.specs.Book.{Inputs, demand, Entry, Book, entries, number, current, roundBest, runBest, orElse, listAround, withWaiting, withEntry, withRound, withEnd, closeRound, bookEnter, Kept, bookNext, bookSeed, bookAnswer, bookResult, bookCall, after}
+use Rattle.book.specs.Calls.{Call, next, seed, answer, ask, last}
+use Rattle.book.specs.Book.{Inputs, demand, Entry, Book, entries, number, current, roundBest, runBest, orElse, listAround, withWaiting, withEntry, withRound, withEnd, closeRound, bookEnter, Kept, bookNext, bookSeed, bookAnswer, bookResult, bookLast, bookCall, after}
 use Rattle.book.proofs.Cases.{case-chosen, case-list, case-outcome}
 
 -- the waiting candidate's entry
@@ -101,6 +101,7 @@ enteredBy b (seed n) = []
 enteredBy b (answer n f rows flags) =
     cond (b .waits && (not (ltb n (demand (b .inputs))) && eqb (findingRefusal f (current b .sensor) rows flags) 0)) (entry b (outcomeOf f (current b .sensor) (b .inputs .center) rows flags) ∷ []) []
 enteredBy b ask = []
+enteredBy b last = []
 
 pub data Moves (b : Book) (c : Call) (k : Kept) : Type 0 where
   stays : k .book ≡ b → enteredBy b c ≡ [] → Moves b c k
@@ -108,7 +109,7 @@ pub data Moves (b : Book) (c : Call) (k : Kept) : Type 0 where
   enters : (o : Outcome) → b .waits ≡ true → Stands (b .inputs) (current b .sensor) o → k .book ≡ bookEnter b o → enteredBy b c ≡ entry b o ∷ [] → Moves b c k
 
 pub moves : (b : Book) (c : Call) → Moves b c (bookCall b c)
-unfolding bookCall bookNext bookSeed bookAnswer bookResult enteredBy
+unfolding bookCall bookNext bookSeed bookAnswer bookResult bookLast enteredBy
 moves b (next n) =
     case (b .waits) (λ w. simp w (stays refl refl)) (λ w.
     case (ltb n (demand (b .inputs))) (λ s. simp (w, s) (stays refl refl)) (λ s.
@@ -125,6 +126,7 @@ moves b (answer n f rows flags) =
     (λ z. simp (w, s, z) (stays refl (simp (w, s, z))))))
     (λ w. simp w (stays refl (simp w)))
 moves b ask = case (b .over) (λ o. case-chosen (runBest b) (λ e. simp (o, e) (stays refl refl)) (λ v e. simp (o, e) (stays refl refl))) (λ o. simp o (stays refl refl))
+moves b last = stays refl refl
 
 -- so the entries only grow
 pub grows : (b : Book) (c : Call) → entries (bookCall b c .book) ≡ entries b ++ enteredBy b c

@@ -24,7 +24,7 @@ use Rattle.search_record.specs.declared.run.Run.{Run}
 use Rattle.search_start.specs.declared.Started.the-variants.{Accepted}
 use Rattle.search_start.specs.Start.{positive, goodSeed, demandOf, openingOf, startChecks}
 use Rattle.search_start.specs.StartLaws.{Passed, start-passed}
-use Rattle.book.specs.Book.{Inputs, demand, scoredOf, roundBest, runBest, stepOf, firstList, isEmpty, opened}
+use Rattle.book.specs.Book.{Inputs, demand, scoredOf, roundBest, runBest, stepOf, firstList, isEmpty, opened, lastOf}
 use Rattle.book.specs.Conditions.{conditions}
 use Rattle.book.specs.Theorem.{optionsOf, startOf, startedList}
 use Rattle.book.proofs.Refusals.{none-hold, start-decided}
@@ -39,7 +39,7 @@ empty-is [] = refl
 empty-is (s ∷ ss) = eqb·suc-zero (length ss)
 
 opening-is : (i : Inputs) → openingOf (optionsOf i) (i .center) (demandOf (length (i .decomposition) / 6) (length (i .xs)) (length (i .ys))) (length (firstList i)) ≡ runOf (opened i)
-unfolding openingOf runOf opened demand demandOf stepOf roundBest runBest scoredOf bestOf firstUnbeaten
+unfolding openingOf runOf opened demand demandOf stepOf roundBest runBest scoredOf bestOf firstUnbeaten lastOf
 opening-is i = rw (empty-is (firstList i))
 
 -- ---- the demand

@@ -11,7 +11,7 @@ use Rattle.search_calls.specs.declared.next.Handed.{Handed}
 use Rattle.search_calls.specs.declared.next.Handed.the-variants.{Candidate, Over, Refused}
 use Rattle.search_calls.specs.Next.{nextDef, seedPart}
 use Rattle.search_answer.specs.Answer.{answerRefusal}
-use Rattle.book.specs.Calls.{Call, next, seed, answer, ask}
+use Rattle.book.specs.Calls.{Call, next, seed, answer, ask, last}
 use Rattle.book.specs.Book.{Entry}
 use Rattle.book.specs.Walk.{runCall}
 
@@ -31,6 +31,7 @@ handedBy r l (next n) = let a = nextDef r (take n l) in handing (a .run) l (a .r
 handedBy r l (seed n) = []
 handedBy r l (answer n f rows flags) = []
 handedBy r l ask = []
+handedBy r l last = []
 
 -- ---- an answer that was accepted: the candidate's number and round, its seed as the run keeps it, and the rules' outcome
 unfoldable pub answeredBy : Run → List Float → Call → List Entry
@@ -41,6 +42,7 @@ answeredBy r l (answer n f rows flags) =
     (record { number = r .place .number; round = r .place .round; seed = r .waiting .seed; outcome = outcomeOf f (r .waiting .seed .sensor) (r .center) rows flags } ∷ [])
     []
 answeredBy r l ask = []
+answeredBy r l last = []
 
 -- ---- of a whole list of calls
 unfoldable pub handed : Run → List Float → List Call → List Handing

@@ -10,10 +10,13 @@ use Rattle.search_answer.specs.declared.Answered.{Answered}
 use Rattle.search_answer.specs.declared.Answered.the-variants as answered
 use Rattle.search_calls.specs.declared.result.Resulted.{Resulted}
 use Rattle.search_calls.specs.declared.result.Resulted.the-variants as resulted
+use Rattle.search_calls.specs.declared.last.LastLine.{LastLine}
+use Rattle.search_calls.specs.declared.last.LastLine.the-variants as lastline
 use Rattle.search_calls.specs.Next.{nextDef, seedPart}
 use Rattle.search_answer.specs.Answer.{answerDef}
 use Rattle.search_calls.specs.Result.{resultDef}
-use Rattle.book.specs.Calls.{Call, next, seed, answer, ask, Reply, candidate, over, part, scored, skipped, result, refused}
+use Rattle.search_calls.specs.Last.{lastDef}
+use Rattle.book.specs.Calls.{Call, next, seed, answer, ask, last, Reply, candidate, over, part, scored, skipped, result, line, noLine, refused}
 
 -- ---- the entry points' replies, by 01's numbers
 abbrev pub handedReply : Handed → Reply
@@ -30,6 +33,10 @@ abbrev pub resultedReply : Resulted → Reply
 resultedReply (resulted.Result w) = result w
 resultedReply (resulted.Refused n) = refused n
 
+abbrev pub lastReply : LastLine → Reply
+lastReply (lastline.Answered l) = line l
+lastReply lastline.Nothing = noLine
+
 -- ---- what a call replies, and the run and the whole seed list after it
 pub record Step : Type 0 where
   pub reply : Reply
@@ -43,6 +50,7 @@ runCall r l (answer n f rows flags) =
     let a = answerDef r f rows flags (take n l) in
     record { reply = answeredReply (a .reply .reply); run = a .reply .run; list = a .list ++ drop n l }
 runCall r l ask = record { reply = resultedReply (resultDef r); run = r; list = l }
+runCall r l last = record { reply = lastReply (lastDef r); run = r; list = l }
 
 unfoldable pub walk : Run → List Float → List Call → List Reply
 walk r l [] = []
