@@ -4,6 +4,7 @@ use native.Mathlib.Omega.{arith}
 use mathlib.Core.Path.{_≡_, refl}
 use mathlib.Core.Bool.{Bool, true, false, not}
 use mathlib.Core.List.{List}
+use mathlib.Core.Option.{Option, none, some}
 use borrow.Author.Tests.{lt-ltb, le-leb}
 use lib.ListN.{length, length-append}
 use lib.Ieee.{Float}
@@ -12,8 +13,10 @@ use Rattle.seed_rules.specs.declared.CandidateSeed.{CandidateSeed}
 use Rattle.score_best.specs.Best.{Chosen, nothing, chosen, noBest, held}
 use Rattle.search_record.specs.declared.run.Run.{Run}
 use Rattle.search_record.specs.declared.run.Waiting.{Waiting}
-use Rattle.search_record.specs.Record.{nobody, hasPlace, sound}
-use Rattle.book.specs.Book.{Inputs, demand, Book, number, current, roundBest, runBest, stepOf, isNothing}
+use Rattle.journal_line.specs.Outcome.{recordedAs}
+use Rattle.search_record.specs.declared.run.LastAnswer.{LastAnswer}
+use Rattle.search_record.specs.Record.{nobody, noAnswer, lastAnswer, hasPlace, sound}
+use Rattle.book.specs.Book.{Inputs, demand, Entry, Book, entries, number, current, roundBest, runBest, stepOf, isNothing, lastOf}
 use Rattle.book.proofs.Lists.{Front}
 use Rattle.book.proofs.Good.{Good}
 
@@ -21,6 +24,10 @@ use Rattle.book.proofs.Good.{Good}
 abbrev pub waitingOf : Bool → CandidateSeed → Waiting
 waitingOf true s = record { «is_waiting» = true; seed = s }
 waitingOf false s = nobody
+
+abbrev pub lastIn : Option Entry → LastAnswer
+lastIn none = noAnswer
+lastIn (some e) = lastAnswer (e .number) (e .round) (e .seed) (recordedAs (e .outcome))
 
 unfoldable pub runOf : Book → Run
 runOf b =
@@ -32,6 +39,7 @@ runOf b =
       waiting = waitingOf (b .waits) (current b);
       «round_best» = held (roundBest b);
       «run_best» = held (runBest b);
+      last = lastIn (lastOf (entries b));
     }
 
 -- a book between the calls, and the lent list: the round's seeds stand in its front
@@ -84,6 +92,10 @@ module _ (b : Book) where
   pub run-run-best : runOf b .«run_best» ≡ held (runBest b)
   unfolding runOf
   run-run-best = refl
+
+  pub run-last : runOf b .last ≡ lastIn (lastOf (entries b))
+  unfolding runOf
+  run-last = refl
 
   pub run-max : runOf b .options .«max_abs_tilt» ≡ b .inputs .max
   unfolding runOf

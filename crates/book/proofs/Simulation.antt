@@ -5,12 +5,14 @@ use native.Mathlib.Omega.{arith}
 use mathlib.Core.Path.{_≡_, refl, sym, ap, _∙_}
 use mathlib.Core.Bool.{true, false, cond}
 use mathlib.Core.List.{List, [], _∷_, _++_, append-assoc, append-nil}
-use borrow.Author.Tests.{ltb-true, ltb-false, le-leb, lt-leb}
+use mathlib.Core.Option.{Option, none, some}
+use borrow.Author.Tests.{ltb-true, ltb-false, le-leb, lt-leb, ne-eqb}
 use lib.Dec.{ltb, eqb, eqb·suc-zero}
 use lib.ListN.{length, take, drop, length-append, take-append-drop}
 use lib.Seq.{drop-cons}
 use lib.Ieee.{Float}
 use Rattle.common.specs.Tests.{case}
+use Rattle.common.specs.Each.{All}
 use Rattle.float.specs.Binary64.{_*₆₄_}
 use Rattle.float.specs.Literals.{half₆₄}
 use Rattle.seed_rules.specs.declared.CandidateSeed.{CandidateSeed}
@@ -24,6 +26,8 @@ use Rattle.score_best.specs.declared.Best.{Best}
 use Rattle.score_best.specs.Best.{Chosen, nothing, chosen, bestOf, firstUnbeaten, noBest, held, candidateOf}
 use Rattle.score_best.specs.Order.{best-snoc}
 use Rattle.search_record.specs.declared.run.Run.{Run}
+use Rattle.journal_line.specs.Outcome.{recordedAs}
+use Rattle.search_record.specs.declared.run.LastAnswer.{LastAnswer}
 use Rattle.search_record.specs.declared.run.Waiting.{Waiting}
 use Rattle.search_record.specs.Record as rec
 use Rattle.search_calls.specs.Next.{nextDef, seedLent, seedPart}
@@ -33,15 +37,16 @@ use Rattle.search_calls.specs.Progress.{progressDef}
 use Rattle.search_calls.specs.declared.stop.Stopped.the-variants.{Standing, Refused}
 use Rattle.score_floor.specs.Floor.{seedsBetween}
 use Rattle.search_calls.specs.Stop.{leftSeeds, bestSoFar, outlookOf, stopDef}
-use Rattle.book.specs.Calls.{Call, next, seed, answer, ask, progress, stop, Reply, over, part, result, bar, stopped, refused}
-use Rattle.book.specs.Book.{Inputs, demand, Entry, Book, entries, number, noSeed, current, scoredOf, roundBest, runBest, orElse, stepOf, listAround, withWaiting, withEntry, withRound, withEnd, closeRound, bookEnter, Kept, kept, bookNext, bookSeed, replyTo, bookAnswer, bookResult, bookProgress, leftIn, restOf, bookStop, bookCall}
-use Rattle.book.specs.Walk.{Step, runCall, answeredReply, stoppedReply}
-use Rattle.book.proofs.Cases.{case-chosen, case-list, case-outcome}
-use Rattle.book.proofs.Moves.{entry}
+use Rattle.book.specs.Calls.{Call, next, seed, answer, ask, progress, stop, Reply, over, part, result, bar, stopped, refused, last, line, noLine}
+use Rattle.book.specs.Book.{Inputs, demand, Entry, Book, entries, number, noSeed, current, scoredOf, roundBest, runBest, orElse, stepOf, listAround, withWaiting, withEntry, withRound, withEnd, closeRound, bookEnter, Kept, kept, bookNext, bookSeed, replyTo, bookAnswer, bookResult, bookProgress, leftIn, restOf, bookStop, bookCall, lineOf, lastOf, lineReply, bookLast}
+use Rattle.book.specs.Walk.{Step, runCall, answeredReply, stoppedReply, lastReply}
+use Rattle.book.proofs.Cases.{case-chosen, case-list, case-outcome, case-option}
+use Rattle.book.proofs.Moves.{entry, Stands}
 use Rattle.book.proofs.Seeds.{nine}
-use Rattle.book.proofs.Good.{Good, waits-going, at-most}
-use Rattle.book.proofs.RunOf.{runOf, State, run-waiting, run-round-best, run-run-best, run-max, run-one-axis, run-fields, run-bests, sound-run}
+use Rattle.book.proofs.Good.{Proper, Good, waits-going, at-most}
+use Rattle.book.proofs.RunOf.{runOf, State, run-waiting, run-round-best, run-run-best, run-max, run-one-axis, run-fields, run-bests, sound-run, lastIn, run-last}
 use Rattle.book.proofs.Lists.{seed-at, part-at, seeds-there, Front, lend, give-back, write-front, no-front, short}
+use Rattle.search_calls.specs.Last.{hasLine, recordedIn, lastDef}
 
 -- a call's step beside the book's
 pub record Agrees (x : Step) (k : Kept) : Type 0 where
@@ -164,6 +169,35 @@ stop-agrees i b l n f =
     case (ltb n (demand (b .inputs)))
     (λ s. simp (stop-is i b l n f, s) (unmoved b l (f .there) (refused 10)))
     (λ s. simp (stop-is i b l n f, s, outlook-read) (unmoved b l (f .there) (stopped (runBest b) (restOf (leftIn b) (runBest b)))))
+-- ---- the last answered candidate's line
+abbrev OnLast : (Entry → Type 0) → Option Entry → Type 0
+OnLast P none = Unit {0}
+OnLast P (some e) = P e
+
+last-all : (P : Entry → Type 0) (es : List Entry) → All P es → OnLast P (lastOf es)
+unfolding lastOf
+last-all P [] h = tt
+last-all P (d ∷ es) h = case-option (lastOf es) (λ n. simp (lastOf, n) (h .0)) (λ e n. let ih = last-all P es (h .1) in simp (lastOf, n) (rw n at ih))
+
+-- it was scored, or skipped for a reason from 1 to 4
+line-is : (i : Inputs) (n r : ℕ) (s : CandidateSeed) (o : Outcome) → Stands i (s .sensor) o → (x : Run) → rec.sound x ≡ true → x .last ≡ rec.lastAnswer n r s (recordedAs o)
+    → lastReply (lastDef x) ≡ line (record { number = n; round = r; seed = s; outcome = recordedAs o })
+unfolding lastDef hasLine recordedIn
+line-is i n r s (Skipped k) p x t h = simp (t, h, le-leb k 4 (p .1), ne-eqb k 0 (λ e. omega (arith, p .0)))
+line-is i n r s (Scored g) p x t h = simp (t, h)
+
+no-line : (x : Run) → x .last ≡ rec.noAnswer → lastReply (lastDef x) ≡ noLine
+unfolding lastDef hasLine
+no-line x h = case (rec.sound x) (λ t. simp (h, t)) (λ t. simp (h, t))
+
+last-agrees : (i : Inputs) (b : Book) (l : List Float) → State i b l → Agrees (runCall (runOf b) l last) (bookLast b)
+unfolding runCall bookLast
+last-agrees i b l f =
+    case-option (lastOf (entries b))
+    (λ n. record { reply = simp n (no-line (runOf b) (run-last b ∙ ap lastIn n)); run = refl; there = f .there })
+    (λ e n.
+    let p = rw n at (last-all (Proper (b .inputs)) (entries b) (f .good .core .proper)) in
+    record { reply = simp n (line-is (b .inputs) (e .number) (e .round) (e .seed) (e .outcome) (p .stands) (runOf b) (sound-run i b (f .good)) (run-last b ∙ ap lastIn n)); run = refl; there = f .there })
 
 -- ---- the end of a round
 -- the run and the list that go with a book
@@ -207,6 +241,7 @@ openedWith r n s q =
       waiting = q;
       «round_best» = noBest;
       «run_best» = r .«run_best»;
+      last = r .last;
     }
 
 opened-with : (r : Run) (n : ℕ) (s : Float) (q : Waiting) → rec.nextStep r ≡ s → r .waiting ≡ q → rec.roundOpened r n ≡ openedWith r n s q
@@ -283,8 +318,8 @@ best-entry b (Skipped n) es = simp (scored-append, append-nil)
 best-entry b (Scored s) es = rw (scored-append es (entry b (Scored s) ∷ [])) (sym (best-snoc (scoredOf es) (candidateOf (number b) (current b .sensor) s)))
 
 -- an entered run, its seed's tilts and its bests given by what they equal
-abbrev enteredWith : Run → Best → Best → Run
-enteredWith r a c =
+abbrev enteredWith : Run → Best → Best → LastAnswer → Run
+enteredWith r a c d =
     let p = r .place in
     record {
       options = r .options;
@@ -293,13 +328,14 @@ enteredWith r a c =
       waiting = rec.nobody;
       «round_best» = a;
       «run_best» = c;
+      last = d;
     }
 
-entered-with : (r : Run) (o : Outcome) (s : CandidateSeed) (a c : Best) → r .waiting .seed ≡ s
+entered-with : (r : Run) (o : Outcome) (s : CandidateSeed) (a c : Best) (d : LastAnswer) → r .waiting .seed ≡ s
     → rec.withOutcome (r .«round_best») (r .place .number) (s .sensor) o ≡ a → rec.withOutcome (r .«run_best») (r .place .number) (s .sensor) o ≡ c
-    → rec.entered r o ≡ enteredWith r a c
+    → rec.lastAnswer (r .place .number) (r .place .round) s (recordedAs o) ≡ d → rec.entered r o ≡ enteredWith r a c d
 unfolding rec.entered
-entered-with r o s a c e f g = rw (e, f, g)
+entered-with r o s a c d e f g h = rw (e, f, g, h)
 
 pub waiting-seed : (b : Book) → b .waits ≡ true → runOf b .waiting .seed ≡ current b
 waiting-seed b w = simp (run-waiting, w)
@@ -314,11 +350,23 @@ enter-run-best : (b : Book) (o : Outcome)
 unfolding runOf runBest
 enter-run-best b o = best-entry b o (entries b) ∙ ap (λ (x : List Entry). held (bestOf (scoredOf x))) (append-assoc (b .earlier) (b .answered) (entry b o ∷ []))
 
+pub last-snoc : (es : List Entry) (e : Entry) → lastOf (es ++ e ∷ []) ≡ some e
+unfolding lastOf
+last-snoc [] e = refl
+last-snoc (d ∷ es) e = simp (lastOf, last-snoc es e)
+
+enter-last : (b : Book) (o : Outcome)
+    → rec.lastAnswer (runOf b .place .number) (runOf b .place .round) (current b) (recordedAs o) ≡ lastIn (lastOf (b .earlier ++ (b .answered ++ entry b o ∷ [])))
+unfolding runOf
+enter-last b o = ap lastIn (sym (last-snoc (entries b) (entry b o)) ∙ ap lastOf (append-assoc (b .earlier) (b .answered) (entry b o ∷ [])))
+
 entry-count : (b : Book) (e : Entry) → length (b .earlier ++ (b .answered ++ e ∷ [])) ≡ number b + 1
 entry-count b e = ap length (sym (append-assoc (b .earlier) (b .answered) (e ∷ []))) ∙ length-append (entries b) (e ∷ [])
 
 entered-is : (b : Book) (o : Outcome)
-    → enteredWith (runOf b) (held (bestOf (scoredOf (b .answered ++ entry b o ∷ [])))) (held (bestOf (scoredOf (b .earlier ++ (b .answered ++ entry b o ∷ []))))) ≡ runOf (withEntry b o)
+    → enteredWith (runOf b) (held (bestOf (scoredOf (b .answered ++ entry b o ∷ [])))) (held (bestOf (scoredOf (b .earlier ++ (b .answered ++ entry b o ∷ [])))))
+    (lastIn (lastOf (b .earlier ++ (b .answered ++ entry b o ∷ []))))
+    ≡ runOf (withEntry b o)
 unfolding runOf withEntry roundBest runBest
 entered-is b o =
     let p : length (b .answered ++ entry b o ∷ []) ≡ length (b .answered) + 1 = length-append (b .answered) (entry b o ∷ []) in
@@ -327,7 +375,7 @@ entered-is b o =
 enter-run : (b : Book) (o : Outcome) → b .waits ≡ true → rec.entered (runOf b) o ≡ runOf (withEntry b o)
 enter-run b o w =
     entered-with (runOf b) o (current b) (held (bestOf (scoredOf (b .answered ++ entry b o ∷ [])))) (held (bestOf (scoredOf (b .earlier ++ (b .answered ++ entry b o ∷ [])))))
-    (waiting-seed b w) (enter-round-best b o) (enter-run-best b o)
+    (lastIn (lastOf (b .earlier ++ (b .answered ++ entry b o ∷ [])))) (waiting-seed b w) (enter-round-best b o) (enter-run-best b o) (enter-last b o)
     ∙ entered-is b o
 
 -- ---- the answer to the list's last seed ends the round
@@ -382,3 +430,4 @@ call-agrees i b l (answer n f rows flags) g = answer-agrees i b l n f rows flags
 call-agrees i b l ask f = result-agrees i b l f
 call-agrees i b l progress f = progress-agrees i b l f
 call-agrees i b l (stop n) f = stop-agrees i b l n f
+call-agrees i b l last f = last-agrees i b l f

@@ -3,6 +3,7 @@
 use Prim.Native.Nat.{ℕ, zero, suc, _+_, _-_, _*_, _/_}
 use mathlib.Core.Bool.{Bool, true, false, not, _&&_, cond}
 use mathlib.Core.List.{List, [], _∷_, _++_}
+use mathlib.Core.Option.{Option, none, some}
 use lib.Dec.{ltb, eqb}
 use lib.ListN.{length, getD, drop}
 use lib.Ieee.{Float, lt}
@@ -21,7 +22,9 @@ use Rattle.score_outcome.specs.Evaluation.{outcomeOf, findingRefusal}
 use Rattle.score_best.specs.declared.Candidate.{Candidate}
 use Rattle.score_best.specs.Best.{Chosen, nothing, chosen, bestOf, candidateOf}
 use Rattle.score_floor.specs.Floor.{floorOf}
-use Rattle.book.specs.Calls.{Call, next, seed, answer, ask, progress, stop, Rest, nothing-left, floor, Reply, candidate, over, part, scored, skipped, result, bar, stopped, refused}
+use Rattle.book.specs.Calls.{Call, next, seed, answer, ask, progress, stop, Rest, nothing-left, floor, Reply, candidate, over, part, scored, skipped, result, bar, stopped, refused, last, line, noLine}
+use Rattle.journal_line.specs.declared.Line.{Line}
+use Rattle.journal_line.specs.Outcome.{recordedAs}
 
 -- ---- what Start is given
 pub record Inputs : Type 0 where
@@ -241,6 +244,21 @@ restOf (s ∷ ss) best = floor (floorOf (s ∷ ss)) (noGain (floorOf (s ∷ ss))
 -- 10 the list is too short; else the run's best, if any, and what is left
 unfoldable pub bookStop : Book → ℕ → Kept
 bookStop b n = unless (firstRefusal ((10 when ltb n (demand (b .inputs))) ∷ [])) b (kept (stopped (runBest b) (restOf (leftIn b) (runBest b))) b)
+-- 02, E2: the last answered candidate's line, or nothing before the first answer. The round is the one that it was handed out in, the camera the one that
+-- was scored.
+abbrev pub lineOf : Entry → Line
+lineOf e = record { number = e .number; round = e .round; seed = e .seed; outcome = recordedAs (e .outcome) }
+
+unfoldable pub lastOf : List Entry → Option Entry
+lastOf [] = none
+lastOf (e ∷ es) = elim (lastOf es) [ none ↦ some e | some d ↦ some d ]
+
+abbrev pub lineReply : Option Entry → Reply
+lineReply none = noLine
+lineReply (some e) = line (lineOf e)
+
+unfoldable pub bookLast : Book → Kept
+bookLast b = kept (lineReply (lastOf (entries b))) b
 
 unfoldable pub bookCall : Book → Call → Kept
 bookCall b (next n) = bookNext b n
@@ -249,6 +267,7 @@ bookCall b (answer n f rows flags) = bookAnswer b n f rows flags
 bookCall b ask = bookResult b
 bookCall b progress = bookProgress b
 bookCall b (stop n) = bookStop b n
+bookCall b last = bookLast b
 
 -- ---- a whole list of calls: the book's replies, and the book after them
 unfoldable pub replies : Book → List Call → List Reply

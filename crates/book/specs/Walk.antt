@@ -21,7 +21,10 @@ use Rattle.search_answer.specs.Answer.{answerDef}
 use Rattle.search_calls.specs.Result.{resultDef}
 use Rattle.search_calls.specs.Progress.{progressDef}
 use Rattle.search_calls.specs.Stop.{stopDef}
-use Rattle.book.specs.Calls.{Call, next, seed, answer, ask, progress, stop, nothing-left, floor, Reply, candidate, over, part, scored, skipped, result, bar, stopped, refused}
+use Rattle.book.specs.Calls.{Call, next, seed, answer, ask, progress, stop, nothing-left, floor, Reply, candidate, over, part, scored, skipped, result, bar, stopped, refused, last, line, noLine}
+use Rattle.search_calls.specs.declared.last.LastLine.{LastLine}
+use Rattle.search_calls.specs.declared.last.LastLine.the-variants as lastline
+use Rattle.search_calls.specs.Last.{lastDef}
 
 -- ---- the entry points' replies, by 01's numbers
 abbrev pub handedReply : Handed → Reply
@@ -47,6 +50,9 @@ chosenOf b = cond (b .found) (chosen (b .candidate)) nothing
 abbrev pub stoppedReply : Stopped → Reply
 stoppedReply (stopped-as.Standing o) = stopped (chosenOf (o .best)) (cond (o .«has_floor») (floor (o .floor) (o .«no_gain»)) nothing-left)
 stoppedReply (stopped-as.Refused n) = refused n
+abbrev pub lastReply : LastLine → Reply
+lastReply (lastline.Answered l) = line l
+lastReply lastline.Nothing = noLine
 
 -- ---- what a call replies, and the run and the whole seed list after it
 pub record Step : Type 0 where
@@ -63,6 +69,7 @@ runCall r l (answer n f rows flags) =
 runCall r l ask = record { reply = resultedReply (resultDef r); run = r; list = l }
 runCall r l progress = record { reply = progressReply (progressDef r); run = r; list = l }
 runCall r l (stop n) = record { reply = stoppedReply (stopDef r (take n l)); run = r; list = l }
+runCall r l last = record { reply = lastReply (lastDef r); run = r; list = l }
 
 unfoldable pub walk : Run → List Float → List Call → List Reply
 walk r l [] = []

@@ -3,6 +3,7 @@ pub mod Examples
 pub mod FieldLaws
 pub mod Line
 pub mod Numbers
+pub mod Outcome
 pub mod Reading
 pub mod Steps
 pub mod Summary

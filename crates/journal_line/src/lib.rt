@@ -1,4 +1,5 @@
 // The journal: one line for each answered candidate, written to a lent buffer and read back.
+pub mod outcome;
 pub mod reading;
 pub mod writing;
 

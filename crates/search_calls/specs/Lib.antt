@@ -1,3 +1,4 @@
+pub mod Last
 pub mod Next
 pub mod NextLaws
 pub mod Result

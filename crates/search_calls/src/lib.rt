@@ -1,4 +1,5 @@
-// The calls that change no list: Next with the seed call beside it, Result, the progress call, and the stop call.
+// The calls that change no list: Next with the seed call beside it, Result, the progress call, the stop call, and the last answered line.
+pub mod last;
 pub mod next;
 pub mod progress;
 pub mod result;

@@ -11,6 +11,11 @@ use Rattle.score_outcome.specs.declared.Outcome.{Outcome}
 use Rattle.score_outcome.specs.declared.Outcome.the-variants.{Skipped, Scored}
 use Rattle.score_best.specs.declared.Best.{Best}
 use Rattle.score_best.specs.Best.{improved, noBest, candidateOf}
+use Rattle.journal_line.specs.declared.ScoredFields.{ScoredFields}
+use Rattle.journal_line.specs.declared.Recorded.{Recorded}
+use Rattle.journal_line.specs.declared.Recorded.the-variants as recorded
+use Rattle.journal_line.specs.Outcome.{recordedAs}
+use Rattle.search_record.specs.declared.run.LastAnswer.{LastAnswer}
 use Rattle.search_record.specs.declared.run.Place.{Place}
 use Rattle.search_record.specs.declared.run.Waiting.{Waiting}
 use Rattle.search_record.specs.declared.run.Run.{Run}
@@ -51,7 +56,19 @@ awaiting r s = record {
   waiting = record { «is_waiting» = true; seed = s };
   «round_best» = r .«round_best»;
   «run_best» = r .«run_best»;
+  last = r .last;
 }
+
+-- ---- the last answered candidate, as a line records it, with the round that it was handed out in
+abbrev pub noFields : ScoredFields
+noFields = record { score = plusZero; mean = plusZero; k = record { fx = plusZero; fy = plusZero; cx = plusZero; cy = plusZero }; p1 = plusZero; p2 = plusZero }
+
+abbrev pub noAnswer : LastAnswer
+noAnswer = record { found = false; number = 0; round = 0; seed = noSeed; skipped = 0; scored = noFields }
+
+abbrev pub lastAnswer : ℕ → ℕ → CandidateSeed → Recorded → LastAnswer
+lastAnswer n r s (recorded.Scored f) = record { found = true; number = n; round = r; seed = s; skipped = 0; scored = f }
+lastAnswer n r s (recorded.Skipped reason) = record { found = true; number = n; round = r; seed = s; skipped = reason; scored = noFields }
 
 -- ---- the waiting seed's outcome is entered: nothing waits, the place moves on, and a scored candidate may become the best
 unfoldable pub withOutcome : Best → ℕ → ScheimpflugParams → Outcome → Best
@@ -69,6 +86,7 @@ entered r o =
       waiting = nobody;
       «round_best» = withOutcome (r .«round_best») (p .number) t o;
       «run_best» = withOutcome (r .«run_best») (p .number) t o;
+      last = lastAnswer (p .number) (p .round) (r .waiting .seed) (recordedAs o);
     }
 
 -- ---- the next round opens with n seeds, made with the step s; or the run ends
@@ -86,6 +104,7 @@ roundOpened r n =
       waiting = r .waiting;
       «round_best» = noBest;
       «run_best» = r .«run_best»;
+      last = r .last;
     }
 
 unfoldable pub ended : Run → Run
@@ -98,4 +117,5 @@ ended r =
       waiting = r .waiting;
       «round_best» = r .«round_best»;
       «run_best» = r .«run_best»;
+      last = r .last;
     }

@@ -2,10 +2,13 @@
 
 ghost use mathlib.Core.Path.{_≡_};
 ghost use Prim.Native.Nat.{_<_, _≤_};
-ghost use Rattle.search_record.specs.Record.{sound, hasPlace, nextStep};
+ghost use Rattle.search_record.specs.Record.{sound, hasPlace, noSeed, noFields, noAnswer, lastAnswer, nextStep};
 use camera_models::intrinsics::FxFyCxCy;
 use camera_models::math::Pt2;
 use camera_tilt::sensor::ScheimpflugParams;
+use journal_line::Recorded;
+use journal_line::ScoredFields;
+use journal_line::outcome::recorded_as;
 use score_best::Best;
 use score_best::Candidate;
 use score_outcome::Outcome;
@@ -39,6 +42,17 @@ pub struct Waiting {
     pub seed: CandidateSeed,
 }
 
+// The last answered candidate, as a journal's line records it: `skipped` is 0 where it was scored, else the reason, and then `scored` is 0.
+// Nothing is found before the first answer.
+pub struct LastAnswer {
+    pub found: bool,
+    pub number: usize,
+    pub round: usize,
+    pub seed: CandidateSeed,
+    pub skipped: u8,
+    pub scored: ScoredFields,
+}
+
 pub struct Run {
     pub options: Options,
     pub center: Pt2,
@@ -46,6 +60,7 @@ pub struct Run {
     pub waiting: Waiting,
     pub round_best: Best,
     pub run_best: Best,
+    pub last: LastAnswer,
 }
 
 // An open run has a seed left in its list, and where the run is over, none waits.
@@ -75,25 +90,81 @@ pub fn is_sound(run: Run) -> bool
         & has_place(run.place, run.waiting)
 }
 
+fn no_seed() -> CandidateSeed
+    ensures { λ r. ⌜ r ≡ noSeed ⌝ }
+{
+    CandidateSeed {
+        reference_k: FxFyCxCy {
+            fx: 0.0,
+            fy: 0.0,
+            cx: 0.0,
+            cy: 0.0,
+        },
+        sensor: ScheimpflugParams {
+            tilt_x: 0.0,
+            tilt_y: 0.0,
+        },
+    }
+}
+
 // No seed waits.
 pub fn nobody() -> Waiting
     ensures { λ r. ⌜ r ≡ Rattle.search_record.specs.Record.nobody ⌝ }
 {
     Waiting {
         is_waiting: false,
-        seed: CandidateSeed {
-            reference_k: FxFyCxCy {
-                fx: 0.0,
-                fy: 0.0,
-                cx: 0.0,
-                cy: 0.0,
-            },
-            sensor: ScheimpflugParams {
-                tilt_x: 0.0,
-                tilt_y: 0.0,
-            },
-        },
+        seed: no_seed(),
     }
+}
+
+fn no_fields() -> ScoredFields
+    ensures { λ r. ⌜ r ≡ noFields ⌝ }
+{
+    ScoredFields {
+        score: 0.0,
+        mean: 0.0,
+        k: FxFyCxCy {
+            fx: 0.0,
+            fy: 0.0,
+            cx: 0.0,
+            cy: 0.0,
+        },
+        p1: 0.0,
+        p2: 0.0,
+    }
+}
+
+// No candidate is answered.
+pub fn no_answer() -> LastAnswer
+    ensures { λ r. ⌜ r ≡ noAnswer ⌝ }
+{
+    LastAnswer {
+        found: false,
+        number: 0,
+        round: 0,
+        seed: no_seed(),
+        skipped: 0,
+        scored: no_fields(),
+    }
+}
+
+// The candidate with this number, handed out in this round, as it is recorded.
+fn last_answer(number: usize, round: usize, seed: CandidateSeed, recorded: Recorded) -> LastAnswer
+    ensures { λ r. ⌜ r ≡ lastAnswer number round seed recorded ⌝ }
+{
+    let mut last = LastAnswer {
+        found: true,
+        number,
+        round,
+        seed,
+        skipped: 0,
+        scored: no_fields(),
+    };
+    match recorded {
+        Recorded::Scored(fields) => last.scored = fields,
+        Recorded::Skipped(reason) => last.skipped = reason,
+    }
+    last
 }
 
 // The run with a seed that waits for its answer.
@@ -128,7 +199,7 @@ fn with_outcome(best: Best, number: usize, sensor: ScheimpflugParams, outcome: O
     )
 }
 
-// The waiting seed's outcome is entered: nothing waits, and the place moves on by one.
+// The waiting seed's outcome is entered: nothing waits, the place moves on by one, and the run keeps it as its last answer.
 pub fn entered(mut run: Run, outcome: Outcome) -> Run
     requires { ⌜ (run .place .at < 512) × (run .place .number ≤ 656) ⌝ }
     ensures { λ r. ⌜ r ≡ Rattle.search_record.specs.Record.entered run outcome ⌝ }
@@ -144,6 +215,12 @@ pub fn entered(mut run: Run, outcome: Outcome) -> Run
         run.place.number,
         run.waiting.seed.sensor,
         outcome,
+    );
+    run.last = last_answer(
+        run.place.number,
+        run.place.round,
+        run.waiting.seed,
+        recorded_as(outcome),
     );
     run.waiting = nobody();
     let at = run.place.at + 1;

@@ -13,6 +13,7 @@ use camera_models::math::Pt2;
 use search_record::run::Options;
 use search_record::run::Place;
 use search_record::run::Run;
+use search_record::run::no_answer;
 use search_record::run::nobody;
 use seed_rules::CandidateSeed;
 
@@ -212,6 +213,7 @@ fn opening(options: Options, center: Pt2, demand: usize, len: usize) -> Run
         waiting: nobody(),
         round_best: none,
         run_best: none,
+        last: no_answer(),
     }
 }
 

@@ -10,9 +10,12 @@ no-best-requires c κs = search needs
 nobody-requires : tie.Need-nobody-requires
 nobody-requires c κs = search needs
 
+no-answer-requires : tie.Need-no-answer-requires
+no-answer-requires c κs = search needs
+
 returns : tie.Need-returns
 unfolding openingOf
-returns c = rw (c .nobody .ensures, c .before .no-best .ensures)
+returns c = rw (c .no-answer .ensures, c .before .nobody .ensures, c .before .before .no-best .ensures)
 
 pub opening-spec : {M : Type 1} → statement M
-opening-spec = tie.close (tie.spec no-best-requires nobody-requires returns)
+opening-spec = tie.close (tie.spec no-best-requires nobody-requires no-answer-requires returns)

@@ -10,6 +10,12 @@ with-outcome-requires c κs = search needs
 with-outcome-requires-2 : tie.Need-with-outcome-requires-2
 with-outcome-requires-2 c κs = search needs
 
+recorded-as-requires : tie.Need-recorded-as-requires
+recorded-as-requires c κs = search needs
+
+last-answer-requires : tie.Need-last-answer-requires
+last-answer-requires c κs = search needs
+
 nobody-requires : tie.Need-nobody-requires
 nobody-requires c κs = search needs
 
@@ -21,7 +27,15 @@ add-number c = search needs
 
 returns : tie.Need-returns
 unfolding entered
-returns c = rw (c .before .before .before .before .nobody .ensures, c .before .before .before .before .before .with-outcome2 .ensures, c .before .before .before .before .before .before .with-outcome .ensures)
+returns c =
+    let b = c .before .before .before .before in
+    rw (
+      b .nobody .ensures,
+      b .before .last-answer .ensures,
+      b .before .before .recorded-as .ensures,
+      b .before .before .before .with-outcome2 .ensures,
+      b .before .before .before .before .with-outcome .ensures,
+    )
 
 pub entered-spec : {M : Type 1} → statement M
 entered-spec =
@@ -29,6 +43,8 @@ entered-spec =
     (tie.spec
     with-outcome-requires
     with-outcome-requires-2
+    recorded-as-requires
+    last-answer-requires
     nobody-requires
     add-at
     add-number
