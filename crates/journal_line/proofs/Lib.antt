@@ -1,0 +1,5 @@
+mod Bytes
+mod Found
+mod Fits
+mod Parts
+mod Stores

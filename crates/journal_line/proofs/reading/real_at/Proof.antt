@@ -1,0 +1,20 @@
+-- `journal_line::reading::real_at` meets its contract. Assumes nothing.
+use mathlib.Core.Path.{ap, _∙_}
+use lib.Ieee.{binary64, ofBits}
+use Rattle.journal_line.specs.Reading.{realAt}
+use borrow.Author.Needs.{needs}
+use Rattle.journal_line.proofs.reading.real_at.Statement.{statement}
+use Rattle.journal_line.proofs.reading.real_at.Tie as tie
+
+number-at-requires : tie.Need-number-at-requires
+number-at-requires c κs = search needs
+
+float-of-requires : tie.Need-float-of-requires
+float-of-requires c κs = search needs
+
+returns : tie.Need-returns
+unfolding realAt
+returns c = c .float-of .ensures ∙ ap (ofBits binary64) (c .before .number-at .ensures)
+
+pub real-at-spec : {M : Type 1} → statement M
+real-at-spec = tie.close (tie.spec number-at-requires float-of-requires returns)

@@ -1,0 +1,11 @@
+pub mod DigitLaws
+pub mod Examples
+pub mod FieldLaws
+pub mod Line
+pub mod Numbers
+pub mod Reading
+pub mod Steps
+pub mod Summary
+pub mod Unique
+pub mod Whole
+pub mod Writing

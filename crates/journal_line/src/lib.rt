@@ -1,0 +1,42 @@
+// The journal: one line for each answered candidate, written to a lent buffer and read back.
+pub mod reading;
+pub mod writing;
+
+use camera_models::intrinsics::FxFyCxCy;
+use seed_rules::CandidateSeed;
+
+// What a scored candidate's line records: its score, its mean error, and its camera.
+pub struct ScoredFields {
+    pub score: f64,
+    pub mean: f64,
+    pub k: FxFyCxCy,
+    pub p1: f64,
+    pub p2: f64,
+}
+
+// Scored, or skipped for reason 1 to 4.
+pub enum Recorded {
+    Scored(ScoredFields),
+    Skipped(u8),
+}
+
+// The line of one answered candidate.
+pub struct Line {
+    pub number: usize,
+    pub round: usize,
+    pub seed: CandidateSeed,
+    pub outcome: Recorded,
+}
+
+// What the writer gives: how many bytes the line has, or number 28.
+pub enum Written {
+    Length(usize),
+    Refused(u8),
+}
+
+// What reading at a place gives: a line with the place behind it, the end, or number 29 with the line's number, from 1.
+pub enum Read {
+    Got(Line, usize),
+    End,
+    Refused(u8, usize),
+}

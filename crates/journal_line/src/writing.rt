@@ -1,0 +1,197 @@
+// The writer: a line's bytes to the front of a lent buffer. Each part is stored from a place on, and says so.
+ghost use mathlib.Core.Path.{_≡_};
+ghost use mathlib.Core.List.{[], _∷_, _++_, map};
+ghost use Prim.Native.Nat.{_+_, _*_, _<_, _≤_};
+ghost use lib.ListN.{length, replicate};
+ghost use Rattle.seed_rules.specs.Layout.{six};
+ghost use Rattle.journal_line.specs.Line.{digitByte, digits, decimals, decimal, bitsOf, real, reasonByte, eight, restOfLine, outcomeFields, recordable, writable, LineFits};
+ghost use Rattle.journal_line.specs.Steps.{commaFields, Stored};
+ghost use Rattle.journal_line.specs.Writing.{Writes};
+use crate::Line;
+use crate::Recorded;
+use crate::ScoredFields;
+use crate::Written;
+use seed_rules::CandidateSeed;
+
+// The byte of a digit, lower case.
+fn digit_byte(d: u64) -> u8
+    requires { ⌜ d < 16 ⌝ }
+    ensures { λ r. ⌜ r ≡ digitByte d ⌝ }
+{
+    if d < 10 {
+        return 48 + d as u8;
+    }
+    87 + d as u8
+}
+
+// The last w digits of n to a base, from the highest down: stored from the lowest up.
+fn put_digits(out: &mut [u8], at: usize, base: u64, w: usize, n: u64)
+    requires { ⌜ (at + w ≤ length (now out)) × (0 < base) × (base ≤ 16) ⌝ }
+    ensures { λ _. ⌜ Stored (now (out .entry)) at (digits base w n) (now (out .exit)) ⌝ }
+{
+    let mut left = n;
+    let mut i = w;
+    while 0 < i {
+        i -= 1;
+        out[at + i] = digit_byte(left % base);
+        left = left / base;
+    }
+}
+
+fn put_byte(out: &mut [u8], at: usize, b: u8)
+    requires { ⌜ at < length (now out) ⌝ }
+    ensures { λ _. ⌜ Stored (now (out .entry)) at (b ∷ []) (now (out .exit)) ⌝ }
+{
+    out[at] = b;
+}
+
+fn decimals_of(n: usize) -> usize
+    ensures { λ r. ⌜ (r ≡ decimals n) × (r ≤ 3) ⌝ }
+{
+    if n < 10 {
+        return 1;
+    }
+    if n < 100 {
+        return 2;
+    }
+    3
+}
+
+// The bits of a float; any NaN has the one pattern.
+fn bits_of(x: f64) -> u64
+    ensures { λ r. ⌜ r ≡ bitsOf x ⌝ }
+{
+    if x != x {
+        return 0x7ff8_0000_0000_0000;
+    }
+    f64::to_bits(x)
+}
+
+// Reals, each behind a comma.
+fn put_reals(out: &mut [u8], at: usize, xs: &[f64])
+    requires { ⌜ at + 17 * length (now xs) ≤ length (now out) ⌝ }
+    ensures { λ _. ⌜ Stored (now (out .entry)) at (commaFields (map real (now (xs .entry)))) (now (out .exit)) ⌝ }
+{
+    let mut i = 0;
+    while i < xs.len() {
+        let place = at + 17 * i;
+        out[place] = 44;
+        put_digits(out, place + 1, 16, 16, bits_of(xs[i]));
+        i += 1;
+    }
+}
+
+// Eight minus signs, each behind a comma.
+fn put_minuses(out: &mut [u8], at: usize)
+    requires { ⌜ at + 16 ≤ length (now out) ⌝ }
+    ensures { λ _. ⌜ Stored (now (out .entry)) at (commaFields (replicate 8 (45 ∷ []))) (now (out .exit)) ⌝ }
+{
+    let mut i = 0;
+    while i < 8 {
+        let place = at + 2 * i;
+        out[place] = 44;
+        out[place + 1] = 45;
+        i += 1;
+    }
+}
+
+// The letter of a skip reason.
+fn reason_byte(r: u8) -> u8
+    ensures { λ b. ⌜ b ≡ reasonByte r ⌝ }
+{
+    if r <= 1 {
+        return 72;
+    }
+    if r <= 2 {
+        return 67;
+    }
+    if r <= 3 {
+        return 69;
+    }
+    78
+}
+
+fn six_numbers(s: CandidateSeed) -> [f64; 6]
+    ensures { λ r. ⌜ r ≡ six s ⌝ }
+{
+    let k = s.reference_k;
+    let t = s.sensor;
+    [k.fx, k.fy, k.cx, k.cy, t.tilt_x, t.tilt_y]
+}
+
+fn eight_numbers(r: ScoredFields) -> [f64; 8]
+    ensures { λ a. ⌜ a ≡ eight r ⌝ }
+{
+    let k = r.k;
+    [r.score, r.mean, k.fx, k.fy, k.cx, k.cy, r.p1, r.p2]
+}
+
+// The outcome's letter, what follows it, and the newline; gives the place behind.
+fn put_outcome(out: &mut [u8], at: usize, outcome: Recorded) -> usize
+    requires { ⌜ at + 139 ≤ length (now out) ⌝ }
+    ensures { λ r. ⌜ (r ≡ at + length (restOfLine (outcomeFields outcome))) × Stored (now (out .entry)) at (restOfLine (outcomeFields outcome)) (now (out .exit)) ⌝ }
+{
+    put_byte(out, at, 44);
+    match outcome {
+        Recorded::Scored(r) => {
+            put_byte(out, at + 1, 83);
+            let numbers = eight_numbers(r);
+            put_reals(out, at + 2, &numbers);
+            put_byte(out, at + 138, 10);
+            at + 139
+        }
+        Recorded::Skipped(reason) => {
+            put_byte(out, at + 1, reason_byte(reason));
+            put_minuses(out, at + 2);
+            put_byte(out, at + 18, 10);
+            at + 19
+        }
+    }
+}
+
+fn is_recordable(outcome: Recorded) -> bool
+    ensures { λ r. ⌜ r ≡ recordable outcome ⌝ }
+{
+    match outcome {
+        Recorded::Scored(r) => !(r.score != r.score),
+        Recorded::Skipped(reason) => (1 <= reason) & (reason <= 4),
+    }
+}
+
+fn is_writable(line: Line) -> bool
+    ensures { λ r. ⌜ r ≡ writable line ⌝ }
+{
+    let outcome = line.outcome;
+    (line.number <= 655) & ((line.round <= 16) & is_recordable(outcome))
+}
+
+// Number and round, parted by a comma; gives the place behind.
+fn put_head(out: &mut [u8], number: usize, round: usize) -> usize
+    requires { ⌜ 7 ≤ length (now out) ⌝ }
+    ensures { λ r. ⌜ (r ≡ decimals number + (decimals round + 1)) × Stored (now (out .entry)) 0 (decimal number ++ 44 ∷ decimal round) (now (out .exit)) × (r ≤ 7) ⌝ }
+{
+    let n = decimals_of(number);
+    put_digits(out, 0, 10, n, number as u64);
+    put_byte(out, n, 44);
+    let r = decimals_of(round);
+    put_digits(out, n + 1, 10, r, round as u64);
+    n + (r + 1)
+}
+
+// Writes the line to the front of the buffer, or refuses it and writes nothing. (That the line is sound is no demand: every line of a program is.)
+pub fn write_line(line: Line, out: &mut [u8]) -> Written
+    ensures { λ r. ⌜ Writes line (now (out .entry)) (now (out .exit)) r × LineFits line ⌝ }
+{
+    if out.len() < 256 {
+        return Written::Refused(28);
+    }
+    if !is_writable(line) {
+        return Written::Refused(28);
+    }
+    let at = put_head(out, line.number, line.round);
+    let seed = line.seed;
+    let numbers = six_numbers(seed);
+    put_reals(out, at, &numbers);
+    let outcome = line.outcome;
+    Written::Length(put_outcome(out, at + 102, outcome))
+}

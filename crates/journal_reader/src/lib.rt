@@ -1,0 +1,45 @@
+// A reader that keeps a journal's bytes and its place in them. The functions that take the struct are thin, and proved by walks by hand; the work is
+// `journal_line::reading::read_line`'s.
+
+ghost use mathlib.Core.Path.{_≡_};
+ghost use Rattle.journal_line.specs.Reading.{readLine};
+ghost use Rattle.journal_reader.specs.Advance.{Advanced};
+use journal_line::Read;
+use journal_line::reading;
+
+// A journal's bytes, and the place from which the next line is read.
+pub struct Reader<'a> {
+    pub bytes: &'a [u8],
+    pub at: usize,
+}
+
+pub fn new<'a>(bytes: &'a [u8]) -> Reader<'a>
+    ensures { λ r. ⌜ (r .bytes ≡ bytes .entry) × (r .at ≡ 0) ⌝ }
+{
+    Reader { bytes, at: 0 }
+}
+
+// What stands at the reader's place.
+pub fn next<'a>(r: Reader<'a>) -> Read
+    ensures { λ s. ⌜ s ≡ readLine (now (r .entry .bytes)) (r .entry .at) ⌝ }
+{
+    reading::read_line(r.bytes, r.at)
+}
+
+// A journal's first line.
+pub fn first(bytes: &[u8]) -> Read
+    ensures { λ r. ⌜ r ≡ readLine (now (bytes .entry)) 0 ⌝ }
+{
+    next(new(bytes))
+}
+
+// What stands at the reader's place; the reader moves behind a line, and stays at the end and at a line that is refused.
+pub fn advance<'s, 'a>(r: &'s mut Reader<'a>) -> Read
+    ensures { λ a. ⌜ Advanced (now (r .entry)) a (now (r .exit)) ⌝ }
+{
+    let at = r.at;
+    let answer = reading::read_line(r.bytes, at);
+    let next = reading::place_after(answer, at);
+    r.at = next;
+    answer
+}
