@@ -35,7 +35,7 @@ module _ (x : Float) (h : Fits x) where
   unfolding ofBits
   nan-back e = sym e
 
-  bits-back : ofBits binary64 (bitsOf x) ≡ x
+  pub bits-back : ofBits binary64 (bitsOf x) ≡ x
   bits-back = case (isNan x) (λ e. rw (bits-nan e) (nan-back (is-nan x e))) (λ e. rw (bits-of e) (ofBits-toBits binary64 x h))
 
   pub real-back : (s : List ℕ) → realAt (real x ++ s) ≡ x
