@@ -1,0 +1,4 @@
+pub mod Opening
+pub mod Standing
+pub mod Walk
+pub mod Kept
