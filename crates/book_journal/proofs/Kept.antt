@@ -58,7 +58,7 @@ unfolding atRest withWaiting
 rest-await b = refl
 
 -- ---- it holds at the start, and stays
-kept-opened : (i : Inputs) (n : ℕ) → NoneHolds (conditions i n) → Kept i (opened i)
+pub kept-opened : (i : Inputs) (n : ℕ) → NoneHolds (conditions i n) → Kept i (opened i)
 kept-opened i n h = record { good = opened-good i n h; trail = at-start i }
   where
     at-start : (i : Inputs) → Trail (opened i) (entries (opened i)) (atRest (opened i))

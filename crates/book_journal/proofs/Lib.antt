@@ -2,3 +2,8 @@ pub mod Opening
 pub mod Standing
 pub mod Walk
 pub mod Kept
+pub mod Held
+pub mod Again
+pub mod Beside
+pub mod Accepted
+pub mod Front

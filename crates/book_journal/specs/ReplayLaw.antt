@@ -25,7 +25,7 @@ pub record StartNumber (i : Inputs) (n : ℕ) : Type 0 where
   pub accepts : (startNumber i n ≡ 0) ↔ NoneHolds (conditions i n)
 
 -- ---- E2: the writer takes every line of a run, and the reader gives each of them back
-pub record Recorded (b : Book) : Type 0 where
+pub record LinesOfRun (b : Book) : Type 0 where
   pub lines-fit : All LineFits (linesOf b)
   pub lines-taken : All Writable (linesOf b)
   pub read-back : readJournal (journalOf b) ≡ record { lines = linesOf b; ending = ended }

@@ -1,0 +1,92 @@
+-- Whatever journal is accepted: its lines are all read, they are the book's entries, and the winner is of its S lines the earliest with the lowest score, with all
+-- properties of a result. Assumes nothing.
+use Prim.Native.Nat.{ℕ, suc}
+use native.Mathlib.Omega.{arith}
+use mathlib.Core.Path.{_≡_, refl, sym, ap, _∙_}
+use mathlib.Core.List.{List}
+use borrow.Author.Tests.{eqb-true}
+use lib.Dec.{eqb}
+use lib.ListN.{length}
+use lib.Ieee.{Float}
+use Rattle.common.specs.Tests.{case}
+use Rattle.score_best.specs.declared.Candidate.{Candidate}
+use Rattle.score_best.specs.Best.{chosen}
+use Rattle.journal_line.specs.Line.{journal}
+use Rattle.journal_line.specs.Reading.{Lines}
+use Rattle.journal_line.specs.Whole.{whole-lines}
+use Rattle.book.specs.Book.{Inputs, Book, entries, current, runBest}
+use Rattle.book.specs.Theorem.{Wins}
+use Rattle.book.proofs.Cases.{case-chosen}
+use Rattle.book.proofs.Good.{Good}
+use Rattle.book.proofs.Winner.{winner as best-wins}
+use Rattle.book_journal.specs.Replay.{startNumber, Stop, allTaken, notOfForm, notTheRun, Walked, walked, winner, unfinished, declined, declinedAt, standing, replyTo, replayOf}
+use Rattle.book_journal.specs.History.{InputsFit}
+use Rattle.book_journal.specs.ReplayLaw.{Accepted}
+use Rattle.book_journal.proofs.Opening.{start-number}
+use Rattle.book_journal.proofs.Kept.{kept-walked}
+use Rattle.book_journal.proofs.Beside.{same-as-reader}
+
+-- ---- the reply
+case-stop : (x : Stop) {P : Type 0} → (x ≡ allTaken → P) → (x ≡ notOfForm → P) → (x ≡ notTheRun → P) → P
+case-stop allTaken a b c = a refl
+case-stop notOfForm a b c = b refl
+case-stop notTheRun a b c = c refl
+
+never-at : (n k m : ℕ) (s : Float) → declinedAt n k ≡ winner m s → ⊥
+never-at n k m s h = let z : _≡_ {A = ℕ} 0 1 = cc in omega arith
+
+reply-taken : (w : Walked) (n : ℕ) (s : Float) → replyTo w ≡ winner n s → (w .stop ≡ allTaken) × (standing (w .book) ≡ winner n s)
+reply-taken w n s h =
+    case-stop (w .stop)
+    (λ e. (e, simp (replyTo, e) at h))
+    (λ e. absurd (never-at 29 (suc (w .taken)) n s (simp (replyTo, e) at h)))
+    (λ e. absurd (never-at 30 (suc (w .taken)) n s (simp (replyTo, e) at h)))
+
+record WonBy (b : Book) (n : ℕ) (s : Float) : Type 0 where
+  best : Candidate
+  chosen-is : runBest b ≡ chosen best
+  number-is : best .number ≡ n
+  score-is : best .score ≡ s
+
+stands-won : (b : Book) (n : ℕ) (s : Float) → standing b ≡ winner n s → WonBy b n s
+unfolding standing
+stands-won b n s h =
+    case (b .over)
+    (λ o.
+    case-chosen (runBest b)
+    (λ e. let q : declined 11 ≡ winner n s = simp (o, e) at h in let z : _≡_ {A = ℕ} 0 1 = cc in absurd (omega arith))
+    (λ w e. let q : winner (w .number) (w .score) ≡ winner n s = simp (o, e) at h in record { best = w; chosen-is = e; number-is = cc; score-is = cc }))
+    (λ o. let q : unfinished (current b) ≡ winner n s = simp o at h in let z : _≡_ {A = ℕ} 0 1 = cc in absurd (omega arith))
+
+reply-started : (i : Inputs) (l : List Float) (bs : List ℕ) (n : ℕ) (s : Float) → replayOf i l bs .reply ≡ winner n s → (startNumber i (length l) ≡ 0) × (replyTo (walked i l bs) ≡ winner n s)
+unfolding replayOf
+reply-started i l bs n s h =
+    let k = startNumber i (length l) in
+    case (eqb k 0)
+    (λ e. (eqb-true k 0 e, simp e at h))
+    (λ e. let q : declined k ≡ winner n s = simp e at h in let z : _≡_ {A = ℕ} 0 1 = cc in absurd (omega arith))
+
+-- ---- the book's best wins
+pub book-wins : (i : Inputs) (b : Book) (w : Candidate) → Good i b → runBest b ≡ chosen w → Wins i (entries b) w
+unfolding runBest
+book-wins i b w g e = rw (g .inputs-are) at (best-wins (b .inputs) (entries b) w (g .core .numbered) (g .core .proper) e)
+
+pub accepted : (i : Inputs) (l : List Float) (bs : List ℕ) → InputsFit i → (n : ℕ) (s : Float) → replayOf i l bs .reply ≡ winner n s → Accepted i l bs n s
+accepted i l bs f n s h =
+    let r = reply-started i l bs n s h in
+    let a = start-number i (length l) .accepts .0 (r .0) in
+    let b = walked i l bs .book in
+    let t = reply-taken (walked i l bs) n s (r .1) in
+    let w = stands-won b n s (t .1) in
+    let reading = same-as-reader i (length l) a f l bs .all-read (t .0) in
+    let ends = ap (λ (z : Lines). z .ending) reading in
+    let lines = ap (λ (z : Lines). z .lines) reading in
+    record {
+      best = w .best;
+      number-is = w .number-is;
+      score-is = w .score-is;
+      wins = book-wins i b (w .best) (kept-walked i (length l) a l bs .good) (w .chosen-is);
+      read-through = ends;
+      lines-are = sym lines;
+      bytes-are = whole-lines bs ends .bytes-are ∙ ap journal lines;
+    }
