@@ -7,3 +7,4 @@ pub mod Again
 pub mod Beside
 pub mod Accepted
 pub mod Front
+pub mod Buffer
