@@ -147,7 +147,7 @@ unfolding listAfter atRest
 after-rest b c l = refl
 
 module _ (i : Inputs) (l : List Float) where
-  abbrev along : Book → List Float
+  abbrev pub along : Book → List Float
   along b = listAlong (opened i) (written (firstList i) l) (entries b)
 
   abbrev Beside : Book → List Float → Type 0

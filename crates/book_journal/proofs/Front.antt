@@ -87,7 +87,7 @@ fronts b l n (m ∷ ms) x =
     (λ t. fronts-stop b l n m ms x t)
 
 -- ---- lists of lines and their bytes
-all-take : {A : Type 0} (P : A → Type 0) (n : ℕ) (xs : List A) → All P xs → All P (take n xs)
+pub all-take : {A : Type 0} (P : A → Type 0) (n : ℕ) (xs : List A) → All P xs → All P (take n xs)
 all-take P zero xs h = tt
 all-take P (suc n) [] h = tt
 all-take P (suc n) (x ∷ xs) h = (h .0, all-take P n xs (h .1))
@@ -108,7 +108,7 @@ front-bytes bs n =
     let e : journal ls ≡ journal (take n ls) ++ journal (drop n ls) = ap journal (sym (take-append-drop n ls)) ∙ journal-append (take n ls) (drop n ls) in
     (journal (drop n ls) ++ w .rest, w .bytes-are ∙ ap (λ (z : List ℕ). z ++ w .rest) e ∙ append-assoc (journal (take n ls)) (journal (drop n ls)) (w .rest))
 
-front-reads : (bs : List ℕ) (n : ℕ) → readJournal (journal (take n (readJournal bs .lines))) ≡ record { lines = take n (readJournal bs .lines); ending = ended }
+pub front-reads : (bs : List ℕ) (n : ℕ) → readJournal (journal (take n (readJournal bs .lines))) ≡ record { lines = take n (readJournal bs .lines); ending = ended }
 front-reads bs n =
     let w = whole-front bs in
     let ls = readJournal bs .lines in

@@ -8,3 +8,5 @@ pub mod Beside
 pub mod Accepted
 pub mod Front
 pub mod Buffer
+pub mod Cut
+pub mod GoingOn
