@@ -10,3 +10,5 @@ pub mod Front
 pub mod Buffer
 pub mod Cut
 pub mod GoingOn
+pub mod Counted
+pub mod Stretched

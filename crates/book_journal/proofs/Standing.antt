@@ -68,7 +68,7 @@ same-seed : (s t : CandidateSeed) → AllFit (six s) → AllFit (six t) → same
 same-seed s t f g h = ap (λ (l : List Float). seedAt l 0) (same-reals (six s) (six t) f g h)
 
 -- ---- what may be entered: its line gives it back, and can stand
-abbrev fieldsOf : Scoring → ScoredFields
+abbrev pub fieldsOf : Scoring → ScoredFields
 fieldsOf s = record { score = s .score; mean = s .mean; k = s .camera .k; p1 = s .camera .dist .p1; p2 = s .camera .dist .p2 }
 
 scoring-back : (s : Scoring) → s .camera .dist .k1 ≡ plusZero → s .camera .dist .k2 ≡ plusZero → s .camera .dist .k3 ≡ plusZero → scoringIn (fieldsOf s) ≡ s

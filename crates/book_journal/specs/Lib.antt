@@ -3,3 +3,5 @@ pub mod Replay
 pub mod History
 pub mod ReplayLaw
 pub mod Resume
+pub mod Counts
+pub mod Stretches

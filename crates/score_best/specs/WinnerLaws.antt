@@ -189,7 +189,7 @@ unfolding flatMap
 joined-append [] ts = refl
 joined-append (s ∷ ss) ts = rw (joined-append ss ts) (sym (append-assoc s (joined ss) (joined ts)))
 
-joined-twice : {A : Type 0} (gs : List (List (List A))) → joined (map joined gs) ≡ joined (joined gs)
+pub joined-twice : {A : Type 0} (gs : List (List (List A))) → joined (map joined gs) ≡ joined (joined gs)
 unfolding flatMap
 joined-twice {A = A} [] = refl
 joined-twice {A = A} (g ∷ gs) = ap (λ (z : List A). joined g ++ z) (joined-twice gs) ∙ sym (joined-append g (joined gs))
