@@ -52,12 +52,12 @@ closing-moved b = record { ends = λ k c r h. end-moved b c h; skips = λ k c w 
 enter-moved : (b : Book) (o : Outcome) → Moved b (bookEnter b o)
 enter-moved b o = enter-by (Moved b) b o (λ e. entry-moved b o) (λ e. close-by (closing-moved b) (withEntry b o .inputs .rounds - withEntry b o .round) (withEntry b o) (entry-moved b o))
 
-await-same : (b : Book) → (b .round ≡ withWaiting b .round) × (withWaiting b .list ≡ b .list)
+pub await-same : (b : Book) → (b .round ≡ withWaiting b .round) × (withWaiting b .list ≡ b .list)
 unfolding withWaiting
 await-same b = (refl, refl)
 
 -- ---- a round that stays writes nothing, and one that opens writes its list
-after-same : (b c : Book) (l : List Float) → b .round ≡ c .round → listAfter b c l ≡ l
+pub after-same : (b c : Book) (l : List Float) → b .round ≡ c .round → listAfter b c l ≡ l
 unfolding listAfter
 after-same b c l e = simp (eq-eqb (b .round) (c .round) e)
 

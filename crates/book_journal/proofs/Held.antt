@@ -167,7 +167,7 @@ finding-held Failed t center rows flags h = tt
 finding-held (Solved c) t center rows flags h = evaluated-held c t center rows flags h
 
 -- what a call enters
-no-entry : (b : Book) (o : Outcome) → [] ≡ entry b o ∷ [] → ⊥
+pub no-entry : (b : Book) (o : Outcome) → [] ≡ entry b o ∷ [] → ⊥
 no-entry b o e = let z : _≡_ {A = ℕ} 0 1 = cc in omega arith
 
 same-outcome : (b : Book) (o p : Outcome) → entry b o ∷ [] ≡ entry b p ∷ [] → o ≡ p

@@ -12,3 +12,4 @@ pub mod Cut
 pub mod GoingOn
 pub mod Counted
 pub mod Stretched
+pub mod Live

@@ -5,3 +5,4 @@ pub mod ReplayLaw
 pub mod Resume
 pub mod Counts
 pub mod Stretches
+pub mod Live
