@@ -5,7 +5,7 @@ use native.Mathlib.Omega.{arith}
 use mathlib.Core.Path.{_≡_, refl, sym, ap, _∙_}
 use mathlib.Core.Bool.{Bool, true, false, cond, true≢false}
 use mathlib.Core.List.{List, [], _∷_, _++_, map, map-append, append-assoc, append-nil}
-use borrow.Author.Tests.{le-ltb, eqb-true, eqb-false, eq-eqb}
+use borrow.Author.Tests.{eqb-true, eqb-false, eq-eqb, ne-eqb}
 use lib.Dec.{eqb}
 use lib.ListN.{length, take, drop, length-append, length-take, length-map, take-append-drop}
 use lib.Seq.{take-append-seam, drop-append-seam, take-at, drop-at}
@@ -26,16 +26,17 @@ use Rattle.book.specs.Conditions.{NoneHolds, conditions}
 use Rattle.book.proofs.Moves.{entry, enter-holds, grows, enteredBy, Moves, moves, after-by}
 use Rattle.book.proofs.Good.{Good, waits-going}
 use Rattle.book_journal.specs.Lines.{lineOf, linesOf, journalOf}
-use Rattle.book_journal.specs.Replay.{follows, Stop, allTaken, notOfForm, notTheRun, Walked, stopAt, walked}
+use Rattle.book_journal.specs.Replay.{startNumber, follows, Stop, allTaken, notOfForm, notTheRun, Walked, stopAt, walked}
 use Rattle.book_journal.specs.History.{openedBy, History, bookAt, listAt, InputsFit, CallFits, atRest, enteredIn}
 use Rattle.book_journal.specs.ReplayLaw.{keptBytes}
-use Rattle.book_journal.specs.Resume.{EndedBy, byNothing, byMissingNewline, by29, by30, isCutLine, stoppedBy, keptOf, restOf, reportOn, report, AddsUp, NoneWaits, KeptIsJournal, EndsRightly, cutJournal, CutAt, cutRun, again, uncut, goingOn, GoesOn, GoesOnSomewhere, EntersOn, JournalGrows}
+use Rattle.book_journal.specs.Resume.{EndedBy, byNothing, byMissingNewline, by29, by30, Report, isCutLine, stoppedBy, keptOf, restOf, reportOn, Resumed, resumed, notResumed, resumeOf, ResumeRefuses, ResumeAccepts, GivesBack, CutAt}
+use Rattle.book_journal.proofs.Opening.{start-number, none-refused}
 use Rattle.book_journal.proofs.Walk.{walkEnd, walked-keeps}
 use Rattle.book_journal.proofs.Kept.{Trail, Kept, trail-entered, rest-same, kept-opening, kept-steps, kept-at, grown}
 use Rattle.book_journal.proofs.Again.{listAlong, Sound, sound-at, lines-right, walk-whole}
 use Rattle.book_journal.proofs.Beside.{same-as-reader}
 use Rattle.book_journal.proofs.Front.{all-take, front-bytes, front-reads, front-alone}
-use Rattle.book_journal.proofs.Buffer.{history-along}
+use Rattle.book_journal.proofs.Buffer.{walked-buffer}
 
 -- ---- what ended it, by cases
 nothing-of : (x : Bool) (s : Stop) → cond x byMissingNewline (stoppedBy s) ≡ byNothing → s ≡ allTaken
@@ -95,27 +96,27 @@ module _ (i : Inputs) (l : List Float) (bs : List ℕ) where
       let g = front-bytes bs (walk .taken) in
       g .1 ∙ ap (λ (z : List ℕ). keptOf bs walk ++ z) (sym (ap (drop (length (keptOf bs walk))) (g .1) ∙ drop-append-seam (keptOf bs walk) (g .0)))
 
-  pub adds-up : AddsUp i l bs
+  adds-up : reportOn bs walk .kept + reportOn bs walk .dropped ≡ length bs
   unfolding reportOn
   adds-up = sym (length-append (keptOf bs walk) (restOf bs walk)) ∙ sym (ap length kept-and-rest)
 
-  pub none-waits : NoneWaits i l bs
+  pub none-waits : walk .book .waits ≡ false
   none-waits = walked-keeps (λ b k. b .waits ≡ false) (λ b k m ok can h t. enter-holds b _ .1) i l bs opened-waits
     where
       opened-waits : opened i .waits ≡ false
       opened-waits = unfold opened in refl
 
-  module _ (n : ℕ) (a : NoneHolds (conditions i n)) (f : InputsFit i) where
+  module _ (a : NoneHolds (conditions i (length l))) (f : InputsFit i) where
     -- all the lines that were taken are those of the book
     taken-lines : take (walk .taken) (readJournal bs .lines) ≡ linesOf (walk .book)
     taken-lines =
         let alone = front-alone i l bs in
-        let r = same-as-reader i n a f l (keptBytes i l bs) in
+        let r = same-as-reader i (length l) a f l (keptBytes i l bs) in
         let e = r .all-read (alone .is-walked) in
         let own : readJournal (keptBytes i l bs) .lines ≡ linesOf (walk .book) = ap (λ (z : Lines). z .lines) e ∙ ap linesOf (alone .same-book) in
         sym (ap (λ (z : Lines). z .lines) (front-reads bs (walk .taken))) ∙ own
 
-    pub kept-journal : KeptIsJournal i l bs
+    kept-journal : take (reportOn bs walk .kept) bs ≡ journalOf (walk .book)
     unfolding reportOn
     kept-journal = ap (take (length (keptOf bs walk))) kept-and-rest ∙ take-append-seam (keptOf bs walk) (restOf bs walk) ∙ ap journal taken-lines
 
@@ -128,13 +129,13 @@ module _ (i : Inputs) (l : List Float) (bs : List ℕ) where
 
     nothing-behind : walk .stop ≡ allTaken → restOf bs walk ≡ []
     nothing-behind e =
-        let r = same-as-reader i n a f l bs .all-read e in
+        let r = same-as-reader i (length l) a f l bs .all-read e in
         let w = whole-lines bs (ap (λ (z : Lines). z .ending) r) in
         rest-is [] (w .bytes-are ∙ ap (λ (z : Lines). journal (z .lines)) r ∙ sym (append-nil (journal (linesOf (walk .book)))))
 
     no-line-behind : walk .stop ≡ notOfForm → (restOf bs walk ≡ [] → ⊥) × NoLine (restOf bs walk)
     no-line-behind e =
-        let r = same-as-reader i n a f l bs .not-read e in
+        let r = same-as-reader i (length l) a f l bs .not-read e in
         let w = whole-front bs in
         let q : restOf bs walk ≡ w .rest = rest-is (w .rest) (w .bytes-are ∙ ap (λ (z : Lines). journal (z .lines) ++ w .rest) r) in
         rw q (w .before-end (suc (walk .taken)) (ap (λ (z : Lines). z .ending) r), whole-rest bs)
@@ -142,7 +143,7 @@ module _ (i : Inputs) (l : List Float) (bs : List ℕ) where
     other-line-behind : walk .stop ≡ notTheRun → (m : Line) × (tail : List ℕ) × LineFits m × Writable m × (restOf bs walk ≡ lineBytes m ++ tail) × (follows (walk .book) m ≡ false)
     unfolding journal
     other-line-behind e =
-        let r = same-as-reader i n a f l bs .not-following e in
+        let r = same-as-reader i (length l) a f l bs .not-following e in
         let m = r .0 in
         let ms = r .1 in
         let ls = linesOf (walk .book) in
@@ -158,17 +159,51 @@ module _ (i : Inputs) (l : List Float) (bs : List ℕ) where
         let can = all-right Writable ls (m ∷ ms) (rw (r .2) at (w .can-be-written)) in
         (m, journal ms ++ w .rest, ok .0, can .0, q, r .3)
 
-    pub ends-rightly : EndsRightly i l bs
+    walked-back : GivesBack i l bs (walk .book) (walk .list) (reportOn bs walk)
     unfolding reportOn
-    ends-rightly =
+    walked-back =
         let x = isCutLine (restOf bs walk) in
         let s = walk .stop in
         record {
+          none-waits = none-waits;
+          buffer = walked-buffer i l bs a;
+          lines-are = same-as-reader i (length l) a f l bs .taken-is;
+          kept-journal = kept-journal;
+          is-longest = front-alone i l bs .is-longest;
+          adds-up = adds-up;
           nothing-left = λ e. nothing-behind (nothing-of x s e);
           newline-missing = λ e. cut-line-is (restOf bs walk) (newline-of x s e);
           not-of-form = λ e. let p = form-of x s e in let q = no-line-behind (p .1) in (some-newline (restOf bs walk) (q .0) (p .0), q .1);
           not-the-run = λ e. other-line-behind (run-of x s e);
         }
+
+-- ---- the reply
+module _ (i : Inputs) (l : List Float) (bs : List ℕ) where
+  pub resume-refuses : ResumeRefuses i l bs
+  unfolding resumeOf
+  resume-refuses n h = simp (start-number i (length l) .refuses n .1 h, ne-eqb (suc n) 0 (λ q. omega arith))
+
+  pub resume-accepts : ResumeAccepts i l bs
+  unfolding resumeOf
+  resume-accepts h = simp (none-refused i (length l) h)
+
+  resumed-started : (b : Book) (m : List Float) (r : Report) → resumeOf i l bs ≡ resumed b m r → NoneHolds (conditions i (length l))
+  unfolding resumeOf
+  resumed-started b m r h =
+      let n = startNumber i (length l) in
+      case (eqb n 0)
+      (λ e. start-number i (length l) .accepts .0 (eqb-true n 0 e))
+      (λ e. let q : notResumed n l ≡ resumed b m r = simp e at h in let z : _≡_ {A = ℕ} 0 1 = cc in absurd (omega arith))
+
+  resumed-same : (b c : Book) (m k : List Float) (r q : Report) → resumed b m r ≡ resumed c k q → (b ≡ c) × (m ≡ k) × (r ≡ q)
+  resumed-same b c m k r q h = (cc, cc, cc)
+
+  pub gives-back : InputsFit i → (b : Book) (m : List Float) (r : Report) → resumeOf i l bs ≡ resumed b m r → GivesBack i l bs b m r
+  gives-back f b m r h =
+      let a = resumed-started b m r h in
+      let w = walked i l bs in
+      let e = resumed-same (w .book) b (w .list) m (reportOn bs w) r (sym (resume-accepts a) ∙ h) in
+      rw (e .2, e .0, e .1) at (walked-back i l bs a f)
 
 -- ---- the front of a trail, and its entries
 trail-front : (b c : Book) (n : ℕ) (es : List Entry) → Trail b es c → Trail b (take n es) (enteredIn b (take n es))

@@ -12,9 +12,9 @@ use Rattle.common.specs.Each.{All}
 use Rattle.seed_rules.specs.Layout.{written}
 use Rattle.journal_line.specs.declared.Line.{Line}
 use Rattle.journal_line.specs.Line.{lineBytes, journal}
-use Rattle.journal_line.specs.Reading.{ended, Lines, readJournal}
+use Rattle.journal_line.specs.Reading.{lineNumber, ended, readJournal}
 use Rattle.journal_line.specs.Whole.{whole-reading, whole-lines}
-use Rattle.journal_line.specs.Fronts.{whole-front, front-read-first, journal-append}
+use Rattle.journal_line.specs.Fronts.{whole-front, front-read-first, line-number, journal-append}
 use Rattle.book.specs.Book.{Inputs, Book, firstList, opened, bookEnter}
 use Rattle.book_journal.specs.Replay.{outcomeIn, follows, Stop, allTaken, notTheRun, Walked, listAfter, walkFrom, stopAt, walked}
 use Rattle.book_journal.specs.ReplayLaw.{keptBytes, FrontAlone}
@@ -144,8 +144,12 @@ front-alone i l bs =
       same-book = ap (λ (w : Walked). w .book) e;
       same-list = ap (λ (w : Walked). w .list) e;
       same-taken = ap (λ (w : Walked). w .taken) e;
+      next-number = ap (λ (z : List ℕ). lineNumber z (length kept)) (g .1) ∙ line-number (take n ls) (g .0) ∙ ap suc (taken-length (f .few) t);
     }
   where
+    taken-length : {c : ℕ} → c ≤ length (readJournal bs .lines) → c ≡ walked i l bs .taken → length (take (walked i l bs .taken) (readJournal bs .lines)) ≡ walked i l bs .taken
+    taken-length h e = omega (arith, length-take (walked i l bs .taken) (readJournal bs .lines))
+
     longer : (at : ℕ) → at ≤ length bs → walked i l (take at bs) .stop ≡ allTaken → at ≤ length (keptBytes i l bs)
     longer at h q = unfold walked in
         let o = opened i in

@@ -13,3 +13,4 @@ pub mod GoingOn
 pub mod Counted
 pub mod Stretched
 pub mod Live
+pub mod Theorem

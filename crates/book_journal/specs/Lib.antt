@@ -6,3 +6,4 @@ pub mod Resume
 pub mod Counts
 pub mod Stretches
 pub mod Live
+pub mod Theorem

@@ -1,7 +1,7 @@
 -- 02, E2 and E5: what holds of the journal of a run and of running a journal again, as types. proofs/ proves them. Definitions only.
 use Prim.Native.Nat.{ℕ, suc, _*_, _≤_}
 use mathlib.Core.Path.{_≡_}
-use mathlib.Core.Logic.{_↔_}
+use mathlib.Core.Logic.{_↔_, _⊎_}
 use mathlib.Core.Bool.{false}
 use mathlib.Core.List.{List, [], _∷_, _++_}
 use lib.ListN.{length, take, drop}
@@ -11,12 +11,12 @@ use Rattle.seed_rules.specs.Layout.{flat}
 use Rattle.score_best.specs.declared.Candidate.{Candidate}
 use Rattle.journal_line.specs.declared.Line.{Line}
 use Rattle.journal_line.specs.Line.{LineFits, Writable, journal}
-use Rattle.journal_line.specs.Reading.{ended, refused, readJournal}
+use Rattle.journal_line.specs.Reading.{lineNumber, ended, refused, readJournal}
 use Rattle.book.specs.Book.{Inputs, demand, Book, entries, number}
 use Rattle.book.specs.Conditions.{FirstHolds, NoneHolds, conditions}
 use Rattle.book.specs.Theorem.{Wins}
 use Rattle.book_journal.specs.Lines.{linesOf, journalOf}
-use Rattle.book_journal.specs.Replay.{startNumber, follows, allTaken, notOfForm, notTheRun, walked, winner, standing, replayOf}
+use Rattle.book_journal.specs.Replay.{startNumber, follows, allTaken, notOfForm, notTheRun, walked, winner, declined, declinedAt, standing, replayOf}
 use Rattle.book_journal.specs.History.{History, bookAt, listAt, atRest}
 
 -- ---- Start's own refusals come first: the number is that of the first condition that holds, 0 where none does
@@ -68,6 +68,19 @@ pub record SameAsReader (i : Inputs) (l : List Float) (bs : List ℕ) : Type 0 w
   pub not-following : walked i l bs .stop ≡ notTheRun
       → (m : Line) × (ms : List Line) × (readJournal bs .lines ≡ linesOf (walked i l bs .book) ++ m ∷ ms) × (follows (walked i l bs .book) m ≡ false)
 
+-- ---- A line that can't be walked: 29 just where the reader refuses it, with the reader's number; 30 where it is read and can't follow the book of those before. The
+-- number is that of the line, from 1.
+pub record Declines (i : Inputs) (l : List Float) (bs : List ℕ) : Type 0 where
+  pub at-29 : (k : ℕ) → replayOf i l bs .reply ≡ declinedAt 29 k → readJournal bs .ending ≡ refused k
+  pub at-30 : (k : ℕ) → replayOf i l bs .reply ≡ declinedAt 30 k
+      → (m : Line) × (ms : List Line) × (readJournal bs .lines ≡ linesOf (walked i l bs .book) ++ m ∷ ms) × (follows (walked i l bs .book) m ≡ false)
+      × (k ≡ suc (length (linesOf (walked i l bs .book))))
+  pub no-others : (n k : ℕ) → replayOf i l bs .reply ≡ declinedAt n k → (n ≡ 29) ⊎ (n ≡ 30)
+
+-- Start's own refusals come before any line, and leave the buffer as it was lent.
+abbrev pub StartRefuses : Inputs → List Float → List ℕ → Type 0
+StartRefuses i l bs = (n : ℕ) → FirstHolds (conditions i (length l)) (suc n) → replayOf i l bs ≡ record { reply = declined (suc n); list = l }
+
 -- ---- What the walk keeps of a journal: the longest front that is walked without 29 and 30. With it alone the walk comes to the same book and the same buffer, so
 -- after 29 or 30 the seed buffer is as the lines before left it.
 module _ (i : Inputs) (l : List Float) (bs : List ℕ) where
@@ -82,3 +95,5 @@ module _ (i : Inputs) (l : List Float) (bs : List ℕ) where
     pub same-book : walked i l keptBytes .book ≡ walked i l bs .book
     pub same-list : walked i l keptBytes .list ≡ walked i l bs .list
     pub same-taken : walked i l keptBytes .taken ≡ walked i l bs .taken
+    -- the number that 29 and 30 carry is that of the line behind it
+    pub next-number : lineNumber bs (length keptBytes) ≡ suc (walked i l bs .taken)

@@ -1,5 +1,5 @@
 -- 02, E13: going on from a journal that stops anywhere: the front that is kept, what ended it, and that the run goes on as if it had not stopped. Definitions only.
-use Prim.Native.Nat.{ℕ, _+_, _≤_}
+use Prim.Native.Nat.{ℕ, suc, _+_, _≤_}
 use mathlib.Core.Path.{_≡_}
 use mathlib.Core.Bool.{Bool, false, cond}
 use mathlib.Core.List.{List, [], _∷_, _++_}
@@ -12,9 +12,11 @@ use Rattle.journal_line.specs.Reading.{newlines, readJournal}
 use Rattle.journal_line.specs.Fronts.{NoLine}
 use Rattle.book.specs.Calls.{Call, next}
 use Rattle.book.specs.Book.{Inputs, demand, Book, entries, number, opened, replies, after}
+use Rattle.book.specs.Conditions.{FirstHolds, NoneHolds, conditions}
 use Rattle.book_journal.specs.Lines.{linesOf, journalOf}
 use Rattle.book_journal.specs.Replay.{startNumber, follows, Stop, allTaken, notOfForm, notTheRun, Walked, walked}
 use Rattle.book_journal.specs.History.{from, openedBy, History, bookAt, listAt, atRest, enteredIn}
+use Rattle.book_journal.specs.ReplayLaw.{BufferOf}
 
 -- ---- what ended the kept front
 pub data EndedBy : Type 0 where
@@ -67,38 +69,37 @@ resumeOf i l bs =
     let w = walked i l bs in
     cond (eqb n 0) (resumed (w .book) (w .list) (reportOn bs w)) (notResumed n l)
 
--- ---- what a report says
-module _ (i : Inputs) (l : List Float) (bs : List ℕ) where
-  abbrev pub report : Report
-  report = reportOn bs (walked i l bs)
+-- Start's own refusals come first, and leave the buffer as it was lent; all else is accepted
+abbrev pub ResumeRefuses : Inputs → List Float → List ℕ → Type 0
+ResumeRefuses i l bs = (n : ℕ) → FirstHolds (conditions i (length l)) (suc n) → resumeOf i l bs ≡ notResumed (suc n) l
 
-  abbrev pub rest : List ℕ
-  rest = restOf bs (walked i l bs)
+abbrev pub ResumeAccepts : Inputs → List Float → List ℕ → Type 0
+ResumeAccepts i l bs = NoneHolds (conditions i (length l)) → resumeOf i l bs ≡ resumed (walked i l bs .book) (walked i l bs .list) (reportOn bs (walked i l bs))
 
+-- ---- what holds of the run b, the buffer m and the report r that are given back for the bytes bs
+pub record GivesBack (i : Inputs) (l : List Float) (bs : List ℕ) (b : Book) (m : List Float) (r : Report) : Type 0 where
+  -- no seed waits, and the buffer holds the run's list
+  pub none-waits : b .waits ≡ false
+  pub buffer : BufferOf i l b m
+  -- the kept bytes are the run's journal, and no longer front is walked without 29 and 30
+  pub lines-are : r .lines ≡ number b
+  pub kept-journal : take (r .kept) bs ≡ journalOf b
+  pub is-longest : (at : ℕ) → at ≤ length bs → walked i l (take at bs) .stop ≡ allTaken → at ≤ r .kept
   -- kept and dropped bytes add up to the file's length
-  abbrev pub AddsUp : Type 0
-  AddsUp = report .kept + report .dropped ≡ length bs
-
-  -- no seed waits in the run that is given back
-  abbrev pub NoneWaits : Type 0
-  NoneWaits = walked i l bs .book .waits ≡ false
-
-  -- the kept bytes are the journal of the run that is given back
-  abbrev pub KeptIsJournal : Type 0
-  KeptIsJournal = take (report .kept) bs ≡ journalOf (walked i l bs .book)
-
-  -- each ending says what stands behind the kept lines: nothing; no newline; a newline, but no line of the form; a line that can't follow
-  pub record EndsRightly : Type 0 where
-    pub nothing-left : report .ended-by ≡ byNothing → rest ≡ []
-    pub newline-missing : report .ended-by ≡ byMissingNewline → (rest ≡ [] → ⊥) × (newlines rest ≡ 0)
-    pub not-of-form : report .ended-by ≡ by29 → (1 ≤ newlines rest) × NoLine rest
-    pub not-the-run : report .ended-by ≡ by30
-        → (m : Line) × (tail : List ℕ) × LineFits m × Writable m × (rest ≡ lineBytes m ++ tail) × (follows (walked i l bs .book) m ≡ false)
+  pub adds-up : r .kept + r .dropped ≡ length bs
+  -- each ending says what stands behind the kept bytes: nothing; no newline; a newline, but no line of the form; a line that can't follow
+  pub nothing-left : r .ended-by ≡ byNothing → drop (r .kept) bs ≡ []
+  pub newline-missing : r .ended-by ≡ byMissingNewline → (drop (r .kept) bs ≡ [] → ⊥) × (newlines (drop (r .kept) bs) ≡ 0)
+  pub not-of-form : r .ended-by ≡ by29 → (1 ≤ newlines (drop (r .kept) bs)) × NoLine (drop (r .kept) bs)
+  pub not-the-run : r .ended-by ≡ by30 → (n : Line) × (tail : List ℕ) × LineFits n × Writable n × (drop (r .kept) bs ≡ lineBytes n ++ tail) × (follows b n ≡ false)
 
 -- ---- The journal of a run, cut after any byte, loses only the line that the cut fell in, and none where it fell after a newline.
 module _ (i : Inputs) (h : History i) (at : ℕ) where
   abbrev pub cutJournal : List ℕ
   cutJournal = take at (journalOf (bookAt h))
+
+  abbrev pub report : List Float → Report
+  report l = reportOn cutJournal (walked i l cutJournal)
 
   pub record CutAt (l : List Float) : Type 0 where
     -- how many whole lines stand before the cut, and what is left of the one that it fell in
@@ -108,11 +109,11 @@ module _ (i : Inputs) (h : History i) (at : ℕ) where
     pub no-newline : newlines part ≡ 0
     pub after-newline : (s : List ℕ) → cutJournal ≡ s ++ 10 ∷ [] → part ≡ []
     -- they are kept, and only the part is dropped
-    pub kept-lines : report i l cutJournal .lines ≡ lines
-    pub kept-bytes : report i l cutJournal .kept ≡ length (journal (take lines (linesOf (bookAt h))))
-    pub dropped-part : report i l cutJournal .dropped ≡ length part
-    pub by-nothing : part ≡ [] → report i l cutJournal .ended-by ≡ byNothing
-    pub by-newline : (part ≡ [] → ⊥) → report i l cutJournal .ended-by ≡ byMissingNewline
+    pub kept-lines : report l .lines ≡ lines
+    pub kept-bytes : report l .kept ≡ length (journal (take lines (linesOf (bookAt h))))
+    pub dropped-part : report l .dropped ≡ length part
+    pub by-nothing : part ≡ [] → report l .ended-by ≡ byNothing
+    pub by-newline : (part ≡ [] → ⊥) → report l .ended-by ≡ byMissingNewline
     -- the book is that of as many answers
     pub book-is : walked i l cutJournal .book ≡ enteredIn (opened i) (take lines (entries (bookAt h)))
 
