@@ -7,3 +7,4 @@ pub mod Counts
 pub mod Stretches
 pub mod Live
 pub mod Theorem
+pub mod Worked
