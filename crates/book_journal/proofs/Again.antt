@@ -6,7 +6,7 @@ use mathlib.Core.Bool.{true, false, not}
 use mathlib.Core.List.{List, [], _∷_, _++_, map, append-nil}
 use borrow.Author.Tests.{le-leb}
 use lib.ListN.{length, length-append}
-use lib.Ieee.{Float, isNan}
+use lib.Ieee.{Float}
 use Rattle.common.specs.Each.{All}
 use Rattle.camera_tilt.specs.declared.sensor.ScheimpflugParams.{ScheimpflugParams}
 use Rattle.seed_rules.specs.Layout.{written}
@@ -14,15 +14,14 @@ use Rattle.score_outcome.specs.declared.Outcome.{Outcome}
 use Rattle.score_outcome.specs.declared.Outcome.the-variants.{Skipped, Scored}
 use Rattle.journal_line.specs.declared.Line.{Line}
 use Rattle.journal_line.specs.Line.{recordable, writable, Writable, LineFits}
-use Rattle.journal_line.specs.Reading.{ended, readJournal}
 use Rattle.journal_line.specs.Whole.{whole-reading}
 use Rattle.book.specs.Book.{Inputs, Entry, Book, entries, number, current, runBest, firstList, opened, bookEnter}
 use Rattle.book.specs.Conditions.{NoneHolds, conditions}
 use Rattle.book.proofs.Moves.{entry, Stands}
 use Rattle.book.proofs.Good.{Good, steps}
 use Rattle.book_journal.specs.Lines.{recordedOf, lineOf, linesOf, journalOf}
-use Rattle.book_journal.specs.Replay.{outcomeIn, follows, Stop, allTaken, Walked, listAfter, walkFrom, walked, standing, replayOf}
-use Rattle.book_journal.specs.History.{History, bookAt, InputsFit, CallFits, atRest, enteredIn}
+use Rattle.book_journal.specs.Replay.{follows, Stop, allTaken, listAfter, walkFrom, walked, standing, replayOf}
+use Rattle.book_journal.specs.History.{History, bookAt, InputsFit, CallFits, atRest}
 use Rattle.book_journal.specs.ReplayLaw.{LinesOfRun}
 use Rattle.book_journal.proofs.Opening.{opened-good, none-refused}
 use Rattle.book_journal.proofs.Standing.{comes-back, entry-follows}

@@ -1,6 +1,6 @@
 -- The seed buffer beside a book: the book's list stands in front, and what no list can reach stays as it was; and a journal's walk leaves the buffer as the run
 -- left it, whose journal it is. Assumes nothing.
-use Prim.Native.Nat.{ℕ, suc, _+_, _-_, _*_, _≤_, _<_}
+use Prim.Native.Nat.{ℕ, _+_, _-_, _*_, _≤_, _<_}
 use native.Mathlib.Omega.{arith}
 use mathlib.Core.Path.{_≡_, refl, sym, ap, _∙_}
 use mathlib.Core.Logic.{_⊎_, inl, inr, ⊎-elim}
@@ -20,8 +20,7 @@ use Rattle.book.specs.Book.{Inputs, demand, Entry, Book, entries, current, firs
 use Rattle.book.specs.Conditions.{NoneHolds, conditions}
 use Rattle.book.proofs.Moves.{entry, Stands, Closing, close-by, enter-by, enter-holds as enter-place, await-holds as await-place, Moves, stays, hands, enters, moves, call-by}
 use Rattle.book.proofs.Good.{Good, waits-going}
-use Rattle.book_journal.specs.Lines.{journalOf}
-use Rattle.book_journal.specs.Replay.{outcomeIn, listAfter, Walked, walked, replayOf}
+use Rattle.book_journal.specs.Replay.{outcomeIn, listAfter, Walked, walked}
 use Rattle.book_journal.specs.History.{Opening, fresh, from, openedBy, History, bookAt, InputsFit, CallFits, atRest, openedList, listUnder, listAt}
 use Rattle.book_journal.specs.ReplayLaw.{RunAgain, BufferOf}
 use Rattle.book_journal.proofs.Opening.{room-enough}

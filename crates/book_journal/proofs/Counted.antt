@@ -15,7 +15,7 @@ use Rattle.score_outcome.specs.declared.Outcome.the-variants.{Skipped, Scored}
 use Rattle.score_outcome.specs.Evaluation.{findingRefusal, outcomeOf}
 use Rattle.journal_line.specs.declared.Line.{Line}
 use Rattle.journal_line.specs.Reading.{Lines}
-use Rattle.book.specs.Calls.{Call, next, seed, answer, ask, Reply, candidate, over, part, scored, skipped, result, refused}
+use Rattle.book.specs.Calls.{Call, next, seed, answer, ask, Reply, candidate, over, refused}
 use Rattle.book.specs.Book.{Inputs, demand, Entry, Book, entries, number, current, runBest, opened, withWaiting, bookEnter, Kept as Answer, bookNext, bookSeed, bookAnswer, bookResult, bookCall, replyTo, replies, after}
 use Rattle.book.proofs.Cases.{case-chosen}
 use Rattle.book.proofs.Moves.{entry, Stands, enter-holds, await-holds}

@@ -4,11 +4,11 @@ use Prim.Native.Nat.{ℕ, zero, suc, _+_, _≤_}
 use native.Mathlib.Omega.{arith}
 use mathlib.Core.Path.{_≡_, refl, sym, ap, _∙_}
 use mathlib.Core.Bool.{Bool, true, false, cond, true≢false}
-use mathlib.Core.List.{List, [], _∷_, _++_, map, map-append, append-assoc, append-nil}
+use mathlib.Core.List.{List, [], _∷_, _++_, map, append-assoc, append-nil}
 use borrow.Author.Tests.{eqb-true, eqb-false, eq-eqb, ne-eqb}
 use lib.Dec.{eqb}
-use lib.ListN.{length, take, drop, length-append, length-take, length-map, take-append-drop}
-use lib.Seq.{take-append-seam, drop-append-seam, take-at, drop-at}
+use lib.ListN.{length, take, drop, length-append, length-take, length-map}
+use lib.Seq.{take-append-seam, drop-append-seam}
 use lib.Ieee.{Float}
 use Rattle.common.specs.Tests.{case}
 use Rattle.common.specs.All.{all-right}
@@ -16,23 +16,21 @@ use Rattle.common.specs.Each.{All}
 use Rattle.seed_rules.specs.Layout.{written}
 use Rattle.journal_line.specs.declared.Line.{Line}
 use Rattle.journal_line.specs.Line.{lineBytes, LineFits, Writable, journal}
-use Rattle.journal_line.specs.Reading.{newlines, Ending, ended, refused, unread, Lines, readJournal}
+use Rattle.journal_line.specs.Reading.{newlines, Lines, readJournal}
 use Rattle.journal_line.specs.Numbers.{newlines-append}
 use Rattle.journal_line.specs.Whole.{whole-lines}
-use Rattle.journal_line.specs.Fronts.{NoLine, whole-front, whole-rest, front-read, front-ended, front-refused, cut-no-line, Cut, cut-journal, journal-append}
-use Rattle.book.specs.Calls.{Call, next}
-use Rattle.book.specs.Book.{Inputs, demand, Entry, Book, entries, number, firstList, opened, withWaiting, bookEnter, bookNext, bookCall, replies, after}
+use Rattle.journal_line.specs.Fronts.{NoLine, whole-front, whole-rest, front-read, front-ended, cut-no-line, Cut, cut-journal, journal-append}
+use Rattle.book.specs.Book.{Inputs, Entry, Book, entries, firstList, opened, bookEnter}
 use Rattle.book.specs.Conditions.{NoneHolds, conditions}
-use Rattle.book.proofs.Moves.{entry, enter-holds, grows, enteredBy, Moves, moves, after-by}
-use Rattle.book.proofs.Good.{Good, waits-going}
+use Rattle.book.proofs.Moves.{entry, enter-holds}
 use Rattle.book_journal.specs.Lines.{lineOf, linesOf, journalOf}
 use Rattle.book_journal.specs.Replay.{startNumber, follows, Stop, allTaken, notOfForm, notTheRun, Walked, stopAt, walked}
-use Rattle.book_journal.specs.History.{openedBy, History, bookAt, listAt, InputsFit, CallFits, atRest, enteredIn}
+use Rattle.book_journal.specs.History.{History, bookAt, InputsFit, CallFits, atRest, enteredIn}
 use Rattle.book_journal.specs.ReplayLaw.{keptBytes}
-use Rattle.book_journal.specs.Resume.{EndedBy, byNothing, byMissingNewline, by29, by30, Report, isCutLine, stoppedBy, keptOf, restOf, reportOn, Resumed, resumed, notResumed, resumeOf, ResumeRefuses, ResumeAccepts, GivesBack, CutAt}
+use Rattle.book_journal.specs.Resume.{byNothing, byMissingNewline, by29, by30, Report, isCutLine, stoppedBy, keptOf, restOf, reportOn, resumed, notResumed, resumeOf, ResumeRefuses, ResumeAccepts, GivesBack, CutAt}
 use Rattle.book_journal.proofs.Opening.{start-number, none-refused}
 use Rattle.book_journal.proofs.Walk.{walkEnd, walked-keeps}
-use Rattle.book_journal.proofs.Kept.{Trail, Kept, trail-entered, rest-same, kept-opening, kept-steps, kept-at, grown}
+use Rattle.book_journal.proofs.Kept.{Trail}
 use Rattle.book_journal.proofs.Again.{listAlong, Sound, sound-at, lines-right, walk-whole}
 use Rattle.book_journal.proofs.Beside.{same-as-reader}
 use Rattle.book_journal.proofs.Front.{all-take, front-bytes, front-reads, front-alone}

@@ -1,9 +1,9 @@
 -- What the walk keeps of a journal is walked alone, to the same book and buffer, and is the longest such front. Assumes nothing.
 use Prim.Native.Nat.{ℕ, zero, suc, _+_, _≤_}
 use native.Mathlib.Omega.{arith}
-use mathlib.Core.Path.{_≡_, refl, sym, ap, _∙_}
+use mathlib.Core.Path.{_≡_, sym, ap, _∙_}
 use mathlib.Core.Bool.{true, false}
-use mathlib.Core.List.{List, [], _∷_, _++_, append-assoc, append-nil}
+use mathlib.Core.List.{List, [], _∷_, _++_, append-assoc}
 use lib.ListN.{length, take, drop, length-append, length-take, take-append-drop}
 use lib.Seq.{take-append-seam}
 use lib.Ieee.{Float}
@@ -16,7 +16,7 @@ use Rattle.journal_line.specs.Reading.{lineNumber, ended, readJournal}
 use Rattle.journal_line.specs.Whole.{whole-reading, whole-lines}
 use Rattle.journal_line.specs.Fronts.{whole-front, front-read-first, line-number, journal-append}
 use Rattle.book.specs.Book.{Inputs, Book, firstList, opened, bookEnter}
-use Rattle.book_journal.specs.Replay.{outcomeIn, follows, Stop, allTaken, notTheRun, Walked, listAfter, walkFrom, stopAt, walked}
+use Rattle.book_journal.specs.Replay.{outcomeIn, follows, Stop, allTaken, Walked, listAfter, walkFrom, stopAt, walked}
 use Rattle.book_journal.specs.ReplayLaw.{keptBytes, FrontAlone}
 use Rattle.book_journal.proofs.Walk.{walkEnd, walk-end, walk-on, walk-stop}
 use Rattle.book_journal.proofs.Beside.{all-taken-ended, not-run-taken}

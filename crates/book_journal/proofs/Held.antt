@@ -3,7 +3,7 @@ use Prim.Native.Nat.{ℕ, zero, suc, _-_, _/_}
 use native.Mathlib.Omega.{arith}
 use mathlib.Core.Path.{_≡_, ap}
 use mathlib.Core.Logic.{⊎-elim}
-use mathlib.Core.Bool.{true, false, not, _&&_, cond}
+use mathlib.Core.Bool.{false, not, _&&_, cond}
 use mathlib.Core.List.{List, [], _∷_, _++_, append-nil, List·Memᴰ, List·Memᴰ·not-nil, List·Memᴰ·cases-cons}
 use lib.Dec.{ltb, eqb}
 use lib.IntN.{pos}
@@ -21,7 +21,7 @@ use Rattle.camera_models.specs.declared.math.Pt2.{Pt2}
 use Rattle.camera_models.specs.declared.intrinsics.FxFyCxCy.{FxFyCxCy}
 use Rattle.camera_tilt.specs.declared.sensor.ScheimpflugParams.{ScheimpflugParams}
 use Rattle.seed_rules.specs.declared.CandidateSeed.{CandidateSeed}
-use Rattle.seed_rules.specs.Rules.{tilts, seedWith, offsets}
+use Rattle.seed_rules.specs.Rules.{tilts, seedWith}
 use Rattle.seed_rules.specs.Layout.{readFrom, six, seedAt, allSeeds}
 use Rattle.seed_rules.specs.Facts.{initial-all, next-all}
 use Rattle.score_camera.specs.declared.pinhole.PinholeCamera.{PinholeCamera}
@@ -32,21 +32,21 @@ use Rattle.score_outcome.specs.declared.SolvedCamera.{SolvedCamera}
 use Rattle.score_outcome.specs.declared.Finding.{Finding}
 use Rattle.score_outcome.specs.declared.Finding.the-variants.{Failed, Solved}
 use Rattle.score_outcome.specs.declared.Outcome.{Outcome}
-use Rattle.score_outcome.specs.declared.Outcome.the-variants.{Skipped, Scored}
+use Rattle.score_outcome.specs.declared.Outcome.the-variants.{Scored}
 use Rattle.score_outcome.specs.Evaluation.{solvedAt, meanWith, scoringOf, evaluated, outcomeOf, findingRefusal}
 use Rattle.score_outcome.specs.Outcomes.{invalid-skips, infinite-skips, nan-skips, number-scores}
 use Rattle.score_best.specs.declared.Candidate.{Candidate}
 use Rattle.score_best.specs.Best.{Chosen, nothing, chosen, bestOf}
 use Rattle.score_best.specs.Order.{found-leads}
 use Rattle.journal_line.specs.declared.Line.{Line}
-use Rattle.journal_line.specs.Line.{Fits, recorded, LineFits, Writable}
+use Rattle.journal_line.specs.Line.{Fits, recorded, LineFits}
 use Rattle.book.specs.Calls.{Call, next, seed, answer, ask}
-use Rattle.book.specs.Book.{Inputs, demand, Entry, Book, entries, noSeed, current, scoredOf, roundBest, runBest, orElse, stepOf, firstList, listAround, opened, withWaiting, withEntry, withRound, withEnd, bookEnter, Kept, bookCall, after}
+use Rattle.book.specs.Book.{Inputs, demand, Entry, Book, entries, noSeed, current, scoredOf, roundBest, runBest, orElse, firstList, listAround, opened, withWaiting, withEntry, withRound, withEnd, bookEnter, Kept, bookCall, after}
 use Rattle.book.proofs.Cases.{case-outcome}
 use Rattle.book.proofs.Moves.{entry, Closing, close-by, enter-by, enteredBy, Moves, stays, hands, enters, moves}
 use Rattle.book.proofs.Good.{Good, all-at}
 use Rattle.book_journal.specs.Lines.{recordedOf}
-use Rattle.book_journal.specs.Replay.{outcomeIn, follows, walked}
+use Rattle.book_journal.specs.Replay.{outcomeIn, walked}
 use Rattle.book_journal.specs.History.{Opening, fresh, from, openedBy, History, bookAt, AllFit, four, InputsFit, FindingFits, CallFits}
 use Rattle.book_journal.proofs.Standing.{score-fits, recorded-back}
 use Rattle.book_journal.proofs.Walk.{walked-keeps}

@@ -33,12 +33,6 @@ unfolding enteredIn
 trail-entered b c [] t = t
 trail-entered b c (e ∷ es) t = trail-entered (bookEnter b (e .outcome)) c es (t .3)
 
--- what is kept where outcomes are entered holds along it
-pub trail-keeps : (P : Book → Type 0) → ((b : Book) (o : Outcome) → b .over ≡ false → Stands (b .inputs) (current b .sensor) o → P b → P (bookEnter b o))
-    → (b c : Book) (es : List Entry) → Trail b es c → P b → P c
-trail-keeps P f b c [] t h = rw t at h
-trail-keeps P f b c (e ∷ es) t h = trail-keeps P f (bookEnter b (e .outcome)) c es (t .3) (f b (e .outcome) (t .0) (t .2) h)
-
 -- ---- the invariant
 pub record Kept (i : Inputs) (b : Book) : Type 0 where
   pub good : Good i b

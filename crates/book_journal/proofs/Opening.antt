@@ -1,12 +1,11 @@
 -- Start's own refusals by number, and what an accepted Start's book has. Assumes nothing.
 use Prim.Native.Nat.{ℕ, suc, _≤_}
 use native.Mathlib.Omega.{arith}
-use mathlib.Core.Path.{_≡_, refl, sym, _∙_}
+use mathlib.Core.Path.{_≡_}
 use mathlib.Core.List.{List}
 use borrow.Author.Tests.{ltb-true, ltb-false}
 use lib.Dec.{ltb}
 use lib.ListN.{length, replicate, length-replicate}
-use lib.Ieee.{Float}
 use Rattle.common.specs.Tests.{case}
 use Rattle.common.specs.Refusal.{Check}
 use Rattle.float.specs.Literals.{plusZero}

@@ -1,6 +1,5 @@
 -- An outcome that may be entered can stand as a recorded line, and its line gives it back; a line that is read and follows a book is that of the entry which it
 -- makes. Assumes nothing.
-use Prim.Native.Nat.{ℕ, _≤_}
 use mathlib.Core.Path.{_≡_, refl, sym, ap, _∙_}
 use mathlib.Core.Bool.{Bool, true, false, not, _&&_, true≢false}
 use mathlib.Core.List.{List, [], _∷_}
@@ -9,7 +8,6 @@ use lib.Dec.{eqb, leb}
 use lib.Ieee.{Float, binary64, ofBits, lt, isNan}
 use lib.Ieee.Fits.{add-fits}
 use Rattle.common.specs.Tests.{both-true}
-use Rattle.common.specs.Each.{All}
 use Rattle.float.specs.Binary64.{_+₆₄_}
 use Rattle.float.specs.Float.{isFinite}
 use Rattle.float.specs.Literals.{plusZero}

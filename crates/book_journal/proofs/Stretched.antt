@@ -25,7 +25,7 @@ use Rattle.book_journal.proofs.Kept.{kept-at}
 use Rattle.book_journal.proofs.Again.{sound-at, lines-right}
 
 pub groups : Groups
-groups = record { unit-left = law.none-first; unit-right = law.none-second; associative = law.associative; of-any = law.winner-fold }
+groups = record { unit-left = law.none-first; unit-right = law.none-second; associative = law.associative; of-list = law.best-fold; of-any = law.winner-fold; as-records = law.held-winner }
 
 -- ---- of any list whose elements in a row have their candidates in a row
 module _ {A : Type 0} (scored : List A → List Candidate) (none : scored [] ≡ []) (in-a-row : (xs ys : List A) → scored (xs ++ ys) ≡ scored xs ++ scored ys) where

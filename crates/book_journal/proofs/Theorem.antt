@@ -1,5 +1,4 @@
 -- Journals over the plain book: all of `specs/Theorem.antt`. Assumes nothing.
-use Rattle.book.specs.Book.{Inputs}
 use Rattle.book_journal.specs.History.{bookAt}
 use Rattle.book_journal.specs.Theorem.{JournalsRight}
 use Rattle.book_journal.proofs.Opening.{start-number}
@@ -36,6 +35,7 @@ journals-right = record {
   goes-on = λ i h f at cs ds. going.goes-on i h (f .inputs-fit) (f .calls-fit) at cs ds;
   goes-on-somewhere = λ i h f at. going.goes-on-somewhere i h (f .inputs-fit) (f .calls-fit) at;
   enters-on = λ i h f at. going.enters-on i h (f .inputs-fit) (f .calls-fit) at;
+  continues = live.resumed-continues;
   journal-grows = going.journal-grows;
   counts-agree = counting.counts-agree;
   in-journal = λ i h f. counting.in-journal i h (f .inputs-fit) (f .calls-fit);

@@ -1,10 +1,8 @@
 -- The walk of a journal's lines, one at a time: where it goes on, what it keeps, and that the seed buffer decides nothing. Assumes nothing.
-use Prim.Native.Nat.{ℕ, zero, suc, _+_, _≤_}
-use native.Mathlib.Omega.{arith}
-use mathlib.Core.Path.{_≡_, refl, sym, ap, _∙_}
+use Prim.Native.Nat.{ℕ, suc}
+use mathlib.Core.Path.{_≡_, refl}
 use mathlib.Core.Bool.{true, false}
-use mathlib.Core.List.{List, [], _∷_, _++_}
-use lib.ListN.{length, take}
+use mathlib.Core.List.{List, [], _∷_}
 use lib.Ieee.{Float}
 use Rattle.common.specs.Tests.{case}
 use Rattle.common.specs.Each.{All}
@@ -14,7 +12,7 @@ use Rattle.journal_line.specs.Line.{LineFits, Writable}
 use Rattle.journal_line.specs.Reading.{readJournal}
 use Rattle.journal_line.specs.Fronts.{whole-front}
 use Rattle.book.specs.Book.{Inputs, Book, firstList, opened, bookEnter}
-use Rattle.book_journal.specs.Replay.{outcomeIn, follows, Stop, allTaken, notTheRun, Walked, listAfter, walkFrom, stopAt, walked}
+use Rattle.book_journal.specs.Replay.{outcomeIn, follows, Stop, notTheRun, Walked, listAfter, walkFrom, stopAt, walked}
 
 abbrev pub walkEnd : Book → List Float → ℕ → Stop → Walked
 walkEnd b l n e = record { book = b; list = l; taken = n; stop = e }

@@ -3,7 +3,7 @@ use Prim.Native.Nat.{ℕ, suc, _*_, _≤_}
 use mathlib.Core.Path.{_≡_}
 use mathlib.Core.Logic.{_↔_, _⊎_}
 use mathlib.Core.Bool.{false}
-use mathlib.Core.List.{List, [], _∷_, _++_}
+use mathlib.Core.List.{List, _∷_, _++_}
 use lib.ListN.{length, take, drop}
 use lib.Ieee.{Float}
 use Rattle.common.specs.Each.{All}
@@ -16,7 +16,7 @@ use Rattle.book.specs.Book.{Inputs, demand, Book, entries, number}
 use Rattle.book.specs.Conditions.{FirstHolds, NoneHolds, conditions}
 use Rattle.book.specs.Theorem.{Wins}
 use Rattle.book_journal.specs.Lines.{linesOf, journalOf}
-use Rattle.book_journal.specs.Replay.{startNumber, follows, allTaken, notOfForm, notTheRun, walked, winner, declined, declinedAt, standing, replayOf}
+use Rattle.book_journal.specs.Replay.{startNumber, follows, allTaken, notOfForm, notTheRun, walked, declined, declinedAt, standing, replayOf}
 use Rattle.book_journal.specs.History.{History, bookAt, listAt, atRest}
 
 -- ---- Start's own refusals come first: the number is that of the first condition that holds, 0 where none does

@@ -3,8 +3,8 @@ use mathlib.Core.Path.{_≡_}
 use mathlib.Core.List.{List, [], _∷_, map, foldr}
 use Rattle.common.specs.Each.{All}
 use Rattle.score_best.specs.declared.Candidate.{Candidate}
-use Rattle.score_best.specs.Best.{Chosen, nothing, bestOf, candidateOf}
-use Rattle.score_best.specs.Winners.{winnerOfTwo, winnerOf, joined}
+use Rattle.score_best.specs.Best.{Chosen, nothing, bestOf, held, candidateOf}
+use Rattle.score_best.specs.Winners.{winnerOfTwo, winnerOfBests, winnerOf, joined}
 use Rattle.score_best.specs.WinnerLaws.{IsNumber}
 use Rattle.journal_line.specs.declared.Recorded.the-variants as line
 use Rattle.journal_line.specs.declared.Line.{Line}
@@ -25,12 +25,15 @@ scoredIn (l ∷ ls) = elim (l .outcome) [ line.Skipped reason ↦ scoredIn ls | 
 abbrev pub lineWinner : List Line → Chosen
 lineWinner ls = bestOf (scoredIn ls)
 
--- ---- with none as its unit the winner of two groups as one likes, and is the winner of any number of winners
+-- ---- with none as its unit the winner of two groups as one likes; the best of a list is its fold over the candidates, and the winner of any number of winners its
+-- fold over them; records hold it as it is
 pub record Groups : Type 0 where
   pub unit-left : (c : Chosen) → winnerOfTwo nothing c ≡ c
   pub unit-right : (c : Chosen) → winnerOfTwo c nothing ≡ c
   pub associative : (a b c : Chosen) → winnerOfTwo (winnerOfTwo a b) c ≡ winnerOfTwo a (winnerOfTwo b c)
+  pub of-list : (ws : List Candidate) → bestOf ws ≡ foldr winnerOfTwo nothing (map (λ w. bestOf (w ∷ [])) ws)
   pub of-any : (cs : List Chosen) → All IsNumber cs → winnerOf cs ≡ foldr winnerOfTwo nothing cs
+  pub as-records : (a b : Chosen) → winnerOfBests (held a) (held b) ≡ held (winnerOfTwo a b)
 
 -- ---- Take each stretch's winner, in order, then the winner of those: it is the run's winner, ties included, and grouping the stretches differently changes
 -- nothing. So it is of any book: however it was opened, whatever its inputs, and whether or not its run is over.

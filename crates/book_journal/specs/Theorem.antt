@@ -9,13 +9,14 @@ use Rattle.search_record.specs.declared.run.Run.{Run}
 use Rattle.book.specs.Calls.{Call}
 use Rattle.book.specs.Book.{Inputs, Book, number}
 use Rattle.book.specs.Conditions.{NoneHolds, conditions}
+use Rattle.book.proofs.RunOf.{runOf}
 use Rattle.book_journal.specs.Replay.{walked, winner, replayOf}
 use Rattle.book_journal.specs.History.{openedBy, History, bookAt, listAt, InputsFit, CallFits}
 use Rattle.book_journal.specs.ReplayLaw.{StartNumber, LinesOfRun, RunAgain, BufferOf, Accepted, SameAsReader, Declines, StartRefuses, FrontAlone}
 use Rattle.book_journal.specs.Resume.{Report, resumed, resumeOf, ResumeRefuses, ResumeAccepts, GivesBack, CutAt, cutRun, uncut, GoesOn, GoesOnSomewhere, EntersOn, JournalGrows}
 use Rattle.book_journal.specs.Counts.{CountsAgree, InJournal}
 use Rattle.book_journal.specs.Stretches.{Groups, StretchesRight, LineStretchesRight}
-use Rattle.book_journal.specs.Live.{LiveBuffer}
+use Rattle.book_journal.specs.Live.{LiveBuffer, Continues}
 
 -- a history whose numbers are binary64's, as all of a program are
 pub record Fitting (i : Inputs) (h : History i) : Type 0 where
@@ -46,6 +47,8 @@ pub record JournalsRight : Type 0 where
   pub goes-on : (i : Inputs) (h : History i) → Fitting i h → (at : ℕ) (cs ds : List Call) → h .calls ≡ cs ++ ds → number (uncut i h at cs ds) ≡ number (cutRun i h at) → GoesOn i h at cs ds
   pub goes-on-somewhere : (i : Inputs) (h : History i) → Fitting i h → (at : ℕ) → number (openedBy i (h .opening)) ≤ number (cutRun i h at) → GoesOnSomewhere i h at
   pub enters-on : (i : Inputs) (h : History i) → Fitting i h → (at : ℕ) → EntersOn i h at
+  -- the run that goes with that book, and the buffer, answer every list of calls as demand 3 says
+  pub continues : (i : Inputs) (l : List Float) (bs : List ℕ) → NoneHolds (conditions i (length l)) → (cs : List Call) → Continues i (walked i l bs .book) (runOf (walked i l bs .book)) (walked i l bs .list) cs
   pub journal-grows : (i : Inputs) (h : History i) → JournalGrows h
   -- ---- E6
   pub counts-agree : (i : Inputs) (h : History i) → CountsAgree i h

@@ -1,9 +1,8 @@
 -- A run of two candidates and its journal, worked out: what replay and Resume say of it, whole, damaged and cut. Proved by computing. Assumes nothing.
 use Prim.Native.Nat.{ℕ}
 use mathlib.Core.Path.{_≡_, refl}
-use mathlib.Core.Bool.{false}
 use mathlib.Core.List.{List, [], _∷_, _++_}
-use lib.ListN.{length, take, replicate}
+use lib.ListN.{take, replicate}
 use lib.Ieee.{Float, binary64, ofBits, toBits, ofFields, ofInt, add, sub, mul, div, neg, lt, le, eq, isNan, sum, round, units, odd, size, span, climb}
 use Rattle.common.specs.Each.{every}
 use Rattle.float.specs.Float.{absOf, isFinite, minOf, maxOf}
@@ -16,7 +15,6 @@ use Rattle.score_camera.specs.Camera.{finiteIntrinsics, finiteDistortion, valid
 use Rattle.score_camera.specs.Penalties.{distortionPenalty, tiltPenalty, centrePenalty, scoreOf}
 use Rattle.score_best.specs.Best.{beats, unbeaten, firstUnbeaten, bestOf}
 use Rattle.search_start.specs.Start.{goodSeed, tooMany, demandOf}
-use Rattle.journal_line.specs.declared.Recorded.{Recorded}
 use Rattle.journal_line.specs.declared.Recorded.the-variants as line
 use Rattle.journal_line.specs.declared.Line.{Line}
 use Rattle.journal_line.specs.Line.{digitByte, digits, decimals, decimal, bitsOf, real, reasonByte, outcomeFields, restOfLine, lineBytes, recordable, writable, journal}

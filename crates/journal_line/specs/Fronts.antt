@@ -16,7 +16,7 @@ use Rattle.journal_line.specs.declared.Read.the-variants.{Got, End, Refu
 use Rattle.journal_line.specs.Line.{lineBytes, LineFits, Writable, journal}
 use Rattle.journal_line.specs.Reading.{newlines, lineNumber, readLine, Ending, ended, refused, unread, Lines, goesOn, readAll, readJournal}
 use Rattle.journal_line.specs.Unique.{Correct, read-correct, line-bounds, line-injective}
-use Rattle.journal_line.specs.Numbers.{newlines-append, line-newlines, cut-line, whole-numbered}
+use Rattle.journal_line.specs.Numbers.{newlines-append, line-newlines, cut-line}
 use Rattle.journal_line.specs.Whole.{whole-stops}
 
 -- no line that the writer takes begins here
@@ -139,14 +139,6 @@ module _ (ls : List Line) (rest : List ℕ) (ok : All LineFits ls) (can : All Wr
         by-ending : (x : Ending) → readJournal (journal ls ++ rest) .ending ≡ x → x ≡ ended
         by-ending ended h = refl
         by-ending (refused k) h = absurd (whole-front (journal ls ++ rest) .before-end k h (alone .1 ∙ e))
-        by-ending unread h = absurd (whole-stops (journal ls ++ rest) h)
-
-    pub front-refused : (rest ≡ [] → ⊥) → readJournal (journal ls ++ rest) .ending ≡ refused (suc (length ls))
-    front-refused n = by-ending (readJournal (journal ls ++ rest) .ending) refl
-      where
-        by-ending : (x : Ending) → readJournal (journal ls ++ rest) .ending ≡ x → x ≡ refused (suc (length ls))
-        by-ending ended h = absurd (n (sym (alone .1) ∙ whole-front (journal ls ++ rest) .at-end h))
-        by-ending (refused k) h = ap refused (whole-numbered (journal ls ++ rest) k h ∙ ap (λ (z : List Line). suc (length z)) (alone .0))
         by-ending unread h = absurd (whole-stops (journal ls ++ rest) h)
 
 -- ---- a journal that was cut off

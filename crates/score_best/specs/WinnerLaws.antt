@@ -1,16 +1,15 @@
 -- The winner of two groups as one likes, with none as its unit; the best of a list is that of the winners of its parts, wherever it is cut, ties included. No score
 -- need be a number for it. Assumes nothing.
 use mathlib.Core.Path.{_≡_, refl, sym, ap, _∙_}
-use mathlib.Core.Logic.{inl, inr, ⊎-elim}
-use mathlib.Core.Bool.{Bool, true, false, cond, true≢false}
+use mathlib.Core.Logic.{⊎-elim}
+use mathlib.Core.Bool.{true, false, true≢false}
 use mathlib.Core.List.{List, [], _∷_, _++_, map, foldr, flatMap, append-assoc}
-use lib.Ieee.{isNan}
 use Rattle.common.specs.All.{all-append, all-map}
 use Rattle.common.specs.Each.{All}
 use Rattle.common.specs.Tests.{case}
 use Rattle.score_best.specs.declared.Candidate.{Candidate}
 use Rattle.score_best.specs.declared.Best.{Best}
-use Rattle.score_best.specs.Best.{isNumber, beats, Chosen, nothing, chosen, firstUnbeaten, bestOf, noBest, found, held, isBetter}
+use Rattle.score_best.specs.Best.{beats, Chosen, nothing, chosen, firstUnbeaten, bestOf, noBest, found, held, isBetter}
 use Rattle.score_best.specs.Order.{Sound, Lost, nan-never-beats, number-beats-nan, asym, cotrans, Leads, best-leads, best-none, led, lead-first}
 use Rattle.score_best.specs.Winners.{winnerOfTwo, winnerOfBests, present, winnerOf, joined}
 
