@@ -24,7 +24,7 @@ use Rattle.journal_line.specs.declared.ScoredFields.{ScoredFields}
 use Rattle.journal_line.specs.declared.Recorded.{Recorded}
 use Rattle.journal_line.specs.declared.Recorded.the-variants as line
 use Rattle.journal_line.specs.declared.Line.{Line}
-use Rattle.journal_line.specs.Line.{bitsOf}
+use Rattle.float.specs.Float.{bitsOf}
 use Rattle.journal_line.specs.Reading.{Ending, ended, refused, unread, readJournal}
 use Rattle.book.specs.Book.{Inputs, Book, number, current, runBest, firstList, opened, bookEnter}
 use Rattle.book.specs.Theorem.{optionsOf}

@@ -1,6 +1,7 @@
--- Rust's `abs`, `is_finite`, `min`, `max` and `clamp`, and the sign, on the values of IEEE 754. Definitions only.
+-- Rust's `abs`, `is_finite`, `min`, `max`, `clamp` and `to_bits`, and the sign, on the values of IEEE 754. Definitions only.
+use Prim.Native.Nat.{ℕ}
 use mathlib.Core.Bool.{Bool, true, false, cond}
-use lib.Ieee.{Float, nan, inf, fin, lt, isNan}
+use lib.Ieee.{Float, nan, inf, fin, binary64, lt, isNan, toBits}
 
 -- the value with its sign cleared
 unfoldable pub absOf : Float → Float
@@ -31,3 +32,7 @@ maxOf x y = cond (isNan x) y (cond (lt x y) y x)
 -- The nearer end where x lies outside; NaN lies nowhere, and stays.
 unfoldable pub clampOf : Float → Float → Float → Float
 clampOf x low high = cond (lt x low) low (cond (lt high x) high x)
+
+-- The 64 bits of binary64; any NaN has the bits 7ff8000000000000.
+unfoldable pub bitsOf : Float → ℕ
+bitsOf x = cond (isNan x) 0x7ff8_0000_0000_0000 (toBits binary64 x)

@@ -3,6 +3,7 @@ pub mod Float
 pub mod Zero
 pub mod Order
 pub mod Nan
+pub mod Bits
 pub mod Sign
 pub mod Finite
 pub mod Binary64

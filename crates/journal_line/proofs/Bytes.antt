@@ -1,18 +1,18 @@
 -- What the parser's loops read. Assumes nothing.
-use Prim.Native.Nat.{ℕ, zero, suc, _+_, _*_, _^_, _-_, _<_, _≤_}
+use Prim.Native.Nat.{ℕ, suc, _+_, _*_, _^_, _-_, _<_, _≤_}
 use mathlib.Core.Path.{_≡_, refl, sym, ap, _∙_}
-use mathlib.Core.Bool.{Bool, true, false, cond}
+use mathlib.Core.Bool.{Bool, true, false, cond, _&&_, and-true, and-false, and-assoc}
 use mathlib.Core.List.{List, [], _∷_, _++_, append-nil}
 use native.Mathlib.Numerals.{add-one}
 use native.Mathlib.Nat.{mul-le-mul-right, pow-le-pow-right}
 use native.Mathlib.Omega.{arith}
 use borrow.Author.Tests.{eq-eqb, ne-eqb}
 use lib.Dec.{eqb}
-use lib.ListN.{length, getD, take, drop, set, length-set, drop-of-length-le}
+use lib.ListN.{length, getD, take, drop, set, drop-of-length-le}
 use lib.Seq.{drop-cons, drop-drop, getD-drop, take-suc-set, take-all, append-snoc}
 use lib.Ieee.{Float}
 use Rattle.journal_line.specs.Reading.{digitOf, numberAt, realAt, reals, begins, newlines}
-use Rattle.journal_line.specs.DigitLaws.{number-below, digit-below}
+use Rattle.journal_line.specs.DigitLaws.{number-below}
 
 -- ---- numbers
 -- what is read so far leaves room for a digit more
@@ -29,28 +29,23 @@ unfolding numberAt
 number-turn base i at s n d b e f g = rw (add-one, getD-drop, e, g, f)
 
 -- ---- comparing
-pub begins-turn : (w s : List ℕ) (i : ℕ) → i < length w → i < length s → getD w i 0 ≡ getD s i 0 → begins (drop i w) (drop i s) ≡ begins w s
-    → begins (drop (i + 1) w) (drop (i + 1) s) ≡ begins w s
+pub begins-short : (w s : List ℕ) → length s < length w → begins w s ≡ false
 unfolding begins
-begins-turn w s i h k e f =
-    let g : begins (drop i w) (drop i s) ≡ begins (drop (suc i) w) (drop (suc i) s) = rw (drop-cons w i 0 h, drop-cons s i 0 k, eq-eqb (getD w i 0) (getD s i 0) e) in
-    rw add-one (sym g ∙ f)
+begins-short [] s h = absurd (omega arith)
+begins-short (c ∷ w) [] h = refl
+begins-short (c ∷ w) (d ∷ s) h = rw (begins-short w s (omega arith)) (and-false (eqb c d))
 
-pub begins-not : (w s : List ℕ) (i : ℕ) → i < length w → i < length s → (getD w i 0 ≡ getD s i 0 → ⊥) → begins (drop i w) (drop i s) ≡ begins w s → false ≡ begins w s
+-- so far the bytes are the same or not, and the rest is still to be compared
+pub begins-turn : (w s : List ℕ) (i : ℕ) (same : Bool) → i < length w → i < length s → (same && begins (drop i w) (drop i s)) ≡ begins w s
+    → ((same && eqb (getD w i 0) (getD s i 0)) && begins (drop (i + 1) w) (drop (i + 1) s)) ≡ begins w s
 unfolding begins
-begins-not w s i h k e f =
-    let g : begins (drop i w) (drop i s) ≡ false = rw (drop-cons w i 0 h, drop-cons s i 0 k, ne-eqb (getD w i 0) (getD s i 0) e) in
-    sym g ∙ f
+begins-turn w s i same h k f =
+    let g : (same && (eqb (getD w i 0) (getD s i 0) && begins (drop (suc i) w) (drop (suc i) s))) ≡ begins w s = rw (drop-cons w i 0 h, drop-cons s i 0 k) at f in
+    rw add-one (and-assoc same (eqb (getD w i 0) (getD s i 0)) (begins (drop (suc i) w) (drop (suc i) s)) ∙ g)
 
-pub begins-short : (w s : List ℕ) (i : ℕ) → i < length w → length s ≤ i → begins (drop i w) (drop i s) ≡ begins w s → false ≡ begins w s
+pub begins-all : (w s : List ℕ) (i : ℕ) (same : Bool) → length w ≤ i → (same && begins (drop i w) (drop i s)) ≡ begins w s → same ≡ begins w s
 unfolding begins
-begins-short w s i h k f =
-    let g : begins (drop i w) (drop i s) ≡ false = rw (drop-cons w i 0 h, drop-of-length-le s k) in
-    sym g ∙ f
-
-pub begins-all : (w s : List ℕ) (i : ℕ) → length w ≤ i → begins (drop i w) (drop i s) ≡ begins w s → true ≡ begins w s
-unfolding begins
-begins-all w s i h f = rw (drop-of-length-le w h) at f
+begins-all w s i same h f = let g : (same && true) ≡ begins w s = rw (drop-of-length-le w h) at f in sym (and-true same) ∙ g
 
 -- ---- newlines
 newlines-step : (s : List ℕ) (i : ℕ) → i < length s → newlines (drop i s) ≡ cond (eqb (getD s i 0) 10) 1 0 + newlines (drop (i + 1) s)

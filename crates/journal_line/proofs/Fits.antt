@@ -9,17 +9,15 @@ use denote.Laws.{Is}
 use denote.Struct.Laws as LL
 use denote.Enum.Laws as EL
 use Rattle.common.specs.Each.{All}
-use Rattle.camera_models.specs.declared.intrinsics.FxFyCxCy.{FxFyCxCy}
 use Rattle.camera_models.proofs.intrinsics.FxFyCxCy as K
 use Rattle.camera_models.proofs.intrinsics.FxFyCxCy.Laws as K′
-use Rattle.camera_tilt.specs.declared.sensor.ScheimpflugParams.{ScheimpflugParams}
 use Rattle.camera_tilt.proofs.sensor.ScheimpflugParams as P
 use Rattle.camera_tilt.proofs.sensor.ScheimpflugParams.Laws as P′
 use Rattle.seed_rules.specs.declared.CandidateSeed.{CandidateSeed}
 use Rattle.seed_rules.proofs.CandidateSeed as C
 use Rattle.seed_rules.proofs.CandidateSeed.Laws as C′
 use Rattle.seed_rules.specs.Layout.{six}
-use Rattle.journal_line.specs.Line.{eight, recorded, Fits, LineFits}
+use Rattle.journal_line.specs.Line.{eight, recordedNumbers, Fits, LineFits}
 use Rattle.journal_line.specs.declared.ScoredFields.{ScoredFields}
 use Rattle.journal_line.specs.declared.Recorded.{Recorded}
 use Rattle.journal_line.specs.declared.Recorded.the-variants.{Scored, Skipped}
@@ -47,7 +45,7 @@ scored-is r vs g =
     let k = LL.owed K.the-type K′.the-laws (r .k) _ (f .1 .1 .0) in
     (fits-so _ (f .0 .1), (fits-so _ (f .1 .0 .1), (fits-so _ (k .0 .1), (fits-so _ (k .1 .0 .1), (fits-so _ (k .1 .1 .0 .1), (fits-so _ (k .1 .1 .1 .0 .1), (fits-so _ (f .1 .1 .1 .0 .1), (fits-so _ (f .1 .1 .1 .1 .0 .1), tt))))))))
 
-outcome-is : (o : Recorded) (vs : List Val) → Is O.the-row o vs → All Fits (recorded o)
+outcome-is : (o : Recorded) (vs : List Val) → Is O.the-row o vs → All Fits (recordedNumbers o)
 outcome-is (Scored r) vs g = scored-is r _ (EL.owed O.the-type O′.the-laws (Scored r) vs g .0)
 outcome-is (Skipped n) vs g = tt
 

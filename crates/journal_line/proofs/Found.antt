@@ -1,12 +1,10 @@
 -- What the parser finds, by what the writer made of the line that the bytes would be. Assumes nothing.
-use Prim.Native.Nat.{ℕ, zero, suc, _+_, _*_, _-_, _<_, _≤_}
-use mathlib.Core.Path.{_≡_, refl, sym, ap, _∙_, subst}
-use mathlib.Core.Bool.{Bool, true, false, not, _&&_, _||_, cond, true≢false}
-use mathlib.Core.List.{List, [], _∷_, _++_}
+use Prim.Native.Nat.{ℕ, _+_, _-_, _<_, _≤_}
+use mathlib.Core.Path.{_≡_, sym, ap, _∙_}
+use mathlib.Core.Bool.{Bool, true, false, not}
+use mathlib.Core.List.{List, _++_}
 use native.Mathlib.Omega.{arith}
 use borrow.Author.Tests.{le-ltb, lt-ltb, eq-eqb, ne-eqb}
-use lib.Dec.{ltb, eqb}
-use lib.Ieee.{Float, binary64, ofBits}
 use lib.ListN.{length, getD, take, drop, length-append, length-take, length-drop}
 use lib.Seq.{take-all, take-at, drop-drop, getD-drop}
 use Rattle.common.specs.Tests.{case}
@@ -18,10 +16,9 @@ use Rattle.journal_line.specs.declared.Recorded.the-variants.{Scored, Sk
 use Rattle.journal_line.specs.declared.Line.{Line}
 use Rattle.journal_line.specs.declared.Written.{Written}
 use Rattle.journal_line.specs.declared.Written.the-variants as W
-use Rattle.journal_line.specs.declared.Read.{Read}
 use Rattle.journal_line.specs.declared.Read.the-variants.{Got, End, Refused}
 use Rattle.journal_line.specs.Line.{lineBytes, writable}
-use Rattle.journal_line.specs.Reading.{numberAt, decimalsAt, reals, scoredAt, reasonOf, outcomeAt, fromRound, fromSeed, uncheckedLine, begins, ofForm, lineNumber, readLine}
+use Rattle.journal_line.specs.Reading.{numberAt, decimalWidthAt, reals, scoredAt, reasonOf, outcomeAt, fromRound, fromSeed, uncheckedLine, begins, ofForm, lineNumber, readLine}
 use Rattle.journal_line.specs.Unique.{begins-is}
 use Rattle.journal_line.specs.Writing.{refusesLine, writeReply, writeInto, Writes}
 
@@ -116,7 +113,7 @@ module _ (s : List ℕ) (at : ℕ) (c : ℕ) (e : c ≡ getD s (at + 1) 0) where
   skipped-at r h f = rw (f, getD-drop at s 1 0, ← e, ne-eqb c 83 h)
 
 module _ (s : List ℕ) (a b n r : ℕ) (d : CandidateSeed) (o : Recorded) where
-  pub parts-are : a ≡ decimalsAt (drop 0 s) → n ≡ numberAt 10 a (drop 0 s) → b ≡ decimalsAt (drop (a + 1) s) → r ≡ numberAt 10 b (drop (a + 1) s)
+  pub parts-are : a ≡ decimalWidthAt (drop 0 s) → n ≡ numberAt 10 a (drop 0 s) → b ≡ decimalWidthAt (drop (a + 1) s) → r ≡ numberAt 10 b (drop (a + 1) s)
       → d ≡ seedAt (reals 6 (drop (a + 1 + b) s)) 0 → o ≡ outcomeAt (drop (a + 1 + b + 102) s)
       → record { number = n; round = r; seed = d; outcome = o } ≡ uncheckedLine s
   unfolding uncheckedLine fromRound fromSeed

@@ -1,26 +1,24 @@
 -- The parts of a line, stored one after the other. Assumes nothing.
-use Prim.Native.Nat.{ℕ, zero, suc, _+_, _*_, _<_, _≤_}
+use Prim.Native.Nat.{ℕ, _+_, _*_, _<_, _≤_}
 use mathlib.Core.Path.{_≡_, refl, sym, ap, _∙_, subst}
-use mathlib.Core.Bool.{Bool, true, false, not, _||_, cond}
+use mathlib.Core.Bool.{true, false}
 use mathlib.Core.List.{List, [], _∷_, _++_, map, append-assoc}
 use native.Mathlib.Omega.{arith}
 use native.Mathlib.Nat.{zero-add}
 use borrow.Author.Tests.{le-ltb, lt-ltb}
-use lib.Dec.{ltb}
 use lib.Ieee.{Float}
 use lib.ListN.{length, drop, replicate, length-append}
-use lib.Seq.{sets, sets-eq, append-snoc}
+use lib.Seq.{sets-eq, append-snoc}
 use Rattle.seed_rules.specs.Layout.{six}
 use Rattle.journal_line.specs.declared.ScoredFields.{ScoredFields}
 use Rattle.journal_line.specs.declared.Recorded.{Recorded}
 use Rattle.journal_line.specs.declared.Recorded.the-variants.{Scored, Skipped}
 use Rattle.journal_line.specs.declared.Line.{Line}
-use Rattle.journal_line.specs.declared.Written.{Written}
 use Rattle.journal_line.specs.declared.Written.the-variants.{Length, Refused}
-use Rattle.journal_line.specs.Line.{digits, decimals, decimal, real, reasonByte, eight, outcomeFields, restOfLine, lineBytes, writable, Writable}
+use Rattle.journal_line.specs.Line.{digits, decimalWidth, decimal, real, reasonLetter, eight, outcomeFields, restOfLine, lineBytes, writable, Writable}
 use Rattle.journal_line.specs.Steps.{commaFields, Stored}
 use Rattle.journal_line.specs.DigitLaws.{digits-length, decimal-length}
-use Rattle.journal_line.specs.FieldLaws.{real-length, wide, rest-of-commas, rest-length}
+use Rattle.journal_line.specs.FieldLaws.{real-length, rest-of-commas, rest-length}
 use Rattle.journal_line.specs.Unique.{line-length, line-bounds}
 use Rattle.journal_line.specs.Writing.{refusesLine, writeReply, writeInto, Writes}
 use Rattle.journal_line.proofs.Stores.{stored-then}
@@ -30,7 +28,7 @@ stored-as : (l : List ℕ) (i : ℕ) (vs ws m : List ℕ) → vs ≡ ws → Stor
 stored-as l i vs ws m e s = subst (λ (b : List ℕ). Stored l i b m) e s
 
 -- ---- number and round
-module _ (number round n r : ℕ) (o o₁ o₂ o₃ : List ℕ) (en : n ≡ decimals number) (er : r ≡ decimals round) where
+module _ (number round n r : ℕ) (o o₁ o₂ o₃ : List ℕ) (en : n ≡ decimalWidth number) (er : r ≡ decimalWidth round) where
   pub head-stored : Stored o 0 (digits 10 n number) o₁ → Stored o₁ n (44 ∷ []) o₂ → Stored o₂ (n + 1) (digits 10 r round) o₃
       → Stored o 0 (decimal number ++ 44 ∷ decimal round) o₃
   unfolding decimal
@@ -73,12 +71,12 @@ module _ (at : ℕ) (o o₁ o₂ o₃ o₄ : List ℕ) (out : Recorded) where
       let z = letter-stored at 136 83 (map real (eight r)) (comma-fields-length (eight r)) o o₁ o₂ o₃ o₄ p q (rw f at s) t in
       rw e (omega (arith, z .0), z .1)
 
-  pub skipped-stored : (n b : ℕ) → out ≡ Skipped n → b ≡ reasonByte n
+  pub skipped-stored : (n b : ℕ) → out ≡ Skipped n → b ≡ reasonLetter n
       → Stored o at (44 ∷ []) o₁ → Stored o₁ (at + 1) (b ∷ []) o₂ → Stored o₂ (at + 2) (commaFields (replicate 8 (45 ∷ []))) o₃ → Stored o₃ (at + 18) (10 ∷ []) o₄
       → (at + 19 ≡ at + length (restOfLine (outcomeFields out))) × Stored o at (restOfLine (outcomeFields out)) o₄
   unfolding outcomeFields commaFields
   skipped-stored n b e f p q s t =
-      let z = letter-stored at 16 (reasonByte n) (replicate 8 (45 ∷ [])) refl o o₁ o₂ o₃ o₄ p (rw f at q) s t in
+      let z = letter-stored at 16 (reasonLetter n) (replicate 8 (45 ∷ [])) refl o o₁ o₂ o₃ o₄ p (rw f at q) s t in
       rw e (omega (arith, z .0), z .1)
 
 -- ---- the whole line
@@ -105,7 +103,7 @@ module _ (l : Line) (o o₁ o₂ o₃ : List ℕ) (big : 256 ≤ length o) (can 
         out-is = rw not-refused (s .now-is ∙ sets-eq (lineBytes l) o 0 (omega arith) ∙ ap (λ (k : ℕ). lineBytes l ++ drop k o) (zero-add (length (lineBytes l))));
       }
 
-  pub line-stored : (at n : ℕ) (xs : List Float) → at ≡ decimals (l .number) + (decimals (l .round) + 1) → xs ≡ six (l .seed)
+  pub line-stored : (at n : ℕ) (xs : List Float) → at ≡ decimalWidth (l .number) + (decimalWidth (l .round) + 1) → xs ≡ six (l .seed)
       → Stored o 0 (decimal (l .number) ++ 44 ∷ decimal (l .round)) o₁ → Stored o₁ at (commaFields (map real xs)) o₂
       → n ≡ at + 102 + length (restOfLine (outcomeFields (l .outcome))) → Stored o₂ (at + 102) (restOfLine (outcomeFields (l .outcome))) o₃
       → Writes l o o₃ (Length n)

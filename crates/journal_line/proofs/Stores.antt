@@ -1,14 +1,15 @@
 -- Runs of stores to a buffer, one after the other. Assumes nothing.
-use Prim.Native.Nat.{ℕ, zero, suc, _+_, _-_, _*_, _/_, _%_, _<_, _≤_}
+use Prim.Native.Nat.{ℕ, suc, _+_, _-_, _*_, _/_, _%_, _<_, _≤_}
 use mathlib.Core.Path.{_≡_, refl, sym, ap, _∙_}
-use mathlib.Core.List.{List, [], _∷_, _++_, map, append-nil, append-assoc}
+use mathlib.Core.List.{List, [], _∷_, _++_, map}
 use native.Mathlib.Nat.{add-zero}
 use native.Mathlib.Numerals.{add-one}
 use native.Mathlib.Omega.{arith}
-use lib.Ieee.{Float, nan}
+use lib.Ieee.{Float}
 use lib.ListN.{length, set, getD, drop, replicate, length-set, drop-of-length-le}
 use lib.Seq.{sets, set-comm, drop-cons}
-use Rattle.journal_line.specs.Line.{digitByte, digits, bitsOf, real}
+use Rattle.float.specs.Float.{bitsOf}
+use Rattle.journal_line.specs.Line.{digitByte, digits, real}
 use Rattle.journal_line.specs.Steps.{commaFields, Stored}
 use Rattle.journal_line.specs.DigitLaws.{digits-length}
 use Rattle.journal_line.specs.FieldLaws.{real-length}
@@ -63,12 +64,13 @@ field-then f fs l i j e = rw add-one (sym (sets-then f (commaFields fs) (set l i
 -- a turn of the loop that stores reals
 pub reals-turn : (l whole : List ℕ) (at i : ℕ) (xs : List Float) (z : Float) (b : ℕ) → i < length xs → b ≡ bitsOf (getD xs i z)
     → sets l (at + 17 * i) (commaFields (map real (drop i xs))) ≡ whole
-    → sets (sets (set l (at + 17 * i) 44) (at + 17 * i + 1) (digits 16 16 b)) (at + 17 * (i + 1)) (commaFields (map real (drop (i + 1) xs))) ≡ whole
+    → (m : List ℕ) → m ≡ sets (set l (at + 17 * i) 44) (at + 17 * i + 1) (digits 16 16 b)
+    → sets m (at + 17 * (i + 1)) (commaFields (map real (drop (i + 1) xs))) ≡ whole
 unfolding real
-reals-turn l whole at i xs z b h e w =
+reals-turn l whole at i xs z b h e w m s =
     let x = getD xs i z in
     let d : drop i xs ≡ x ∷ drop (i + 1) xs = rw add-one (drop-cons xs i z h) in
-    rw e (field-then (real x) (map real (drop (i + 1) xs)) l (at + 17 * i) (at + 17 * (i + 1)) (omega (arith, real-length x))
+    rw (s, e) (field-then (real x) (map real (drop (i + 1) xs)) l (at + 17 * i) (at + 17 * (i + 1)) (omega (arith, real-length x))
     ∙ ap (λ (ys : List Float). sets l (at + 17 * i) (commaFields (map real ys))) (sym d) ∙ w)
 
 pub no-reals : (l whole : List ℕ) (p i : ℕ) (xs : List Float) → length xs ≤ i → sets l p (commaFields (map real (drop i xs))) ≡ whole → l ≡ whole

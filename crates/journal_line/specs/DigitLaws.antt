@@ -1,47 +1,32 @@
 -- Digits written and read back, over the base and the width: once for the 16 hexadecimal digits of a real and for decimals. Assumes nothing.
 use Prim.Native.Nat.{ℕ, zero, suc, _+_, _*_, _-_, _/_, _%_, _^_, _<_, _≤_}
-use mathlib.Core.Path.{_≡_, refl, sym, ap, _∙_}
-use mathlib.Core.Bool.{Bool, true, false, cond}
+use mathlib.Core.Path.{_≡_, refl, sym, _∙_}
+use mathlib.Core.Bool.{false}
 use mathlib.Core.List.{List, [], _∷_, _++_, append-assoc}
 use native.Mathlib.Nat.{mod-lt, div-add-mod, div-lt-iff-lt-mul, pow-zero, pow-suc, mul-le-mul-right}
 use native.Mathlib.Omega.{arith}
-use borrow.Author.Tests.{lt-ltb, le-ltb, ltb-true, ltb-false, eq-eqb, ne-eqb}
+use borrow.Author.Tests.{ltb-true, ne-eqb}
 use lib.Dec.{ltb, eqb}
-use lib.ListN.{length, getD, drop, length-append, List·getD-append}
-use lib.Seq.{getD-at, drop-append-add, getD-append-add}
+use lib.ListN.{length, getD, length-append}
+use lib.Seq.{getD-at}
+use Rattle.common.specs.Table.{table-at}
 use Rattle.common.specs.Tests.{case}
-use Rattle.journal_line.specs.Line.{digitByte, digits, decimals, decimal}
-use Rattle.journal_line.specs.Reading.{digitOf, numberAt, decimalsAt}
+use Rattle.journal_line.specs.Line.{digitByte, digits, decimalWidth, decimal}
+use Rattle.journal_line.specs.Reading.{digitOf, numberAt, decimalWidthAt}
 
--- ---- one digit
-digit-low : (d : ℕ) → ltb d 10 ≡ true → digitOf (digitByte d) ≡ d
-unfolding digitOf digitByte
-digit-low d e =
-    let k : d < 10 = ltb-true d 10 e in
-    simp (e, le-ltb (48 + d) 48 (omega arith), lt-ltb (48 + d) 58 (omega arith)) (omega arith)
-
-digit-high : (d : ℕ) → d < 16 → ltb d 10 ≡ false → digitOf (digitByte d) ≡ d
-unfolding digitOf digitByte
-digit-high d h e =
-    let k : 10 ≤ d = ltb-false d 10 e in
-    simp (e, le-ltb (87 + d) 48 (omega arith), le-ltb (87 + d) 58 (omega arith), le-ltb (87 + d) 97 (omega arith), lt-ltb (87 + d) 103 (omega arith)) (omega arith)
-
+-- ---- one digit: antt computes all sixteen
 pub digit-back : (d : ℕ) → d < 16 → digitOf (digitByte d) ≡ d
-digit-back d h = case (ltb d 10) (digit-low d) (digit-high d h)
+unfolding digitOf digitByte
+digit-back d h = sym (table-at (λ (e : ℕ). digitOf (digitByte e)) 16 d 0 h) ∙ table-at (λ (e : ℕ). e) 16 d 0 h
 
 -- no digit is a comma
 pub digit-no-comma : (d : ℕ) → eqb (digitByte d) 44 ≡ false
 unfolding digitByte
 digit-no-comma d = case (ltb d 10) (λ e. simp e (ne-eqb (48 + d) 44 (λ h. omega arith))) (λ e. simp e (ne-eqb (87 + d) 44 (λ h. omega arith)))
 
--- a digit's value is below 16
 pub digit-below : (c : ℕ) → digitOf c < 16
 unfolding digitOf
-digit-below c =
-    case (ltb c 48) (λ e. simp e (omega arith)) (λ e.
-    case (ltb c 58) (λ f. let k : c < 58 = ltb-true c 58 f in simp (e, f) (omega arith)) (λ f.
-    case (ltb c 97) (λ g. simp (e, f, g) (omega arith)) (λ g.
-    case (ltb c 103) (λ h. let k : c < 103 = ltb-true c 103 h in simp (e, f, g, h) (omega arith)) (λ h. simp (e, f, g, h) (omega arith)))))
+digit-below c = mod-lt (c % 16 + 9 * (c / 64)) (omega arith)
 
 -- ---- w digits
 pub digits-length : (base w n : ℕ) → length (digits base w n) ≡ w
@@ -76,8 +61,8 @@ number-below base (suc w) s h =
 
 -- ---- decimals, below 1000
 -- as many of them as were written stand before the comma
-counted : (w n : ℕ) (s : List ℕ) → 1 ≤ w → w ≤ 3 → decimalsAt (digits 10 w n ++ 44 ∷ s) ≡ w
-unfolding decimalsAt digits
+counted : (w n : ℕ) (s : List ℕ) → 1 ≤ w → w ≤ 3 → decimalWidthAt (digits 10 w n ++ 44 ∷ s) ≡ w
+unfolding decimalWidthAt digits
 counted zero n s h k = absurd (omega arith)
 counted (suc zero) n s h k = refl
 counted (suc (suc zero)) n s h k = simp digit-no-comma
@@ -89,22 +74,22 @@ pub record Decimal (n w : ℕ) : Type 0 where
   pub few : w ≤ 3
   pub room : n < 10 ^ w
 
-pub decimals-fit : (n : ℕ) → n < 1000 → Decimal n (decimals n)
-unfolding decimals
-decimals-fit n h =
+pub width-fits : (n : ℕ) → n < 1000 → Decimal n (decimalWidth n)
+unfolding decimalWidth
+width-fits n h =
     case (ltb n 10) (λ e. let k : n < 10 = ltb-true n 10 e in simp e (record { some = omega arith; few = omega arith; room = omega arith })) (λ e.
     case (ltb n 100) (λ f. let k : n < 100 = ltb-true n 100 f in simp (e, f) (record { some = omega arith; few = omega arith; room = omega arith })) (λ f.
     simp (e, f) (record { some = omega arith; few = omega arith; room = omega arith })))
 
-pub decimal-length : (n : ℕ) → length (decimal n) ≡ decimals n
+pub decimal-length : (n : ℕ) → length (decimal n) ≡ decimalWidth n
 unfolding decimal
-decimal-length n = digits-length 10 (decimals n) n
+decimal-length n = digits-length 10 (decimalWidth n) n
 
 module _ (n : ℕ) (h : n < 1000) (s : List ℕ) where
-  pub decimals-back : decimalsAt (decimal n ++ 44 ∷ s) ≡ decimals n
+  pub width-back : decimalWidthAt (decimal n ++ 44 ∷ s) ≡ decimalWidth n
   unfolding decimal
-  decimals-back = let d = decimals-fit n h in counted (decimals n) n s (d .some) (d .few)
+  width-back = let d = width-fits n h in counted (decimalWidth n) n s (d .some) (d .few)
 
-  pub number-back : numberAt 10 (decimals n) (decimal n ++ 44 ∷ s) ≡ n
+  pub number-back : numberAt 10 (decimalWidth n) (decimal n ++ 44 ∷ s) ≡ n
   unfolding decimal
-  number-back = number-digits 10 (omega arith) (omega arith) (decimals n) n (44 ∷ s) (decimals-fit n h .room)
+  number-back = number-digits 10 (omega arith) (omega arith) (decimalWidth n) n (44 ∷ s) (width-fits n h .room)

@@ -1,14 +1,14 @@
 -- Some fields as they are written, by computation. Assumes nothing.
-use Prim.Native.Nat.{ℕ}
 use mathlib.Core.Path.{_≡_, refl}
-use mathlib.Core.List.{List, [], _∷_, map}
+use mathlib.Core.List.{[], _∷_, map}
 use lib.ListN.{replicate}
 use lib.Ieee.{nan, binary64, ofBits, toBits, isNan}
-use Rattle.journal_line.specs.Line.{digitByte, digits, decimals, decimal, bitsOf, real, reasonByte}
+use Rattle.float.specs.Float.{bitsOf}
+use Rattle.journal_line.specs.Line.{digitByte, digits, decimalWidth, decimal, real, reasonLetter}
 
 -- "0", "10", "655"
 numbers : map decimal (0 ∷ 10 ∷ 655 ∷ []) ≡ (48 ∷ []) ∷ (49 ∷ 48 ∷ []) ∷ (54 ∷ 53 ∷ 53 ∷ []) ∷ []
-unfolding decimal decimals digits digitByte
+unfolding decimal decimalWidth digits digitByte
 numbers = refl
 
 -- 1.0 is 3ff0000000000000
@@ -22,6 +22,6 @@ unfolding real bitsOf digits digitByte isNan
 not-a-number = refl
 
 -- H, C, E, N
-letters : map reasonByte (1 ∷ 2 ∷ 3 ∷ 4 ∷ []) ≡ 72 ∷ 67 ∷ 69 ∷ 78 ∷ []
-unfolding reasonByte
+letters : map reasonLetter (1 ∷ 2 ∷ 3 ∷ 4 ∷ []) ≡ 72 ∷ 67 ∷ 69 ∷ 78 ∷ []
+unfolding reasonLetter
 letters = refl

@@ -1,46 +1,24 @@
 -- Fields parted by commas, written and read back; the lengths of them. Assumes nothing.
-use Prim.Native.Nat.{ℕ, zero, suc, _+_, _*_, _^_, _<_, _≤_}
+use Prim.Native.Nat.{ℕ, suc, _+_, _*_}
 use mathlib.Core.Path.{_≡_, refl, sym, ap, _∙_}
-use mathlib.Core.Bool.{Bool, true, false, cond}
 use mathlib.Core.List.{List, [], _∷_, _++_, map, append-assoc}
-use native.Mathlib.Nat.{mul-suc, mul-zero}
 use native.Mathlib.Omega.{arith}
-use lib.Dec.{T}
-use lib.ListN.{length, getD, drop, length-append}
+use lib.ListN.{length, drop, length-append}
 use lib.Seq.{drop-at, drop-drop}
-use lib.Ieee.{Float, nan, binary64, ofBits, toBits, isNan, fits}
-use lib.Ieee.Bits.{ofBits-toBits, toBits-lt}
-use Rattle.float.specs.Nan.{is-nan}
+use lib.Ieee.{Float}
+use Rattle.float.specs.Float.{bitsOf}
+use Rattle.float.specs.Bits.{bits-below, bits-back}
 use Rattle.common.specs.Each.{All}
-use Rattle.common.specs.Tests.{case}
-use Rattle.journal_line.specs.Line.{digits, bitsOf, real, restOfLine, Fits}
-use Rattle.journal_line.specs.Reading.{numberAt, realAt, reals}
+use Rattle.journal_line.specs.Line.{real, restOfLine, Fits}
+use Rattle.journal_line.specs.Reading.{realAt, reals}
 use Rattle.journal_line.specs.Steps.{commaFields}
 use Rattle.journal_line.specs.DigitLaws.{digits-length, number-digits}
 
 -- ---- one real
 module _ (x : Float) (h : Fits x) where
-  bits-of : isNan x ≡ false → bitsOf x ≡ toBits binary64 x
-  unfolding bitsOf
-  bits-of e = simp e
-
-  bits-nan : isNan x ≡ true → bitsOf x ≡ 0x7ff8_0000_0000_0000
-  unfolding bitsOf
-  bits-nan e = simp e
-
-  bits-below : bitsOf x < 16 ^ 16
-  bits-below = case (isNan x) (λ e. rw (bits-nan e) (omega arith)) (λ e. rw (bits-of e) (omega (arith, toBits-lt binary64 x h)))
-
-  nan-back : x ≡ nan → ofBits binary64 0x7ff8_0000_0000_0000 ≡ x
-  unfolding ofBits
-  nan-back e = sym e
-
-  pub bits-back : ofBits binary64 (bitsOf x) ≡ x
-  bits-back = case (isNan x) (λ e. rw (bits-nan e) (nan-back (is-nan x e))) (λ e. rw (bits-of e) (ofBits-toBits binary64 x h))
-
   pub real-back : (s : List ℕ) → realAt (real x ++ s) ≡ x
   unfolding realAt real
-  real-back s = rw (number-digits 16 (omega arith) (omega arith) 16 (bitsOf x) s bits-below) bits-back
+  real-back s = rw (number-digits 16 (omega arith) (omega arith) 16 (bitsOf x) s (omega (arith, bits-below x h))) (bits-back x h)
 
 pub real-length : (x : Float) → length (real x) ≡ 16
 unfolding real

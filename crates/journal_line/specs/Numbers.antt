@@ -1,12 +1,11 @@
 -- A line has one newline, its last byte. So the number that a 29 carries is one more than the number of lines before it, and a line that
 -- was cut off has no newline. Assumes nothing.
-use Prim.Native.Nat.{ℕ, zero, suc, _+_, _*_, _/_, _%_, _<_, _≤_}
+use Prim.Native.Nat.{ℕ, zero, suc, _+_, _/_, _%_, _<_}
 use mathlib.Core.Path.{_≡_, refl, sym, ap, _∙_}
-use mathlib.Core.Bool.{Bool, true, false, cond, true≢false}
 use mathlib.Core.List.{List, [], _∷_, _++_, map, append-assoc, append-nil}
 use native.Mathlib.Omega.{arith}
-use borrow.Author.Tests.{eq-eqb, ne-eqb}
-use lib.Dec.{ltb, leb, eqb}
+use borrow.Author.Tests.{ne-eqb}
+use lib.Dec.{ltb, leb}
 use lib.Ieee.{Float}
 use lib.ListN.{length, take, drop, replicate, length-append, take-append-drop}
 use lib.Seq.{take-add, take-at, take-append-le}
@@ -14,13 +13,14 @@ use Rattle.common.specs.Each.{All}
 use Rattle.common.specs.All.{all-append}
 use Rattle.common.specs.Tests.{case}
 use Rattle.seed_rules.specs.Layout.{six}
+use Rattle.float.specs.Float.{bitsOf}
 use Rattle.journal_line.specs.declared.Recorded.{Recorded}
 use Rattle.journal_line.specs.declared.Recorded.the-variants.{Scored, Skipped}
 use Rattle.journal_line.specs.declared.Line.{Line}
 use Rattle.journal_line.specs.declared.Read.{Read}
 use Rattle.journal_line.specs.declared.Read.the-variants.{Got, End, Refused}
-use Rattle.journal_line.specs.Line.{digitByte, digits, decimal, bitsOf, real, reasonByte, eight, outcomeFields, restOfLine, lineBytes}
-use Rattle.journal_line.specs.Reading.{newlines, lineNumber, readLine, Ending, ended, refused, unread, Lines, goesOn, readAll, readJournal}
+use Rattle.journal_line.specs.Line.{digitByte, digits, decimal, real, reasonLetter, eight, outcomeFields, restOfLine, lineBytes, journalBytes}
+use Rattle.journal_line.specs.Reading.{newlines, lineNumber, readLine, refused, Lines, goesOn, readAll, readJournal}
 use Rattle.journal_line.specs.Steps.{commaFields}
 use Rattle.journal_line.specs.FieldLaws.{rest-of-commas}
 use Rattle.journal_line.specs.Unique.{LineAt, Correct, read-correct}
@@ -56,8 +56,8 @@ unfolding real
 reals-no-newline [] = tt
 reals-no-newline (x ∷ xs) = (digits-no-newline 16 16 (bitsOf x), reals-no-newline xs)
 
-reason-no-newline : (r : ℕ) → NoNewline (reasonByte r ∷ [])
-unfolding reasonByte newlines
+reason-no-newline : (r : ℕ) → NoNewline (reasonLetter r ∷ [])
+unfolding reasonLetter newlines
 reason-no-newline r = case (leb r 1) (λ e. rw e) (λ e. case (leb r 2) (λ f. rw (e, f)) (λ f. case (leb r 3) (λ g. rw (e, f, g)) (λ g. rw (e, f, g))))
 
 minuses-no-newline : (n : ℕ) → All NoNewline (replicate n (45 ∷ []))
@@ -111,7 +111,16 @@ cut-line l k h =
     let b = ap length (line-is l) in
     ap (λ (s : List ℕ). newlines (take k s)) (line-is l) ∙ ap newlines (take-append-le k (front l) (10 ∷ []) (omega arith)) ∙ take-no-newline k (front l) (front-no-newline l)
 
--- ---- the number of the next line
+-- ---- the number of a line
+-- behind a journal's lines stands the line whose number is one more than theirs
+journal-newlines : (ls : List Line) → newlines (journalBytes ls) ≡ length ls
+unfolding journalBytes newlines
+journal-newlines [] = refl
+journal-newlines (l ∷ ls) = omega (arith, newlines-append (lineBytes l) (journalBytes ls), line-newlines l, journal-newlines ls)
+
+pub line-numbers : (ls : List Line) (rest : List ℕ) → lineNumber (journalBytes ls ++ rest) (length (journalBytes ls)) ≡ suc (length ls)
+line-numbers ls rest = omega (arith, ap newlines (take-at (journalBytes ls) rest (length (journalBytes ls)) refl), journal-newlines ls)
+
 pub next-number : (s : List ℕ) (at next : ℕ) (l : Line) → LineAt s at next l → lineNumber s next ≡ lineNumber s at + 1
 next-number s at next l h =
     let n = length (lineBytes l) in

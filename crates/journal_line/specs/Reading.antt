@@ -1,8 +1,8 @@
 -- Reading a line: the line that the bytes would be is made from them by place alone, and it is the reading if it can be written and the bytes
 -- begin as it is written. So nothing but a line's own bytes is read as that line. Definitions only.
-use Prim.Native.Nat.{ℕ, zero, suc, _+_, _*_, _-_}
+use Prim.Native.Nat.{ℕ, zero, suc, _+_, _*_, _/_, _%_}
 use mathlib.Core.Bool.{Bool, true, false, _&&_, cond}
-use mathlib.Core.List.{List, [], _∷_, _++_}
+use mathlib.Core.List.{List, [], _∷_}
 use lib.Dec.{ltb, eqb}
 use lib.ListN.{length, getD, take, drop}
 use lib.Ieee.{Float, nan, binary64, ofBits}
@@ -16,9 +16,9 @@ use Rattle.journal_line.specs.declared.Read.the-variants.{Got, End, Refu
 use Rattle.journal_line.specs.Line.{lineBytes, writable}
 
 -- ---- what the bytes at a place would be
--- a digit's value, 0 where it is none
+-- a digit's value, and of any other byte some number below 16: 0 to 9 are 48 to 57, a to f are 97 to 102
 unfoldable pub digitOf : ℕ → ℕ
-digitOf c = cond (ltb c 48) 0 (cond (ltb c 58) (c - 48) (cond (ltb c 97) 0 (cond (ltb c 103) (c - 87) 0)))
+digitOf c = (c % 16 + 9 * (c / 64)) % 16
 
 -- the number of the first w bytes, to a base
 unfoldable pub numberAt : ℕ → ℕ → List ℕ → ℕ
@@ -26,8 +26,8 @@ numberAt base zero s = 0
 numberAt base (suc w) s = base * numberAt base w s + digitOf (getD s w 0)
 
 -- how many decimals stand here: a comma follows 1 or 2 of them, or they are 3
-unfoldable pub decimalsAt : List ℕ → ℕ
-decimalsAt s = cond (eqb (getD s 1 0) 44) 1 (cond (eqb (getD s 2 0) 44) 2 3)
+unfoldable pub decimalWidthAt : List ℕ → ℕ
+decimalWidthAt s = cond (eqb (getD s 1 0) 44) 1 (cond (eqb (getD s 2 0) 44) 2 3)
 
 unfoldable pub realAt : List ℕ → Float
 realAt s = ofBits binary64 (numberAt 16 16 s)
@@ -56,15 +56,15 @@ outcomeAt s = cond (eqb (getD s 1 0) 83) (Scored (scoredAt (reals 8 (drop 2 s)))
 
 -- from the round on, and from the comma before the seed on
 unfoldable pub fromRound : List ℕ → List ℕ
-fromRound s = drop (decimalsAt s + 1) s
+fromRound s = drop (decimalWidthAt s + 1) s
 
 unfoldable pub fromSeed : List ℕ → List ℕ
-fromSeed s = drop (decimalsAt (fromRound s)) (fromRound s)
+fromSeed s = drop (decimalWidthAt (fromRound s)) (fromRound s)
 
 unfoldable pub uncheckedLine : List ℕ → Line
 uncheckedLine s = record {
-  number = numberAt 10 (decimalsAt s) s;
-  round = numberAt 10 (decimalsAt (fromRound s)) (fromRound s);
+  number = numberAt 10 (decimalWidthAt s) s;
+  round = numberAt 10 (decimalWidthAt (fromRound s)) (fromRound s);
   seed = seedAt (reals 6 (fromSeed s)) 0;
   outcome = outcomeAt (drop 102 (fromSeed s));
 }

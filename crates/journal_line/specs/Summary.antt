@@ -2,16 +2,15 @@
 use Prim.Native.Nat.{ℕ, suc, _+_, _<_, _≤_}
 use mathlib.Core.Path.{_≡_}
 use mathlib.Core.List.{List, _++_}
-use lib.ListN.{length, take, drop}
+use lib.ListN.{length, take}
 use Rattle.common.specs.Each.{All}
 use Rattle.journal_line.specs.declared.Line.{Line}
-use Rattle.journal_line.specs.declared.Read.{Read}
 use Rattle.journal_line.specs.declared.Read.the-variants.{Got}
-use Rattle.journal_line.specs.Line.{lineBytes, LineFits, Writable, journal}
-use Rattle.journal_line.specs.Reading.{newlines, readLine, ended, refused, unread, Lines, readJournal}
+use Rattle.journal_line.specs.Line.{lineBytes, LineFits, Writable, journalBytes}
+use Rattle.journal_line.specs.Reading.{newlines, lineNumber, readLine, ended, refused, unread, readJournal}
 use Rattle.journal_line.specs.Unique.{LineAt, Correct, read-correct, line-bounds, line-injective, one-reading, one-line}
 use Rattle.journal_line.specs.Whole.{Written, whole-reading, whole-lines, whole-stops}
-use Rattle.journal_line.specs.Numbers.{cut-line, whole-numbered}
+use Rattle.journal_line.specs.Numbers.{cut-line, whole-numbered, line-numbers}
 
 -- `LineFits l` says that the numbers of l are values of the format, as every f64 of a program is; `Writable l` is what the writer takes.
 pub record JournalIsExact : Type 0 where
@@ -25,11 +24,13 @@ pub record JournalIsExact : Type 0 where
   pub no-two-alike : (l m : Line) → LineFits l → Writable l → LineFits m → Writable m → (s t : List ℕ) → lineBytes l ++ s ≡ lineBytes m ++ t → (l ≡ m) × (s ≡ t)
   pub short : (l : Line) → Writable l → (124 ≤ length (lineBytes l)) × (length (lineBytes l) ≤ 247)
   -- whole journals: the lines that were written, then End; bytes that are read to the end are those of the lines read
-  pub all-read : (ls : List Line) → All LineFits ls → All Writable ls → readJournal (journal ls) ≡ record { lines = ls; ending = ended }
+  pub all-read : (ls : List Line) → All LineFits ls → All Writable ls → readJournal (journalBytes ls) ≡ record { lines = ls; ending = ended }
   pub all-written : (s : List ℕ) → readJournal s .ending ≡ ended → Written s (readJournal s .lines)
   -- a reading that doesn't end at the end ends with a 29, whose number is one more than the number of lines before
   pub reads-all : (s : List ℕ) → readJournal s .ending ≡ unread → ⊥
   pub numbered : (s : List ℕ) (k : ℕ) → readJournal s .ending ≡ refused k → k ≡ suc (length (readJournal s .lines))
+  -- and so wherever lines stand before it
+  pub counted : (ls : List Line) (rest : List ℕ) → lineNumber (journalBytes ls ++ rest) (length (journalBytes ls)) ≡ suc (length ls)
   -- a line that was cut off has no newline
   pub cut-off : (l : Line) (k : ℕ) → k < length (lineBytes l) → newlines (take k (lineBytes l)) ≡ 0
 
@@ -44,5 +45,6 @@ journal-is-exact = record {
   all-written = whole-lines;
   reads-all = whole-stops;
   numbered = whole-numbered;
+  counted = line-numbers;
   cut-off = cut-line;
 }

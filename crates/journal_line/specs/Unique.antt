@@ -1,34 +1,31 @@
 -- Each line has one reading, and each reading one line; so have whole journals. Assumes nothing.
-use Prim.Native.Nat.{ℕ, zero, suc, _+_, _*_, _^_, _<_, _≤_}
+use Prim.Native.Nat.{ℕ, zero, suc, _+_, _<_, _≤_}
 use mathlib.Core.Path.{_≡_, refl, sym, ap, ap₂, _∙_}
-use mathlib.Core.Bool.{Bool, true, false, _&&_, cond, true≢false}
-use mathlib.Core.List.{List, [], _∷_, _++_, map, append-assoc, append-nil}
-use native.Mathlib.Numerals.{add-one}
+use mathlib.Core.Bool.{true, false, _&&_, true≢false}
+use mathlib.Core.List.{List, [], _∷_, _++_, map, append-assoc}
 use native.Mathlib.Omega.{arith}
-use borrow.Author.Tests.{leb-true, lt-ltb, le-ltb, ltb-true, ltb-false, eq-eqb, eqb-true}
+use borrow.Author.Tests.{leb-true, lt-ltb, ltb-true, ltb-false, eq-eqb, eqb-true}
 use lib.Dec.{leb, ltb, eqb}
-use lib.ListN.{length, getD, take, drop, length-append, length-drop, drop-of-length-le}
-use lib.Seq.{drop-at, drop-append-seam, drop-drop, drop-length}
+use lib.ListN.{length, getD, drop, length-append, length-drop}
+use lib.Seq.{drop-at, drop-append-seam, drop-drop}
 use lib.Ieee.{Float}
 use lib.Ieee.Bits.{ofBits-fits}
 use Rattle.common.specs.Each.{All}
 use Rattle.common.specs.Tests.{case, both-true}
-use Rattle.seed_rules.specs.declared.CandidateSeed.{CandidateSeed}
 use Rattle.seed_rules.specs.Layout.{six, seedAt}
-use Rattle.journal_line.specs.declared.ScoredFields.{ScoredFields}
 use Rattle.journal_line.specs.declared.Recorded.{Recorded}
 use Rattle.journal_line.specs.declared.Recorded.the-variants.{Scored, Skipped}
 use Rattle.journal_line.specs.declared.Line.{Line}
 use Rattle.journal_line.specs.declared.Read.{Read}
 use Rattle.journal_line.specs.declared.Read.the-variants.{Got, End, Refused}
-use Rattle.journal_line.specs.Line.{decimals, decimal, real, reasonByte, eight, outcomeFields, restOfLine, lineBytes, recordable, writable, Fits, recorded, LineFits, Writable}
-use Rattle.journal_line.specs.Reading.{numberAt, decimalsAt, realAt, reals, scoredAt, reasonOf, outcomeAt, fromRound, fromSeed, uncheckedLine, begins, ofForm, lineNumber, readLine}
-use Rattle.journal_line.specs.DigitLaws.{Decimal, decimals-back, number-back, decimal-length, decimals-fit}
+use Rattle.journal_line.specs.Line.{decimalWidth, decimal, real, reasonLetter, eight, outcomeFields, restOfLine, lineBytes, recordable, writable, Fits, recordedNumbers, LineFits, Writable}
+use Rattle.journal_line.specs.Reading.{realAt, reals, scoredAt, reasonOf, outcomeAt, fromRound, fromSeed, uncheckedLine, begins, ofForm, lineNumber, readLine}
+use Rattle.journal_line.specs.DigitLaws.{width-back, number-back, decimal-length, width-fits}
 use Rattle.journal_line.specs.FieldLaws.{next-field, reals-back, past-reals, wide, rest-length, reals-wide}
 
 -- ---- what was written is what the bytes would be
-reason-back : (r : ℕ) → (leb 1 r && leb r 4) ≡ true → (eqb (reasonByte r) 83 ≡ false) × (reasonOf (reasonByte r) ≡ r)
-unfolding reasonByte reasonOf
+reason-back : (r : ℕ) → (leb 1 r && leb r 4) ≡ true → (eqb (reasonLetter r) 83 ≡ false) × (reasonOf (reasonLetter r) ≡ r)
+unfolding reasonLetter reasonOf
 reason-back zero h = absurd (true≢false (sym h))
 reason-back (suc zero) h = (refl, refl)
 reason-back (suc (suc zero)) h = (refl, refl)
@@ -38,7 +35,7 @@ reason-back (suc (suc (suc (suc (suc r))))) h =
     let k = leb-true (suc (suc (suc (suc (suc r))))) 4 (both-true (leb 1 (suc (suc (suc (suc (suc r)))))) (leb (suc (suc (suc (suc (suc r))))) 4) h .1) in
     absurd (omega arith)
 
-outcome-back : (o : Recorded) (s : List ℕ) → recordable o ≡ true → All Fits (recorded o) → outcomeAt (restOfLine (outcomeFields o) ++ s) ≡ o
+outcome-back : (o : Recorded) (s : List ℕ) → recordable o ≡ true → All Fits (recordedNumbers o) → outcomeAt (restOfLine (outcomeFields o) ++ s) ≡ o
 unfolding outcomeAt outcomeFields restOfLine recordable
 outcome-back (Scored r) s h k = ap (λ (l : List Float). Scored (scoredAt l)) (reals-back [] s (eight r) k)
 outcome-back (Skipped r) s h k = let e = reason-back r h in rw (e .0, e .1)
@@ -51,7 +48,7 @@ module _ (n r : ℕ) (hn : n < 1000) (hr : r < 1000) where
   unfolding uncheckedLine fromRound fromSeed
   head-at t =
       let x : List ℕ = decimal r ++ 44 ∷ t in
-      rw (decimals-back n hn x, number-back n hn x, past-comma (decimal n) x (decimals n) (decimal-length n), decimals-back r hr t, number-back r hr t, drop-at (decimal r) (44 ∷ t) (decimals r) (decimal-length r))
+      rw (width-back n hn x, number-back n hn x, past-comma (decimal n) x (decimalWidth n) (decimal-length n), width-back r hr t, number-back r hr t, drop-at (decimal r) (44 ∷ t) (decimalWidth r) (decimal-length r))
 
   head-back : (u t : List ℕ) → u ≡ 44 ∷ t → uncheckedLine (decimal n ++ 44 ∷ (decimal r ++ u)) ≡ record { number = n; round = r; seed = seedAt (reals 6 u) 0; outcome = outcomeAt (drop 102 u) }
   head-back u t e = rw e (head-at t)
@@ -63,27 +60,27 @@ line-then l s =
     append-assoc (decimal (l .number)) (restOfLine (decimal (l .round) ∷ (map real (six (l .seed)) ++ outcomeFields (l .outcome)))) s
     ∙ ap (λ (r : List ℕ). decimal (l .number) ++ r) (next-field (decimal (l .round)) (map real (six (l .seed)) ++ outcomeFields (l .outcome)) s)
 
-module _ (l : Line) (ok : LineFits l) (can : Writable l) (s : List ℕ) where
-  bounds : (l .number < 1000) × (l .round < 1000) × (recordable (l .outcome) ≡ true)
-  unfolding writable
-  bounds =
-      let a = both-true (leb (l .number) 655) (leb (l .round) 16 && recordable (l .outcome)) can in
-      let b = both-true (leb (l .round) 16) (recordable (l .outcome)) (a .1) in
-      let m = leb-true (l .number) 655 (a .0) in
-      let r = leb-true (l .round) 16 (b .0) in
-      (omega arith, omega arith, b .1)
+-- what the writer takes
+pub can-write : (l : Line) → Writable l → (l .number ≤ 655) × (l .round ≤ 16) × (recordable (l .outcome) ≡ true)
+unfolding writable
+can-write l can =
+    let a = both-true (leb (l .number) 655 && leb (l .round) 16) (recordable (l .outcome)) can in
+    let b = both-true (leb (l .number) 655) (leb (l .round) 16) (a .0) in
+    (leb-true (l .number) 655 (b .0), leb-true (l .round) 16 (b .1), a .1)
 
+module _ (l : Line) (ok : LineFits l) (can : Writable l) (s : List ℕ) where
   abbrev rest : List ℕ
   rest = restOfLine (map real (six (l .seed)) ++ outcomeFields (l .outcome)) ++ s
 
   pub unchecked-back : uncheckedLine (lineBytes l ++ s) ≡ l
   unchecked-back =
+      let bounds = can-write l can in
       let fs = outcomeFields (l .outcome) in
       let q = next-field (real (l .seed .«reference_k» .fx)) (drop 1 (map real (six (l .seed))) ++ fs) s in
       let a : reals 6 rest ≡ six (l .seed) = reals-back fs s (six (l .seed)) (ok .seed-fits) in
       let b : drop 102 rest ≡ restOfLine fs ++ s = past-reals fs s (six (l .seed)) in
       let c : outcomeAt (drop 102 rest) ≡ l .outcome = ap outcomeAt b ∙ outcome-back (l .outcome) s (bounds .2) (ok .outcome-fits) in
-      ap uncheckedLine (line-then l s) ∙ head-back (l .number) (l .round) (bounds .0) (bounds .1) rest _ q ∙ rw (a, c)
+      ap uncheckedLine (line-then l s) ∙ head-back (l .number) (l .round) (omega arith) (omega arith) rest _ q ∙ rw (a, c)
 
 -- ---- beginning with
 begins-own : (w s : List ℕ) → begins w (w ++ s) ≡ true
@@ -114,7 +111,7 @@ unfolding reals realAt
 reals-fits zero s = tt
 reals-fits (suc n) s = (ofBits-fits _ _, reals-fits n (drop 17 s))
 
-outcome-fits : (s : List ℕ) → All Fits (recorded (outcomeAt s))
+outcome-fits : (s : List ℕ) → All Fits (recordedNumbers (outcomeAt s))
 unfolding outcomeAt reals
 outcome-fits s = case (eqb (getD s 1 0) 83) (λ e. rw e (reals-fits 8 (drop 2 s))) (λ e. rw e tt)
 
@@ -134,7 +131,7 @@ unfolding outcomeFields wide
 outcome-wide (Scored r) = omega (arith, reals-wide (eight r) [])
 outcome-wide (Skipped r) = (omega arith, omega arith)
 
-pub line-length : (l : Line) → length (lineBytes l) ≡ decimals (l .number) + (suc (decimals (l .round)) + (102 + wide (outcomeFields (l .outcome))))
+pub line-length : (l : Line) → length (lineBytes l) ≡ decimalWidth (l .number) + (suc (decimalWidth (l .round)) + (102 + wide (outcomeFields (l .outcome))))
 unfolding lineBytes wide
 line-length l =
     let fs = map real (six (l .seed)) ++ outcomeFields (l .outcome) in
@@ -147,20 +144,16 @@ line-length l =
       reals-wide (six (l .seed)) (outcomeFields (l .outcome)),
     )
 
-two-decimals : (r : ℕ) → r ≤ 16 → decimals r ≤ 2
-unfolding decimals
-two-decimals r h = case (ltb r 10) (λ e. rw e (omega arith)) (λ e. rw (e, lt-ltb r 100 (omega arith)) (omega arith))
+two-digits : (r : ℕ) → r ≤ 16 → decimalWidth r ≤ 2
+unfolding decimalWidth
+two-digits r h = case (ltb r 10) (λ e. rw e (omega arith)) (λ e. rw (e, lt-ltb r 100 (omega arith)) (omega arith))
 
 pub line-bounds : (l : Line) → Writable l → (124 ≤ length (lineBytes l)) × (length (lineBytes l) ≤ 247)
-unfolding writable
 line-bounds l can =
-    let a = both-true (leb (l .number) 655) (leb (l .round) 16 && recordable (l .outcome)) can in
-    let b = both-true (leb (l .round) 16) (recordable (l .outcome)) (a .1) in
-    let m = leb-true (l .number) 655 (a .0) in
-    let r = leb-true (l .round) 16 (b .0) in
-    let d = decimals-fit (l .number) (omega arith) in
-    let e = decimals-fit (l .round) (omega arith) in
-    let f = two-decimals (l .round) r in
+    let b = can-write l can in
+    let d = width-fits (l .number) (omega arith) in
+    let e = width-fits (l .round) (omega arith) in
+    let f = two-digits (l .round) (b .1) in
     let g = outcome-wide (l .outcome) in
     let h = line-length l in
     (omega arith, omega arith)

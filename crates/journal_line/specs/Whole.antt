@@ -1,7 +1,7 @@
 -- Whole journals: the lines that were written are read, then End; and bytes that are read to the end with no 29 are those lines'. Assumes nothing.
 use Prim.Native.Nat.{ℕ, zero, suc, _+_, _<_, _≤_}
-use mathlib.Core.Path.{_≡_, refl, sym, ap, _∙_}
-use mathlib.Core.List.{List, [], _∷_, _++_, append-assoc, append-nil}
+use mathlib.Core.Path.{_≡_, ap, _∙_}
+use mathlib.Core.List.{List, [], _∷_, _++_, append-assoc}
 use native.Mathlib.Omega.{arith}
 use borrow.Author.Tests.{le-ltb}
 use lib.ListN.{length, drop, length-append, length-drop, drop-of-length-le}
@@ -9,9 +9,9 @@ use Rattle.common.specs.Each.{All}
 use Rattle.journal_line.specs.declared.Line.{Line}
 use Rattle.journal_line.specs.declared.Read.{Read}
 use Rattle.journal_line.specs.declared.Read.the-variants.{Got, End, Refused}
-use Rattle.journal_line.specs.Line.{lineBytes, LineFits, Writable, journal}
+use Rattle.journal_line.specs.Line.{lineBytes, LineFits, Writable, journalBytes}
 use Rattle.journal_line.specs.Reading.{readLine, Ending, ended, refused, unread, Lines, goesOn, readAll, readJournal}
-use Rattle.journal_line.specs.Unique.{LineAt, Correct, read-correct, one-reading, line-bounds}
+use Rattle.journal_line.specs.Unique.{Correct, read-correct, one-reading, line-bounds}
 
 -- ---- what was written is read
 end-at : (s : List ℕ) (at : ℕ) → length s ≤ at → readLine s at ≡ End
@@ -28,30 +28,30 @@ unfolding readAll goesOn
 read-on n s at l next ls f e g = rw (e, g)
 
 written-read : (ls : List Line) → All LineFits ls → All Writable ls → (before : List ℕ) (n : ℕ) → length ls < n
-    → readAll n (before ++ journal ls) (length before) ≡ record { lines = ls; ending = ended }
-unfolding journal
+    → readAll n (before ++ journalBytes ls) (length before) ≡ record { lines = ls; ending = ended }
+unfolding journalBytes
 written-read [] ok can before zero h = absurd (omega arith)
-written-read [] ok can before (suc n) h = read-end n (before ++ []) (length before) (end-at (before ++ []) (length before) (omega (arith, length-append before (journal []))))
+written-read [] ok can before (suc n) h = read-end n (before ++ []) (length before) (end-at (before ++ []) (length before) (omega (arith, length-append before (journalBytes []))))
 written-read (l ∷ ls) ok can before zero h = absurd (omega arith)
 written-read (l ∷ ls) ok can before (suc n) h =
-    let s = before ++ (lineBytes l ++ journal ls) in
-    let e : (before ++ lineBytes l) ++ journal ls ≡ s = append-assoc before (lineBytes l) (journal ls) in
+    let s = before ++ (lineBytes l ++ journalBytes ls) in
+    let e : (before ++ lineBytes l) ++ journalBytes ls ≡ s = append-assoc before (lineBytes l) (journalBytes ls) in
     let ih = written-read ls (ok .1) (can .1) (before ++ lineBytes l) n (omega arith) in
-    read-on n s (length before) l (length before + length (lineBytes l)) ls ended (one-reading l (ok .0) (can .0) before (journal ls)) (rw (e, length-append before (lineBytes l)) at ih)
+    read-on n s (length before) l (length before + length (lineBytes l)) ls ended (one-reading l (ok .0) (can .0) before (journalBytes ls)) (rw (e, length-append before (lineBytes l)) at ih)
 
-journal-long : (ls : List Line) → All Writable ls → length ls ≤ length (journal ls)
-unfolding journal
+journal-long : (ls : List Line) → All Writable ls → length ls ≤ length (journalBytes ls)
+unfolding journalBytes
 journal-long [] can = omega arith
-journal-long (l ∷ ls) can = omega (arith, length-append (lineBytes l) (journal ls), line-bounds l (can .0), journal-long ls (can .1))
+journal-long (l ∷ ls) can = omega (arith, length-append (lineBytes l) (journalBytes ls), line-bounds l (can .0), journal-long ls (can .1))
 
-pub whole-reading : (ls : List Line) → All LineFits ls → All Writable ls → readJournal (journal ls) ≡ record { lines = ls; ending = ended }
-whole-reading ls ok can = written-read ls ok can [] (suc (length (journal ls))) (omega (arith, journal-long ls can))
+pub whole-reading : (ls : List Line) → All LineFits ls → All Writable ls → readJournal (journalBytes ls) ≡ record { lines = ls; ending = ended }
+whole-reading ls ok can = written-read ls ok can [] (suc (length (journalBytes ls))) (omega (arith, journal-long ls can))
 
 -- ---- what is read was written
 pub record Written (s : List ℕ) (ls : List Line) : Type 0 where
   pub lines-fit : All LineFits ls
   pub can-be-written : All Writable ls
-  pub bytes-are : s ≡ journal ls
+  pub bytes-are : s ≡ journalBytes ls
 
 -- what was read up to the end, or up to a line that was refused
 abbrev Wrote : List ℕ → ℕ → Lines → Type 0
@@ -64,7 +64,7 @@ not-read : unread ≡ ended → ⊥
 not-read h = let z : _≡_ {A = ℕ} 0 1 = cc in omega arith
 
 read-wrote : (n : ℕ) (s : List ℕ) (at : ℕ) → Wrote s at (readAll n s at)
-unfolding readAll goesOn journal
+unfolding readAll goesOn journalBytes
 read-wrote zero s at = λ h. absurd (not-read h)
 read-wrote (suc n) s at = one (readLine s at) (read-correct s at) (read-wrote n s)
   where

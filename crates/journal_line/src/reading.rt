@@ -1,11 +1,10 @@
 // The parser: the line that the bytes would be is made from them by place alone; it is written to a buffer, and where the bytes begin
 // as it is written, it is the line that stands there.
 ghost use mathlib.Core.Path.{_≡_};
-ghost use Prim.Native.Nat.{_+_, _*_, _^_, _<_, _≤_};
+ghost use Prim.Native.Nat.{_+_, _*_, _<_, _≤_};
 ghost use lib.ListN.{length, getD, drop};
-ghost use lib.Ieee.{binary64, nanBits, ofBits};
 ghost use Rattle.seed_rules.specs.Layout.{seedAt};
-ghost use Rattle.journal_line.specs.Reading.{digitOf, numberAt, decimalsAt, realAt, reals, scoredAt, reasonOf, outcomeAt, uncheckedLine, begins, newlines, lineNumber, readLine, placeAfter};
+ghost use Rattle.journal_line.specs.Reading.{digitOf, numberAt, decimalWidthAt, realAt, reals, scoredAt, reasonOf, outcomeAt, uncheckedLine, begins, newlines, lineNumber, readLine, placeAfter};
 use crate::Line;
 use crate::Read;
 use crate::Recorded;
@@ -26,23 +25,11 @@ fn byte_at(s: &[u8], at: usize) -> u8
     0
 }
 
-// A digit's value, 0 where it is none. Upper case is none.
+// A digit's value; of any other byte some number below 16. There is no branch, which random digits would make slow.
 fn digit_of(c: u8) -> u64
-    ensures { λ r. ⌜ (r ≡ digitOf c) × (r < 16) ⌝ }
+    ensures { λ r. ⌜ r ≡ digitOf c ⌝ }
 {
-    if c < 48 {
-        return 0;
-    }
-    if c < 58 {
-        return (c - 48) as u64;
-    }
-    if c < 97 {
-        return 0;
-    }
-    if c < 103 {
-        return (c - 87) as u64;
-    }
-    0
+    ((c % 16 + 9 * (c / 64)) % 16) as u64
 }
 
 // The number of the w bytes from a place on, to a base.
@@ -60,9 +47,9 @@ fn number_at(s: &[u8], at: usize, base: u64, w: usize) -> u64
 }
 
 // How many decimals stand here.
-fn decimals_at(s: &[u8], at: usize) -> usize
+fn decimal_width_at(s: &[u8], at: usize) -> usize
     requires { ⌜ at < 1000 ⌝ }
-    ensures { λ r. ⌜ (r ≡ decimalsAt (drop at (now (s .entry)))) × (r ≤ 3) ⌝ }
+    ensures { λ r. ⌜ (r ≡ decimalWidthAt (drop at (now (s .entry)))) × (r ≤ 3) ⌝ }
 {
     if byte_at(s, at + 1) == 44 {
         return 1;
@@ -73,28 +60,11 @@ fn decimals_at(s: &[u8], at: usize) -> usize
     3
 }
 
-// Whether the bits are a NaN's.
-fn is_nan_word(bits: u64) -> bool
-    ensures { λ r. ⌜ r ≡ nanBits binary64 bits ⌝ }
-{
-    0x7ff0_0000_0000_0000 < bits % 0x8000_0000_0000_0000
-}
-
-// The float of a word. The machine's conversion is undefined at a NaN's bits, so a NaN is made here.
-fn float_of(bits: u64) -> f64
-    ensures { λ r. ⌜ r ≡ ofBits binary64 bits ⌝ }
-{
-    if is_nan_word(bits) {
-        return 0.0 / 0.0;
-    }
-    f64::from_bits(bits)
-}
-
 fn real_at(s: &[u8], at: usize) -> f64
     requires { ⌜ at < 1000 ⌝ }
     ensures { λ r. ⌜ r ≡ realAt (drop at (now (s .entry))) ⌝ }
 {
-    float_of(number_at(s, at, 16, 16))
+    float::from_bits(number_at(s, at, 16, 16))
 }
 
 // As many reals as `into` holds, each behind a comma, from a place on.
@@ -183,9 +153,9 @@ fn seed_at(s: &[u8], at: usize) -> CandidateSeed
 fn unchecked_line(s: &[u8]) -> Line
     ensures { λ r. ⌜ r ≡ uncheckedLine (now (s .entry)) ⌝ }
 {
-    let a = decimals_at(s, 0);
+    let a = decimal_width_at(s, 0);
     let number = number_at(s, 0, 10, a);
-    let b = decimals_at(s, a + 1);
+    let b = decimal_width_at(s, a + 1);
     let round = number_at(s, a + 1, 10, b);
     let at = a + 1 + b;
     let seed = seed_at(s, at);
@@ -198,21 +168,20 @@ fn unchecked_line(s: &[u8]) -> Line
     }
 }
 
-// Whether s begins with w.
+// Whether s begins with w. All bytes are compared, also behind a difference: many at a time.
 fn begins_with(s: &[u8], w: &[u8]) -> bool
     ensures { λ r. ⌜ r ≡ begins (now (w .entry)) (now (s .entry)) ⌝ }
 {
+    if s.len() < w.len() {
+        return false;
+    }
+    let mut same = true;
     let mut i = 0;
     while i < w.len() {
-        if s.len() <= i {
-            return false;
-        }
-        if w[i] != s[i] {
-            return false;
-        }
+        same = same & (w[i] == s[i]);
         i += 1;
     }
-    true
+    same
 }
 
 fn count_newlines(s: &[u8]) -> usize

@@ -4,7 +4,7 @@ ghost use mathlib.Core.List.{[], _∷_, _++_, map};
 ghost use Prim.Native.Nat.{_+_, _*_, _<_, _≤_};
 ghost use lib.ListN.{length, replicate};
 ghost use Rattle.seed_rules.specs.Layout.{six};
-ghost use Rattle.journal_line.specs.Line.{digitByte, digits, decimals, decimal, bitsOf, real, reasonByte, eight, restOfLine, outcomeFields, recordable, writable, LineFits};
+ghost use Rattle.journal_line.specs.Line.{digitByte, digits, decimalWidth, decimal, real, reasonLetter, eight, restOfLine, outcomeFields, recordable, writable, LineFits};
 ghost use Rattle.journal_line.specs.Steps.{commaFields, Stored};
 ghost use Rattle.journal_line.specs.Writing.{Writes};
 use crate::Line;
@@ -13,15 +13,32 @@ use crate::ScoredFields;
 use crate::Written;
 use seed_rules::CandidateSeed;
 
-// The byte of a digit, lower case.
+// 0 to 9, then a to f.
+const DIGITS: [u8; 16] = [
+    48,
+    49,
+    50,
+    51,
+    52,
+    53,
+    54,
+    55,
+    56,
+    57,
+    97,
+    98,
+    99,
+    100,
+    101,
+    102,
+];
+
+// The byte of a digit.
 fn digit_byte(d: u64) -> u8
     requires { ⌜ d < 16 ⌝ }
     ensures { λ r. ⌜ r ≡ digitByte d ⌝ }
 {
-    if d < 10 {
-        return 48 + d as u8;
-    }
-    87 + d as u8
+    DIGITS[d as usize]
 }
 
 // The last w digits of n to a base, from the highest down: stored from the lowest up.
@@ -45,8 +62,8 @@ fn put_byte(out: &mut [u8], at: usize, b: u8)
     out[at] = b;
 }
 
-fn decimals_of(n: usize) -> usize
-    ensures { λ r. ⌜ (r ≡ decimals n) × (r ≤ 3) ⌝ }
+fn decimal_width(n: usize) -> usize
+    ensures { λ r. ⌜ (r ≡ decimalWidth n) × (r ≤ 3) ⌝ }
 {
     if n < 10 {
         return 1;
@@ -55,16 +72,6 @@ fn decimals_of(n: usize) -> usize
         return 2;
     }
     3
-}
-
-// The bits of a float; any NaN has the one pattern.
-fn bits_of(x: f64) -> u64
-    ensures { λ r. ⌜ r ≡ bitsOf x ⌝ }
-{
-    if x != x {
-        return 0x7ff8_0000_0000_0000;
-    }
-    f64::to_bits(x)
 }
 
 // Reals, each behind a comma.
@@ -76,7 +83,7 @@ fn put_reals(out: &mut [u8], at: usize, xs: &[f64])
     while i < xs.len() {
         let place = at + 17 * i;
         out[place] = 44;
-        put_digits(out, place + 1, 16, 16, bits_of(xs[i]));
+        put_digits(out, place + 1, 16, 16, float::to_bits(xs[i]));
         i += 1;
     }
 }
@@ -96,8 +103,8 @@ fn put_minuses(out: &mut [u8], at: usize)
 }
 
 // The letter of a skip reason.
-fn reason_byte(r: u8) -> u8
-    ensures { λ b. ⌜ b ≡ reasonByte r ⌝ }
+fn reason_letter(r: u8) -> u8
+    ensures { λ b. ⌜ b ≡ reasonLetter r ⌝ }
 {
     if r <= 1 {
         return 72;
@@ -141,7 +148,7 @@ fn put_outcome(out: &mut [u8], at: usize, outcome: Recorded) -> usize
             at + 139
         }
         Recorded::Skipped(reason) => {
-            put_byte(out, at + 1, reason_byte(reason));
+            put_byte(out, at + 1, reason_letter(reason));
             put_minuses(out, at + 2);
             put_byte(out, at + 18, 10);
             at + 19
@@ -153,7 +160,7 @@ fn is_recordable(outcome: Recorded) -> bool
     ensures { λ r. ⌜ r ≡ recordable outcome ⌝ }
 {
     match outcome {
-        Recorded::Scored(r) => !(r.score != r.score),
+        Recorded::Scored(r) => !float::is_nan(r.score),
         Recorded::Skipped(reason) => (1 <= reason) & (reason <= 4),
     }
 }
@@ -162,18 +169,18 @@ fn is_writable(line: Line) -> bool
     ensures { λ r. ⌜ r ≡ writable line ⌝ }
 {
     let outcome = line.outcome;
-    (line.number <= 655) & ((line.round <= 16) & is_recordable(outcome))
+    (line.number <= 655) & (line.round <= 16) & is_recordable(outcome)
 }
 
 // Number and round, parted by a comma; gives the place behind.
 fn put_head(out: &mut [u8], number: usize, round: usize) -> usize
     requires { ⌜ 7 ≤ length (now out) ⌝ }
-    ensures { λ r. ⌜ (r ≡ decimals number + (decimals round + 1)) × Stored (now (out .entry)) 0 (decimal number ++ 44 ∷ decimal round) (now (out .exit)) × (r ≤ 7) ⌝ }
+    ensures { λ r. ⌜ (r ≡ decimalWidth number + (decimalWidth round + 1)) × Stored (now (out .entry)) 0 (decimal number ++ 44 ∷ decimal round) (now (out .exit)) × (r ≤ 7) ⌝ }
 {
-    let n = decimals_of(number);
+    let n = decimal_width(number);
     put_digits(out, 0, 10, n, number as u64);
     put_byte(out, n, 44);
-    let r = decimals_of(round);
+    let r = decimal_width(round);
     put_digits(out, n + 1, 10, r, round as u64);
     n + (r + 1)
 }

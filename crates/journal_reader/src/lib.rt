@@ -13,10 +13,11 @@ pub struct Reader<'a> {
     pub at: usize,
 }
 
-pub fn new<'a>(bytes: &'a [u8]) -> Reader<'a>
-    ensures { λ r. ⌜ (r .bytes ≡ bytes .entry) × (r .at ≡ 0) ⌝ }
+// A reader of these bytes at a place, 0 for the whole journal.
+pub fn new<'a>(bytes: &'a [u8], at: usize) -> Reader<'a>
+    ensures { λ r. ⌜ (r .bytes ≡ bytes .entry) × (r .at ≡ at) ⌝ }
 {
-    Reader { bytes, at: 0 }
+    Reader { bytes, at }
 }
 
 // What stands at the reader's place.
@@ -24,13 +25,6 @@ pub fn next<'a>(r: Reader<'a>) -> Read
     ensures { λ s. ⌜ s ≡ readLine (now (r .entry .bytes)) (r .entry .at) ⌝ }
 {
     reading::read_line(r.bytes, r.at)
-}
-
-// A journal's first line.
-pub fn first(bytes: &[u8]) -> Read
-    ensures { λ r. ⌜ r ≡ readLine (now (bytes .entry)) 0 ⌝ }
-{
-    next(new(bytes))
 }
 
 // What stands at the reader's place; the reader moves behind a line, and stays at the end and at a line that is refused.
@@ -42,4 +36,11 @@ pub fn advance<'s, 'a>(r: &'s mut Reader<'a>) -> Read
     let next = reading::place_after(answer, at);
     r.at = next;
     answer
+}
+
+// What stands at a place of a journal, for callers that keep bytes and place themselves.
+pub fn read_at(bytes: &[u8], at: usize) -> Read
+    ensures { λ r. ⌜ r ≡ readLine (now (bytes .entry)) at ⌝ }
+{
+    next(new(bytes, at))
 }

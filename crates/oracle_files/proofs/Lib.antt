@@ -1,2 +1,1 @@
-mod FloatLaws
 mod WordLaws

@@ -3,7 +3,8 @@ use mathlib.Core.Bool.{Bool, true, false, _&&_, cond}
 use mathlib.Core.List.{List, [], _∷_}
 use Prim.Native.Nat.{ℕ, zero, suc, _+_, _-_, _*_}
 use lib.Dec.{ltb, leb, eqb}
-use lib.Ieee.{Float, toBits, binary64}
+use lib.Ieee.{Float}
+use Rattle.float.specs.Float.{bitsOf}
 use Rattle.oracle_files.specs.declared.words.Word.{Word}
 use Rattle.oracle_files.specs.declared.words.Word.the-variants.{Bits, Malformed}
 
@@ -23,7 +24,7 @@ wordOf = digitsOf 0 16
 
 -- the same bits
 unfoldable pub alike : Float → Float → Bool
-alike x y = eqb (toBits binary64 x) (toBits binary64 y)
+alike x y = eqb (bitsOf x) (bitsOf y)
 
 -- as many numbers, each alike
 unfoldable pub allAlike : List Float → List Float → Bool

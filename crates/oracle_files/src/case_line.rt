@@ -3,7 +3,6 @@ use crate::fields::plus;
 use crate::text::begins;
 use crate::text::tail;
 use crate::words::Word;
-use crate::words::float;
 use crate::words::read_word;
 
 // The word that the text begins with, where a space or the text's end stands behind it.
@@ -25,7 +24,7 @@ fn read_words(line: &[u8], from: usize, numbers: &mut [f64], first: usize) -> us
         let Word::Bits(word) = first_word(tail(line, at)) else {
             break;
         };
-        numbers[n] = float(word);
+        numbers[n] = float::from_bits(word);
         n += 1;
         at = plus(at, 17);
     }

@@ -2,7 +2,6 @@
 // each comparison says where the next piece has to stand, and all is met where that is the end.
 use crate::fields::part;
 use crate::fields::plus;
-use crate::words::float;
 use crate::words::same_numbers;
 
 // A number that was not met. No list is so long, so nothing is met behind it.
@@ -28,5 +27,5 @@ pub fn met_number(x: &[f64], at: usize, number: f64) -> usize {
 
 // The same for a whole number, which stands as the number of its bits.
 pub fn met_whole(x: &[f64], at: usize, n: u64) -> usize {
-    met_number(x, at, float(n))
+    met_number(x, at, float::from_bits(n))
 }

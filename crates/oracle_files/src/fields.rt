@@ -4,7 +4,6 @@
 // A read past the end gives 0, so that no caller has to show where a list ends: an index that wraps is such a place too. How many
 // inputs there are is tested against the operation's form.
 ghost use Prim.Native.Nat.{_≤_};
-use crate::words::bits;
 
 pub fn at_most(n: usize, limit: usize) -> usize
     ensures { λ r. ⌜ r ≤ limit ⌝ }
@@ -28,7 +27,7 @@ pub fn number_at(numbers: &[f64], i: usize) -> f64 {
 
 // A whole number, as the bits of the number that it stands as.
 pub fn whole_at(numbers: &[f64], i: usize) -> usize {
-    bits(number_at(numbers, i)) as usize
+    float::to_bits(number_at(numbers, i)) as usize
 }
 
 // The numbers from `at` on.

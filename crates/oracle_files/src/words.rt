@@ -1,7 +1,6 @@
-// Words of 16 hexadecimal digits, and the floats that they stand for.
+// Words of 16 hexadecimal digits, and when two numbers count as the same.
 ghost use mathlib.Core.Path.{_≡_};
 ghost use Prim.Native.Nat.{_≤_};
-ghost use lib.Ieee.{ofBits, toBits, nanBits, binary64};
 ghost use Rattle.oracle_files.specs.Words.{digitOf, wordOf, alike, allAlike};
 
 pub enum Word {
@@ -55,38 +54,11 @@ pub fn read_word(text: &[u8]) -> Word
     Word::Bits(value)
 }
 
-// Whether the bits are a NaN's.
-fn is_nan_word(bits: u64) -> bool
-    ensures { λ r. ⌜ r ≡ nanBits binary64 bits ⌝ }
-{
-    0x7ff0_0000_0000_0000 < bits % 0x8000_0000_0000_0000
-}
-
-// The float of a word. The machine's conversion is undefined at a NaN's bits, so a NaN is made here.
-pub fn float(bits: u64) -> f64
-    ensures { λ r. ⌜ r ≡ ofBits binary64 bits ⌝ }
-{
-    if is_nan_word(bits) {
-        return 0.0 / 0.0;
-    }
-    f64::from_bits(bits)
-}
-
-// The word of a float; of a NaN, the one that the stored files have.
-pub fn bits(x: f64) -> u64
-    ensures { λ r. ⌜ r ≡ toBits binary64 x ⌝ }
-{
-    if x != x {
-        return 0x7ff8_0000_0000_0000;
-    }
-    f64::to_bits(x)
-}
-
 // Whether two numbers have the same bits; a NaN has one word here.
 pub fn is_same(x: f64, y: f64) -> bool
     ensures { λ r. ⌜ r ≡ alike x y ⌝ }
 {
-    bits(x) == bits(y)
+    float::to_bits(x) == float::to_bits(y)
 }
 
 // Whether the two have as many numbers, each the same.

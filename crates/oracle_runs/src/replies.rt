@@ -2,7 +2,6 @@
 use oracle_files::expected::met;
 use oracle_files::expected::met_number;
 use oracle_files::expected::met_whole;
-use oracle_files::words::float;
 use oracle_files::words::wide;
 use score_best::Candidate;
 use search_answer::Answered;
@@ -16,7 +15,7 @@ pub fn candidate_numbers(candidate: Candidate) -> [f64; 14] {
     let k = camera.k;
     let b = camera.dist;
     [
-        float(candidate.number as u64),
+        float::from_bits(candidate.number as u64),
         k.fx,
         k.fy,
         k.cx,

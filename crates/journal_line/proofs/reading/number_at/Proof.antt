@@ -4,6 +4,7 @@ use mathlib.Core.Path.{_≡_, refl, ap, _∙_}
 use native.Mathlib.Omega.{arith}
 use lib.ListN.{drop}
 use Rattle.journal_line.specs.Reading.{numberAt}
+use Rattle.journal_line.specs.DigitLaws.{digit-below}
 use Rattle.journal_line.proofs.Bytes.{number-room, number-turn}
 use borrow.Author.Needs.{needs}
 use Rattle.journal_line.proofs.reading.number_at.Statement.{statement}
@@ -32,7 +33,7 @@ digit-of-requires : tie.Need-digit-of-requires Inv-loop μ-loop
 digit-of-requires c κs = search needs
 
 add-n : tie.Need-add-n Inv-loop μ-loop
-add-n c = let a = c .before .before .before .before .before .args in let l = c .before .before .before .loop in record { fits = number-room (a .base) (l .i) (a .w) (drop (a .at) (a .s .now)) (l .n) (c .digit-of .result) (search needs) (search needs) (search needs) (l .inv .1) (c .digit-of .ensures .1) }
+add-n c = let a = c .before .before .before .before .before .args in let l = c .before .before .before .loop in record { fits = number-room (a .base) (l .i) (a .w) (drop (a .at) (a .s .now)) (l .n) (c .digit-of .result) (search needs) (search needs) (search needs) (l .inv .1) (rw (c .digit-of .ensures) (digit-below (c .before .byte-at .result))) }
 
 add-i : tie.Need-add-i Inv-loop μ-loop
 add-i c = search needs
@@ -41,7 +42,7 @@ loop-less : tie.Need-loop-less Inv-loop μ-loop
 loop-less c = search needs
 
 loop-again : tie.Need-loop-again Inv-loop μ-loop
-loop-again c = let a = c .before .before .before .before .before .args in let l = c .before .before .before .loop in (search needs, number-turn (a .base) (l .i) (a .at) (a .s .now) (l .n) (c .digit-of .result) (c .before .byte-at .result) (l .inv .1) (c .before .byte-at .ensures) (c .digit-of .ensures .0))
+loop-again c = let a = c .before .before .before .before .before .args in let l = c .before .before .before .loop in (search needs, number-turn (a .base) (l .i) (a .at) (a .s .now) (l .n) (c .digit-of .result) (c .before .byte-at .result) (l .inv .1) (c .before .byte-at .ensures) (c .digit-of .ensures))
 
 returns : tie.Need-returns Inv-loop μ-loop
 returns c = let a = c .before .before .before .args in let l = c .before .loop in let e : l .i ≡ a .w = search needs in l .inv .1 ∙ ap (λ (k : ℕ). numberAt (a .base) k (drop (a .at) (a .s .now))) e

@@ -9,12 +9,12 @@ use Rattle.journal_line.proofs.reading.real_at.Tie as tie
 number-at-requires : tie.Need-number-at-requires
 number-at-requires c κs = search needs
 
-float-of-requires : tie.Need-float-of-requires
-float-of-requires c κs = search needs
+from-bits-requires : tie.Need-from-bits-requires
+from-bits-requires c κs = search needs
 
 returns : tie.Need-returns
 unfolding realAt
-returns c = c .float-of .ensures ∙ ap (ofBits binary64) (c .before .number-at .ensures)
+returns c = c .from-bits .ensures ∙ ap (ofBits binary64) (c .before .number-at .ensures)
 
 pub real-at-spec : {M : Type 1} → statement M
-real-at-spec = tie.close (tie.spec number-at-requires float-of-requires returns)
+real-at-spec = tie.close (tie.spec number-at-requires from-bits-requires returns)

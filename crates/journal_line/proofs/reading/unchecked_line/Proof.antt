@@ -4,17 +4,17 @@ use borrow.Author.Needs.{needs}
 use Rattle.journal_line.proofs.reading.unchecked_line.Statement.{statement}
 use Rattle.journal_line.proofs.reading.unchecked_line.Tie as tie
 
-decimals-at-requires : tie.Need-decimals-at-requires
-decimals-at-requires c κs = search needs
+decimal-width-at-requires : tie.Need-decimal-width-at-requires
+decimal-width-at-requires c κs = search needs
 
 number-at-requires : tie.Need-number-at-requires
 number-at-requires c κs = search needs
 
-add-decimals-at : tie.Need-add-decimals-at
-add-decimals-at c = search needs
+add-decimal-width-at : tie.Need-add-decimal-width-at
+add-decimal-width-at c = search needs
 
-decimals-at-requires-2 : tie.Need-decimals-at-requires-2
-decimals-at-requires-2 c κs = search needs
+decimal-width-at-requires-2 : tie.Need-decimal-width-at-requires-2
+decimal-width-at-requires-2 c κs = search needs
 
 add-number-at : tie.Need-add-number-at
 add-number-at c = search needs
@@ -42,19 +42,19 @@ returns c =
     let o = c .outcome-at in
     let d = c .before .seed-at in
     let r = c .before .before .number-at2 in
-    let b = c .before .before .before .decimals-at2 in
+    let b = c .before .before .before .decimal-width-at2 in
     let n = c .before .before .before .before .number-at in
-    let a = c .before .before .before .before .before .decimals-at in
+    let a = c .before .before .before .before .before .decimal-width-at in
     parts-are (c .before .before .before .before .before .before .before .args .s .now) (a .result) (b .result) (n .result) (r .result) (d .result) (o .result) (a .ensures .0) (n .ensures) (b .ensures .0) (r .ensures) (d .ensures) (o .ensures)
 
 pub unchecked-line-spec : {M : Type 1} → statement M
 unchecked-line-spec =
     tie.close
     (tie.spec
-    decimals-at-requires
+    decimal-width-at-requires
     number-at-requires
-    add-decimals-at
-    decimals-at-requires-2
+    add-decimal-width-at
+    decimal-width-at-requires-2
     add-number-at
     number-at-requires-2
     add-at

@@ -1,30 +1,16 @@
--- `journal_line::writing::digit_byte` meets its contract. Assumes nothing.
-use borrow.Author.Tests.{lt-ltb, le-ltb}
-use Rattle.journal_line.specs.Line.{digitByte}
+-- `journal_line::writing::digit_byte` meets its contract: antt computes the definition's sixteen values, and they are the table. Assumes nothing.
 use borrow.Author.Needs.{needs}
+use Rattle.common.specs.Table.{table-at}
+use Rattle.journal_line.specs.Line.{digitByte}
 use Rattle.journal_line.proofs.writing.digit_byte.Statement.{statement}
 use Rattle.journal_line.proofs.writing.digit_byte.Tie as tie
 
-cast-result : tie.Need-cast-result
-cast-result c = search needs
-
-add-result : tie.Need-add-result
-add-result c = search needs
+array-read-result : tie.Need-array-read-result
+array-read-result c = search needs
 
 returns : tie.Need-returns
 unfolding digitByte
-returns c = simp (lt-ltb _ _ (c .if1 .taken))
-
-cast-result-2 : tie.Need-cast-result-2
-cast-result-2 c = search needs
-
-add-result-2 : tie.Need-add-result-2
-add-result-2 c = search needs
-
-returns-2 : tie.Need-returns-2
-unfolding digitByte
-returns-2 c = simp (le-ltb _ _ (c .if1 .left))
+returns c = table-at digitByte 16 (c .args .d) 0 (search needs)
 
 pub digit-byte-spec : {M : Type 1} → statement M
-digit-byte-spec =
-    tie.close (tie.spec cast-result add-result returns cast-result-2 add-result-2 returns-2)
+digit-byte-spec = tie.close (tie.spec array-read-result returns)

@@ -1,5 +1,4 @@
 -- `journal_line::writing::is_recordable` meets its contract. Assumes nothing.
-use Rattle.float.specs.Order.{ne-self}
 use Rattle.journal_line.specs.Line.{recordable}
 use borrow.Author.Needs.{needs}
 use Rattle.journal_line.proofs.writing.is_recordable.Statement.{statement}
@@ -11,13 +10,16 @@ enum-known-outcome c = search needs
 enum-known-outcome-2 : tie.Need-enum-known-outcome-2
 enum-known-outcome-2 c = search needs
 
+is-nan-requires : tie.Need-is-nan-requires
+is-nan-requires c κs = search needs
+
 returns : tie.Need-returns
 unfolding recordable
-returns c = rw (c .before .before .outcome .given .1, ne-self (c .before .before .outcome .given .0 .0 .score))
+returns c = rw (c .before .before .outcome .given .1, c .is-nan .ensures)
 
 returns-2 : tie.Need-returns-2
 unfolding recordable
 returns-2 c = rw (c .before .outcome2 .given .1)
 
 pub is-recordable-spec : {M : Type 1} → statement M
-is-recordable-spec = tie.close (tie.spec enum-known-outcome enum-known-outcome-2 returns returns-2)
+is-recordable-spec = tie.close (tie.spec enum-known-outcome is-nan-requires enum-known-outcome-2 returns returns-2)

@@ -4,8 +4,8 @@ use borrow.Author.Needs.{needs}
 use Rattle.journal_line.proofs.writing.put_head.Statement.{statement}
 use Rattle.journal_line.proofs.writing.put_head.Tie as tie
 
-decimals-of-requires : tie.Need-decimals-of-requires
-decimals-of-requires c κs = search needs
+decimal-width-requires : tie.Need-decimal-width-requires
+decimal-width-requires c κs = search needs
 
 put-digits-requires : tie.Need-put-digits-requires
 put-digits-requires c κs = search needs
@@ -13,8 +13,8 @@ put-digits-requires c κs = search needs
 put-byte-requires : tie.Need-put-byte-requires
 put-byte-requires c κs = search needs
 
-decimals-of-requires-2 : tie.Need-decimals-of-requires-2
-decimals-of-requires-2 c κs = search needs
+decimal-width-requires-2 : tie.Need-decimal-width-requires-2
+decimal-width-requires-2 c κs = search needs
 
 add-put-digits : tie.Need-add-put-digits
 add-put-digits c = search needs
@@ -39,16 +39,16 @@ returns c =
     let d₁ = b .before .before .before .before in
     let n₁ = d₁ .before .before in
     let a = n₁ .before .before .args in
-    (search needs, head-stored (a .number) (a .round) (n₁ .decimals-of .result) (n₂ .decimals-of2 .result) _ _ _ _ (n₁ .decimals-of .ensures .0) (n₂ .decimals-of2 .ensures .0) (d₁ .put-digits .ensures) (b .put-byte .ensures) (d₂ .put-digits2 .ensures), search needs)
+    (search needs, head-stored (a .number) (a .round) (n₁ .decimal-width .result) (n₂ .decimal-width2 .result) _ _ _ _ (n₁ .decimal-width .ensures .0) (n₂ .decimal-width2 .ensures .0) (d₁ .put-digits .ensures) (b .put-byte .ensures) (d₂ .put-digits2 .ensures), search needs)
 
 pub put-head-spec : {M : Type 1} → statement M
 put-head-spec =
     tie.close
     (tie.spec
-    decimals-of-requires
+    decimal-width-requires
     put-digits-requires
     put-byte-requires
-    decimals-of-requires-2
+    decimal-width-requires-2
     add-put-digits
     put-digits-requires-2
     add-result

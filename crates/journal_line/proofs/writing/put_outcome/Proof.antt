@@ -43,8 +43,8 @@ enum-known-outcome-2 c = search needs
 add-put-byte-3 : tie.Need-add-put-byte-3
 add-put-byte-3 c = search needs
 
-reason-byte-requires : tie.Need-reason-byte-requires
-reason-byte-requires c κs = search needs
+reason-letter-requires : tie.Need-reason-letter-requires
+reason-letter-requires c κs = search needs
 
 put-byte-requires-4 : tie.Need-put-byte-requires-4
 put-byte-requires-4 c κs = search needs
@@ -88,7 +88,7 @@ returns-2 c =
     let rb = b₂ .before in
     let o = rb .before .before .before in
     let b₁ = o .before .before .before .before in
-    skipped-stored (b₁ .before .before .before .args .at) _ _ _ _ _ _ (o .outcome2 .given .0 .0) (rb .reason-byte .result) (o .outcome2 .given .1) (rb .reason-byte .ensures) (b₁ .put-byte .ensures) (b₂ .put-byte4 .ensures) (ms .put-minuses .ensures) (b₃ .put-byte5 .ensures)
+    skipped-stored (b₁ .before .before .before .args .at) _ _ _ _ _ _ (o .outcome2 .given .0 .0) (rb .reason-letter .result) (o .outcome2 .given .1) (rb .reason-letter .ensures) (b₁ .put-byte .ensures) (b₂ .put-byte4 .ensures) (ms .put-minuses .ensures) (b₃ .put-byte5 .ensures)
 
 pub put-outcome-spec : {M : Type 1} → statement M
 put-outcome-spec =
@@ -107,7 +107,7 @@ put-outcome-spec =
     add-result
     enum-known-outcome-2
     add-put-byte-3
-    reason-byte-requires
+    reason-letter-requires
     put-byte-requires-4
     add-put-minuses
     put-minuses-requires

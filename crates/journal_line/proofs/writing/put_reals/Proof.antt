@@ -1,7 +1,7 @@
 -- `journal_line::writing::put_reals` meets its contract: what is left to store, from here, is the whole. Assumes nothing.
-use Prim.Native.Nat.{ℕ, _≤_, _+_, _-_, _*_}
-use mathlib.Core.Path.{_≡_, refl, ap, _∙_}
-use mathlib.Core.List.{List, map}
+use Prim.Native.Nat.{_≤_, _+_, _-_, _*_}
+use mathlib.Core.Path.{_≡_, refl, _∙_}
+use mathlib.Core.List.{map}
 use native.Mathlib.Nat.{add-zero}
 use native.Mathlib.Omega.{arith}
 use lib.ListN.{length, drop, length-set}
@@ -34,14 +34,14 @@ slice-write-out c = search needs
 add-put-digits : tie.Need-add-put-digits Inv-loop μ-loop
 add-put-digits c = search needs
 
-mul-bits-of : tie.Need-mul-bits-of Inv-loop μ-loop
-mul-bits-of c = search needs
+mul-to-bits : tie.Need-mul-to-bits Inv-loop μ-loop
+mul-to-bits c = search needs
 
-shared-slice-read-bits-of : tie.Need-shared-slice-read-bits-of Inv-loop μ-loop
-shared-slice-read-bits-of c = search needs
+shared-slice-read-to-bits : tie.Need-shared-slice-read-to-bits Inv-loop μ-loop
+shared-slice-read-to-bits c = search needs
 
-bits-of-requires : tie.Need-bits-of-requires Inv-loop μ-loop
-bits-of-requires c κs = search needs
+to-bits-requires : tie.Need-to-bits-requires Inv-loop μ-loop
+to-bits-requires c κs = search needs
 
 put-digits-requires : tie.Need-put-digits-requires Inv-loop μ-loop
 put-digits-requires c κs = (simp length-set (omega arith), search needs, search needs)
@@ -57,11 +57,10 @@ loop-again c =
     let d = c .before .before in
     let l = d .before .before .before .before .before .loop in
     let a = d .before .before .before .before .before .before .before .before .args in
-    let k = d .before .bits-of in (
+    let k = d .before .to-bits in (
       search needs,
       d .put-digits .ensures .same-long ∙ simp length-set (l .inv .1),
-      ap (λ (m : List ℕ). sets m (a .at + 17 * (l .i + 1)) (commaFields (map real (drop (l .i + 1) (a .xs .now))))) (d .put-digits .ensures .now-is)
-          ∙ reals-turn (l .out) _ (a .at) (l .i) (a .xs .now) _ (k .result) (search needs) (k .ensures) (l .inv .2),
+      reals-turn (l .out) _ (a .at) (l .i) (a .xs .now) _ (k .result) (search needs) (k .ensures) (l .inv .2) _ (d .put-digits .ensures .now-is),
     )
 
 same-length : tie.Need-same-length Inv-loop μ-loop
@@ -83,9 +82,9 @@ put-reals-spec =
     add-place
     slice-write-out
     add-put-digits
-    mul-bits-of
-    shared-slice-read-bits-of
-    bits-of-requires
+    mul-to-bits
+    shared-slice-read-to-bits
+    to-bits-requires
     put-digits-requires
     add-i
     loop-less

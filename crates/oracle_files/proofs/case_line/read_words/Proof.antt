@@ -28,8 +28,8 @@ enum-known-word c = search needs
 enum-told : tie.Need-enum-told Inv-loop μ-loop
 enum-told c = search needs
 
-float-requires : tie.Need-float-requires Inv-loop μ-loop
-float-requires c κs = search needs
+from-bits-requires : tie.Need-from-bits-requires Inv-loop μ-loop
+from-bits-requires c κs = search needs
 
 mul-numbers : tie.Need-mul-numbers Inv-loop μ-loop
 mul-numbers c = search needs
@@ -72,7 +72,7 @@ read-words-spec =
     first-word-requires
     enum-known-word
     enum-told
-    float-requires
+    from-bits-requires
     mul-numbers
     slice-write-numbers
     add-n
