@@ -12,7 +12,7 @@ use lib.Ieee.{Float}
 use Rattle.common.specs.Tests.{case}
 use Rattle.score_best.specs.declared.Candidate.{Candidate}
 use Rattle.score_best.specs.Best.{chosen}
-use Rattle.journal_line.specs.Line.{journal}
+use Rattle.journal_line.specs.Line.{journalBytes}
 use Rattle.journal_line.specs.Reading.{refused, Lines}
 use Rattle.journal_line.specs.Whole.{whole-lines}
 use Rattle.book.specs.Book.{Inputs, Book, entries, current, runBest}
@@ -154,5 +154,5 @@ accepted i l bs f n s h =
       wins = book-wins i b (w .best) (kept-walked i (length l) a l bs .good) (w .chosen-is);
       read-through = ends;
       lines-are = sym lines;
-      bytes-are = whole-lines bs ends .bytes-are ∙ ap journal lines;
+      bytes-are = whole-lines bs ends .bytes-are ∙ ap journalBytes lines;
     }

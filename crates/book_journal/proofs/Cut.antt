@@ -15,7 +15,7 @@ use Rattle.common.specs.All.{all-right}
 use Rattle.common.specs.Each.{All}
 use Rattle.seed_rules.specs.Layout.{written}
 use Rattle.journal_line.specs.declared.Line.{Line}
-use Rattle.journal_line.specs.Line.{lineBytes, LineFits, Writable, journal}
+use Rattle.journal_line.specs.Line.{lineBytes, LineFits, Writable, journalBytes}
 use Rattle.journal_line.specs.Reading.{newlines, Lines, readJournal}
 use Rattle.journal_line.specs.Numbers.{newlines-append}
 use Rattle.journal_line.specs.Whole.{whole-lines}
@@ -116,46 +116,46 @@ module _ (i : Inputs) (l : List Float) (bs : List ℕ) where
 
     kept-journal : take (reportOn bs walk .kept) bs ≡ journalOf (walk .book)
     unfolding reportOn
-    kept-journal = ap (take (length (keptOf bs walk))) kept-and-rest ∙ take-append-seam (keptOf bs walk) (restOf bs walk) ∙ ap journal taken-lines
+    kept-journal = ap (take (length (keptOf bs walk))) kept-and-rest ∙ take-append-seam (keptOf bs walk) (restOf bs walk) ∙ ap journalBytes taken-lines
 
     -- what stands behind them
-    rest-is : (x : List ℕ) → bs ≡ journal (linesOf (walk .book)) ++ x → restOf bs walk ≡ x
+    rest-is : (x : List ℕ) → bs ≡ journalBytes (linesOf (walk .book)) ++ x → restOf bs walk ≡ x
     rest-is x e =
-        ap (λ (z : List Line). drop (length (journal z)) bs) taken-lines
-        ∙ ap (drop (length (journal (linesOf (walk .book))))) e
-        ∙ drop-append-seam (journal (linesOf (walk .book))) x
+        ap (λ (z : List Line). drop (length (journalBytes z)) bs) taken-lines
+        ∙ ap (drop (length (journalBytes (linesOf (walk .book))))) e
+        ∙ drop-append-seam (journalBytes (linesOf (walk .book))) x
 
     nothing-behind : walk .stop ≡ allTaken → restOf bs walk ≡ []
     nothing-behind e =
         let r = same-as-reader i (length l) a f l bs .all-read e in
         let w = whole-lines bs (ap (λ (z : Lines). z .ending) r) in
-        rest-is [] (w .bytes-are ∙ ap (λ (z : Lines). journal (z .lines)) r ∙ sym (append-nil (journal (linesOf (walk .book)))))
+        rest-is [] (w .bytes-are ∙ ap (λ (z : Lines). journalBytes (z .lines)) r ∙ sym (append-nil (journalBytes (linesOf (walk .book)))))
 
     no-line-behind : walk .stop ≡ notOfForm → (restOf bs walk ≡ [] → ⊥) × NoLine (restOf bs walk)
     no-line-behind e =
         let r = same-as-reader i (length l) a f l bs .not-read e in
         let w = whole-front bs in
-        let q : restOf bs walk ≡ w .rest = rest-is (w .rest) (w .bytes-are ∙ ap (λ (z : Lines). journal (z .lines) ++ w .rest) r) in
+        let q : restOf bs walk ≡ w .rest = rest-is (w .rest) (w .bytes-are ∙ ap (λ (z : Lines). journalBytes (z .lines) ++ w .rest) r) in
         rw q (w .before-end (suc (walk .taken)) (ap (λ (z : Lines). z .ending) r), whole-rest bs)
 
     other-line-behind : walk .stop ≡ notTheRun → (m : Line) × (tail : List ℕ) × LineFits m × Writable m × (restOf bs walk ≡ lineBytes m ++ tail) × (follows (walk .book) m ≡ false)
-    unfolding journal
+    unfolding journalBytes
     other-line-behind e =
         let r = same-as-reader i (length l) a f l bs .not-following e in
         let m = r .0 in
         let ms = r .1 in
         let ls = linesOf (walk .book) in
         let w = whole-front bs in
-        let q : restOf bs walk ≡ lineBytes m ++ (journal ms ++ w .rest) =
-        rest-is (lineBytes m ++ (journal ms ++ w .rest))
+        let q : restOf bs walk ≡ lineBytes m ++ (journalBytes ms ++ w .rest) =
+        rest-is (lineBytes m ++ (journalBytes ms ++ w .rest))
         (w .bytes-are
-        ∙ ap (λ (z : List Line). journal z ++ w .rest) (r .2)
+        ∙ ap (λ (z : List Line). journalBytes z ++ w .rest) (r .2)
         ∙ ap (λ (z : List ℕ). z ++ w .rest) (journal-append ls (m ∷ ms))
-        ∙ append-assoc (journal ls) (lineBytes m ++ journal ms) (w .rest)
-        ∙ ap (λ (z : List ℕ). journal ls ++ z) (append-assoc (lineBytes m) (journal ms) (w .rest))) in
+        ∙ append-assoc (journalBytes ls) (lineBytes m ++ journalBytes ms) (w .rest)
+        ∙ ap (λ (z : List ℕ). journalBytes ls ++ z) (append-assoc (lineBytes m) (journalBytes ms) (w .rest))) in
         let ok = all-right LineFits ls (m ∷ ms) (rw (r .2) at (w .lines-fit)) in
         let can = all-right Writable ls (m ∷ ms) (rw (r .2) at (w .can-be-written)) in
-        (m, journal ms ++ w .rest, ok .0, can .0, q, r .3)
+        (m, journalBytes ms ++ w .rest, ok .0, can .0, q, r .3)
 
     walked-back : GivesBack i l bs (walk .book) (walk .list) (reportOn bs walk)
     unfolding reportOn
@@ -275,11 +275,11 @@ module _ (i : Inputs) (b : Book) (s : Sound i b) (l : List Float) (at : ℕ) whe
   cut-taken : walked i l front .taken ≡ cut .whole
   cut-taken = ap (λ (z : Walked). z .taken) cut-walked
 
-  cut-kept : keptOf front (walked i l front) ≡ journal whole
-  cut-kept = ap journal (ap (λ (k : ℕ). take k (readJournal front .lines)) cut-taken ∙ ap (take (cut .whole)) cut-read ∙ take-twice (cut .whole) (linesOf b))
+  cut-kept : keptOf front (walked i l front) ≡ journalBytes whole
+  cut-kept = ap journalBytes (ap (λ (k : ℕ). take k (readJournal front .lines)) cut-taken ∙ ap (take (cut .whole)) cut-read ∙ take-twice (cut .whole) (linesOf b))
 
   cut-rest : restOf front (walked i l front) ≡ cut .part
-  cut-rest = ap (λ (z : List ℕ). drop (length z) front) cut-kept ∙ ap (drop (length (journal whole))) (cut .cut-is) ∙ drop-append-seam (journal whole) (cut .part)
+  cut-rest = ap (λ (z : List ℕ). drop (length z) front) cut-kept ∙ ap (drop (length (journalBytes whole))) (cut .cut-is) ∙ drop-append-seam (journalBytes whole) (cut .part)
 
   -- its book has as many entries as it took lines
   pub cut-entries : entries (walked i l front .book) ≡ kept
@@ -306,7 +306,7 @@ cut-anywhere i h f k at l =
       part = c .part;
       cut-is = c .cut-is;
       no-newline = c .no-newline;
-      after-newline = λ t e. behind-newline (journal (take (c .whole) (linesOf b))) (c .part) t (sym (c .cut-is) ∙ e) (c .no-newline);
+      after-newline = λ t e. behind-newline (journalBytes (take (c .whole) (linesOf b))) (c .part) t (sym (c .cut-is) ∙ e) (c .no-newline);
       kept-lines = unfold reportOn in cut-taken i b s l at;
       kept-bytes = unfold reportOn in ap length (cut-kept i b s l at);
       dropped-part = unfold reportOn in ap length (cut-rest i b s l at);

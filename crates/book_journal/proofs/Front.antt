@@ -11,7 +11,7 @@ use Rattle.common.specs.Tests.{case}
 use Rattle.common.specs.Each.{All}
 use Rattle.seed_rules.specs.Layout.{written}
 use Rattle.journal_line.specs.declared.Line.{Line}
-use Rattle.journal_line.specs.Line.{lineBytes, journal}
+use Rattle.journal_line.specs.Line.{lineBytes, journalBytes}
 use Rattle.journal_line.specs.Reading.{lineNumber, ended, readJournal}
 use Rattle.journal_line.specs.Whole.{whole-reading, whole-lines}
 use Rattle.journal_line.specs.Fronts.{whole-front, front-read-first, line-number, journal-append}
@@ -92,23 +92,23 @@ all-take P zero xs h = tt
 all-take P (suc n) [] h = tt
 all-take P (suc n) (x ∷ xs) h = (h .0, all-take P n xs (h .1))
 
-take-longer : (k n : ℕ) (ls : List Line) → k ≤ n → length (journal (take k ls)) ≤ length (journal (take n ls))
-unfolding journal
+take-longer : (k n : ℕ) (ls : List Line) → k ≤ n → length (journalBytes (take k ls)) ≤ length (journalBytes (take n ls))
+unfolding journalBytes
 take-longer zero n ls h = omega arith
 take-longer (suc k) zero ls h = absurd (omega arith)
 take-longer (suc k) (suc n) [] h = omega arith
-take-longer (suc k) (suc n) (l ∷ ls) h = omega (arith, length-append (lineBytes l) (journal (take k ls)), length-append (lineBytes l) (journal (take n ls)), take-longer k n ls (omega arith))
+take-longer (suc k) (suc n) (l ∷ ls) h = omega (arith, length-append (lineBytes l) (journalBytes (take k ls)), length-append (lineBytes l) (journalBytes (take n ls)), take-longer k n ls (omega arith))
 
 -- ---- of a journal
 -- the bytes of its first lines, and all that follows them
-pub front-bytes : (bs : List ℕ) (n : ℕ) → (rest : List ℕ) × (bs ≡ journal (take n (readJournal bs .lines)) ++ rest)
+pub front-bytes : (bs : List ℕ) (n : ℕ) → (rest : List ℕ) × (bs ≡ journalBytes (take n (readJournal bs .lines)) ++ rest)
 front-bytes bs n =
     let w = whole-front bs in
     let ls = readJournal bs .lines in
-    let e : journal ls ≡ journal (take n ls) ++ journal (drop n ls) = ap journal (sym (take-append-drop n ls)) ∙ journal-append (take n ls) (drop n ls) in
-    (journal (drop n ls) ++ w .rest, w .bytes-are ∙ ap (λ (z : List ℕ). z ++ w .rest) e ∙ append-assoc (journal (take n ls)) (journal (drop n ls)) (w .rest))
+    let e : journalBytes ls ≡ journalBytes (take n ls) ++ journalBytes (drop n ls) = ap journalBytes (sym (take-append-drop n ls)) ∙ journal-append (take n ls) (drop n ls) in
+    (journalBytes (drop n ls) ++ w .rest, w .bytes-are ∙ ap (λ (z : List ℕ). z ++ w .rest) e ∙ append-assoc (journalBytes (take n ls)) (journalBytes (drop n ls)) (w .rest))
 
-pub front-reads : (bs : List ℕ) (n : ℕ) → readJournal (journal (take n (readJournal bs .lines))) ≡ record { lines = take n (readJournal bs .lines); ending = ended }
+pub front-reads : (bs : List ℕ) (n : ℕ) → readJournal (journalBytes (take n (readJournal bs .lines))) ≡ record { lines = take n (readJournal bs .lines); ending = ended }
 front-reads bs n =
     let w = whole-front bs in
     let ls = readJournal bs .lines in
@@ -116,11 +116,11 @@ front-reads bs n =
 
 -- lines that are read of a front of it are read of all of it first
 read-of-front : (bs : List ℕ) (at : ℕ) → readJournal (take at bs) .ending ≡ ended
-    → (take at bs ≡ journal (readJournal (take at bs) .lines)) × (take (length (readJournal (take at bs) .lines)) (readJournal bs .lines) ≡ readJournal (take at bs) .lines)
+    → (take at bs ≡ journalBytes (readJournal (take at bs) .lines)) × (take (length (readJournal (take at bs) .lines)) (readJournal bs .lines) ≡ readJournal (take at bs) .lines)
 read-of-front bs at e =
     let w = whole-lines (take at bs) e in
     let ls = readJournal (take at bs) .lines in
-    let b : journal ls ++ drop at bs ≡ bs = ap (λ (z : List ℕ). z ++ drop at bs) (sym (w .bytes-are)) ∙ take-append-drop at bs in
+    let b : journalBytes ls ++ drop at bs ≡ bs = ap (λ (z : List ℕ). z ++ drop at bs) (sym (w .bytes-are)) ∙ take-append-drop at bs in
     let f = front-read-first ls (drop at bs) (w .lines-fit) (w .can-be-written) in
     (w .bytes-are, ap (λ (z : List ℕ). take (length ls) (readJournal z .lines)) (sym b) ∙ ap (take (length ls)) (f .lines-are) ∙ take-append-seam ls (f .more))
 
@@ -134,7 +134,7 @@ front-alone i l bs =
     let n = walked i l bs .taken in
     let f = fronts o m 0 ls x in
     let t : f .count ≡ n = let h = f .taken-is in omega arith in
-    let kept = journal (take n ls) in
+    let kept = journalBytes (take n ls) in
     let e : walked i l kept ≡ fully (walked i l bs) = rw (front-reads bs n) (rw t at (f .alone)) in
     let g = front-bytes bs n in
     record {
@@ -164,7 +164,7 @@ front-alone i l bs =
         let d : walkFrom o m 0 (take k ls) allTaken .stop ≡ allTaken = rw (p .1) c in
         let u : k ≤ length ls = omega (arith, ap length (p .1), length-take k ls) in
         let v : k ≤ walked i l bs .taken = let g = f .longest k u d in let y = f .taken-is in omega arith in
-        let s : at ≡ length (journal (take k ls)) = at-length at h ∙ ap length (p .0) ∙ ap (λ (z : List Line). length (journal z)) (sym (p .1)) in
+        let s : at ≡ length (journalBytes (take k ls)) = at-length at h ∙ ap length (p .0) ∙ ap (λ (z : List Line). length (journalBytes z)) (sym (p .1)) in
         let y = take-longer k (walked i l bs .taken) ls v in
         omega arith
       where

@@ -11,7 +11,7 @@ use lib.Seq.{take-at, drop-at}
 use Rattle.common.specs.Tests.{case}
 use Rattle.common.specs.Each.{All}
 use Rattle.journal_line.specs.declared.Line.{Line}
-use Rattle.journal_line.specs.Line.{journal}
+use Rattle.journal_line.specs.Line.{journalBytes}
 use Rattle.journal_line.specs.Fronts.{journal-append}
 use Rattle.book.specs.Calls.{Call, next}
 use Rattle.book.specs.Book.{Inputs, demand, Entry, Book, entries, number, opened, withWaiting, bookEnter, Kept as Answer, bookNext, bookCall, replies, after}
@@ -137,4 +137,4 @@ module _ (i : Inputs) (h : History i) where
       let g = grown b (h .calls) in
       let e : linesOf (bookAt h) ≡ linesOf b ++ map lineOf (g .0) = ap (map lineOf) (g .1) ∙ map-append lineOf (entries b) (g .0) in
       let d : drop (number b) (linesOf (bookAt h)) ≡ map lineOf (g .0) = ap (drop (number b)) e ∙ drop-at (linesOf b) (map lineOf (g .0)) (number b) (length-map (entries b) lineOf) in
-      ap journal e ∙ journal-append (linesOf b) (map lineOf (g .0)) ∙ ap (λ (z : List Line). journalOf b ++ journal z) (sym d)
+      ap journalBytes e ∙ journal-append (linesOf b) (map lineOf (g .0)) ∙ ap (λ (z : List Line). journalOf b ++ journalBytes z) (sym d)

@@ -39,7 +39,7 @@ use Rattle.score_best.specs.declared.Candidate.{Candidate}
 use Rattle.score_best.specs.Best.{Chosen, nothing, chosen, bestOf}
 use Rattle.score_best.specs.Order.{found-leads}
 use Rattle.journal_line.specs.declared.Line.{Line}
-use Rattle.journal_line.specs.Line.{Fits, recorded, LineFits}
+use Rattle.journal_line.specs.Line.{Fits, recordedNumbers, LineFits}
 use Rattle.book.specs.Calls.{Call, next, seed, answer, ask}
 use Rattle.book.specs.Book.{Inputs, demand, Entry, Book, entries, noSeed, current, scoredOf, roundBest, runBest, orElse, firstList, listAround, opened, withWaiting, withEntry, withRound, withEnd, bookEnter, Kept, bookCall, after}
 use Rattle.book.proofs.Cases.{case-outcome}
@@ -102,7 +102,7 @@ around-fits i r w h =
 
 -- ---- an outcome's numbers, as its line has them
 abbrev pub HeldOutcome : Outcome → Type 0
-HeldOutcome o = AllFit (recorded (recordedOf o))
+HeldOutcome o = AllFit (recordedNumbers (recordedOf o))
 
 bound-fits : Fits tangentialBound
 bound-fits = ofBits-fits binary64 0x3fa9_9999_9999_999a

@@ -9,7 +9,8 @@ use lib.Ieee.{Float, binary64, ofBits, lt, isNan}
 use lib.Ieee.Fits.{add-fits}
 use Rattle.common.specs.Tests.{both-true}
 use Rattle.float.specs.Binary64.{_+₆₄_}
-use Rattle.float.specs.Float.{isFinite}
+use Rattle.float.specs.Float.{bitsOf, isFinite}
+use Rattle.float.specs.Bits.{bits-back}
 use Rattle.float.specs.Literals.{plusZero}
 use Rattle.camera_models.specs.declared.math.Pt2.{Pt2}
 use Rattle.camera_tilt.specs.declared.sensor.ScheimpflugParams.{ScheimpflugParams}
@@ -27,8 +28,7 @@ use Rattle.journal_line.specs.declared.ScoredFields.{ScoredFields}
 use Rattle.journal_line.specs.declared.Recorded.{Recorded}
 use Rattle.journal_line.specs.declared.Recorded.the-variants as line
 use Rattle.journal_line.specs.declared.Line.{Line}
-use Rattle.journal_line.specs.Line.{bitsOf, recordable, writable, Writable, Fits, recorded, LineFits}
-use Rattle.journal_line.specs.FieldLaws.{bits-back}
+use Rattle.journal_line.specs.Line.{recordable, writable, Writable, Fits, recordedNumbers, LineFits}
 use Rattle.book.specs.Book.{Inputs, Book, number, current}
 use Rattle.book.proofs.Moves.{entry, Stands}
 use Rattle.book_journal.specs.Lines.{recordedOf, lineOf}
@@ -97,7 +97,7 @@ pub score-fits : (mean : Float) (c : PinholeCamera) (t : ScheimpflugParams) (cen
 unfolding scoreOf
 score-fits mean c t center = add-fits binary64 (mean +₆₄ distortionPenalty (c .dist) +₆₄ tiltPenalty t) (centrePenalty (c .k) center)
 
-scored-stands : (center : Pt2) (t : ScheimpflugParams) (m : ScoredFields) → isNan (m .score) ≡ false → AllFit (recorded (line.Scored m)) → canStand center t (line.Scored m) ≡ true
+scored-stands : (center : Pt2) (t : ScheimpflugParams) (m : ScoredFields) → isNan (m .score) ≡ false → AllFit (recordedNumbers (line.Scored m)) → canStand center t (line.Scored m) ≡ true
     → ScoredFacts t center (scoringIn m)
 unfolding canStand validCamera finiteIntrinsics finiteDistortion within
 scored-stands center t m n f h =
@@ -135,7 +135,7 @@ scored-stands center t m n f h =
       score-number = n;
     }
 
-recorded-stands : (i : Inputs) (t : ScheimpflugParams) (r : Recorded) → recordable r ≡ true → AllFit (recorded r) → canStand (i .center) t r ≡ true → Stands i t (outcomeIn r)
+recorded-stands : (i : Inputs) (t : ScheimpflugParams) (r : Recorded) → recordable r ≡ true → AllFit (recordedNumbers r) → canStand (i .center) t r ≡ true → Stands i t (outcomeIn r)
 unfolding recordable
 recorded-stands i t (line.Skipped n) w f h = let p = both-true (leb 1 n) (leb n 4) w in (leb-true 1 n (p .0), leb-true n 4 (p .1))
 recorded-stands i t (line.Scored m) w f h = scored-stands (i .center) t m (not-true (isNan (m .score)) w) f h
@@ -147,7 +147,7 @@ recorded-back (line.Scored m) = refl
 -- ---- a line beside a book
 recordable-of : (l : Line) → Writable l → recordable (l .outcome) ≡ true
 unfolding writable
-recordable-of l h = both-true (leb (l .round) 16) (recordable (l .outcome)) (both-true (leb (l .number) 655) (leb (l .round) 16 && recordable (l .outcome)) h .1) .1
+recordable-of l h = both-true (leb (l .number) 655 && leb (l .round) 16) (recordable (l .outcome)) h .1
 
 module _ (b : Book) where
   -- the line of an entry can follow the book that it was entered in

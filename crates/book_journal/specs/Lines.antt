@@ -6,7 +6,7 @@ use Rattle.score_outcome.specs.declared.Outcome.the-variants.{Skipped, Scored}
 use Rattle.journal_line.specs.declared.Recorded.{Recorded}
 use Rattle.journal_line.specs.declared.Recorded.the-variants as line
 use Rattle.journal_line.specs.declared.Line.{Line}
-use Rattle.journal_line.specs.Line.{journal}
+use Rattle.journal_line.specs.Line.{journalBytes}
 use Rattle.book.specs.Book.{Entry, Book, entries}
 
 -- An outcome as a line records it: the skip's reason, or score, mean and the camera that was scored, so with p1 and p2 as they were damped.
@@ -23,4 +23,4 @@ abbrev pub linesOf : Book → List Line
 linesOf b = map lineOf (entries b)
 
 abbrev pub journalOf : Book → List ℕ
-journalOf b = journal (linesOf b)
+journalOf b = journalBytes (linesOf b)

@@ -6,7 +6,7 @@ use mathlib.Core.List.{List, [], _∷_}
 use lib.Dec.{eqb}
 use lib.ListN.{length}
 use lib.Ieee.{Float, lt}
-use Rattle.float.specs.Float.{isFinite}
+use Rattle.float.specs.Float.{bitsOf, isFinite}
 use Rattle.float.specs.Literals.{plusZero}
 use Rattle.camera_models.specs.declared.math.Pt2.{Pt2}
 use Rattle.camera_tilt.specs.declared.sensor.ScheimpflugParams.{ScheimpflugParams}
@@ -24,7 +24,6 @@ use Rattle.journal_line.specs.declared.ScoredFields.{ScoredFields}
 use Rattle.journal_line.specs.declared.Recorded.{Recorded}
 use Rattle.journal_line.specs.declared.Recorded.the-variants as line
 use Rattle.journal_line.specs.declared.Line.{Line}
-use Rattle.float.specs.Float.{bitsOf}
 use Rattle.journal_line.specs.Reading.{Ending, ended, refused, unread, readJournal}
 use Rattle.book.specs.Book.{Inputs, Book, number, current, runBest, firstList, opened, bookEnter}
 use Rattle.book.specs.Theorem.{optionsOf}

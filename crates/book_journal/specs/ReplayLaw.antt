@@ -10,7 +10,7 @@ use Rattle.common.specs.Each.{All}
 use Rattle.seed_rules.specs.Layout.{flat}
 use Rattle.score_best.specs.declared.Candidate.{Candidate}
 use Rattle.journal_line.specs.declared.Line.{Line}
-use Rattle.journal_line.specs.Line.{LineFits, Writable, journal}
+use Rattle.journal_line.specs.Line.{LineFits, Writable, journalBytes}
 use Rattle.journal_line.specs.Reading.{lineNumber, ended, refused, readJournal}
 use Rattle.book.specs.Book.{Inputs, demand, Book, entries, number}
 use Rattle.book.specs.Conditions.{FirstHolds, NoneHolds, conditions}
@@ -86,7 +86,7 @@ StartRefuses i l bs = (n : ℕ) → FirstHolds (conditions i (length l)) (suc n)
 module _ (i : Inputs) (l : List Float) (bs : List ℕ) where
   -- the bytes of the lines that the walk took
   abbrev pub keptBytes : List ℕ
-  keptBytes = journal (take (walked i l bs .taken) (readJournal bs .lines))
+  keptBytes = journalBytes (take (walked i l bs .taken) (readJournal bs .lines))
 
   pub record FrontAlone : Type 0 where
     pub is-front : take (length keptBytes) bs ≡ keptBytes

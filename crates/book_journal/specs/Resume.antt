@@ -7,7 +7,7 @@ use lib.Dec.{eqb}
 use lib.ListN.{length, take, drop}
 use lib.Ieee.{Float}
 use Rattle.journal_line.specs.declared.Line.{Line}
-use Rattle.journal_line.specs.Line.{lineBytes, LineFits, Writable, journal}
+use Rattle.journal_line.specs.Line.{lineBytes, LineFits, Writable, journalBytes}
 use Rattle.journal_line.specs.Reading.{newlines, readJournal}
 use Rattle.journal_line.specs.Fronts.{NoLine}
 use Rattle.book.specs.Calls.{Call, next}
@@ -44,7 +44,7 @@ stoppedBy notTheRun = by30
 
 -- the bytes of the lines that the walk took, and all that follows them
 abbrev pub keptOf : List ℕ → Walked → List ℕ
-keptOf bs w = journal (take (w .taken) (readJournal bs .lines))
+keptOf bs w = journalBytes (take (w .taken) (readJournal bs .lines))
 
 abbrev pub restOf : List ℕ → Walked → List ℕ
 restOf bs w = drop (length (keptOf bs w)) bs
@@ -105,12 +105,12 @@ module _ (i : Inputs) (h : History i) (at : ℕ) where
     -- how many whole lines stand before the cut, and what is left of the one that it fell in
     pub lines : ℕ
     pub part : List ℕ
-    pub cut-is : cutJournal ≡ journal (take lines (linesOf (bookAt h))) ++ part
+    pub cut-is : cutJournal ≡ journalBytes (take lines (linesOf (bookAt h))) ++ part
     pub no-newline : newlines part ≡ 0
     pub after-newline : (s : List ℕ) → cutJournal ≡ s ++ 10 ∷ [] → part ≡ []
     -- they are kept, and only the part is dropped
     pub kept-lines : report l .lines ≡ lines
-    pub kept-bytes : report l .kept ≡ length (journal (take lines (linesOf (bookAt h))))
+    pub kept-bytes : report l .kept ≡ length (journalBytes (take lines (linesOf (bookAt h))))
     pub dropped-part : report l .dropped ≡ length part
     pub by-nothing : part ≡ [] → report l .ended-by ≡ byNothing
     pub by-newline : (part ≡ [] → ⊥) → report l .ended-by ≡ byMissingNewline
@@ -156,4 +156,4 @@ module _ (i : Inputs) (h : History i) (at : ℕ) where
 
 -- the lines that came since the opening stand behind those that it kept
 abbrev pub JournalGrows : {i : Inputs} → History i → Type 0
-JournalGrows {i} h = journalOf (bookAt h) ≡ journalOf (openedBy i (h .opening)) ++ journal (drop (number (openedBy i (h .opening))) (linesOf (bookAt h)))
+JournalGrows {i} h = journalOf (bookAt h) ≡ journalOf (openedBy i (h .opening)) ++ journalBytes (drop (number (openedBy i (h .opening))) (linesOf (bookAt h)))
