@@ -31,7 +31,7 @@ use Rattle.journal_line.specs.declared.Line.{Line}
 use Rattle.journal_line.specs.Line.{recordable, writable, Writable, Fits, recordedNumbers, LineFits}
 use Rattle.book.specs.Book.{Inputs, Book, number, current}
 use Rattle.book.proofs.Moves.{entry, Stands}
-use Rattle.book_journal.specs.Lines.{recordedOf, lineOf}
+use Rattle.book_journal.specs.Lines.{fieldsOf, recordedOf, lineOf}
 use Rattle.book_journal.specs.Replay.{sameReal, sameReals, scoringIn, outcomeIn, canStand, follows}
 use Rattle.book_journal.specs.History.{AllFit}
 
@@ -66,9 +66,6 @@ same-seed : (s t : CandidateSeed) → AllFit (six s) → AllFit (six t) → same
 same-seed s t f g h = ap (λ (l : List Float). seedAt l 0) (same-reals (six s) (six t) f g h)
 
 -- ---- what may be entered: its line gives it back, and can stand
-abbrev pub fieldsOf : Scoring → ScoredFields
-fieldsOf s = record { score = s .score; mean = s .mean; k = s .camera .k; p1 = s .camera .dist .p1; p2 = s .camera .dist .p2 }
-
 scoring-back : (s : Scoring) → s .camera .dist .k1 ≡ plusZero → s .camera .dist .k2 ≡ plusZero → s .camera .dist .k3 ≡ plusZero → scoringIn (fieldsOf s) ≡ s
 scoring-back s e f g =
     let d = s .camera .dist in

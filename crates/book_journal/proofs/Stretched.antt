@@ -16,11 +16,11 @@ use Rattle.book.specs.Book.{Inputs, Entry, Book, entries, scoredOf, runBest}
 use Rattle.book.proofs.Cases.{case-outcome}
 use Rattle.book.proofs.Simulation.{scored-append}
 use Rattle.book.proofs.Good.{Proper}
-use Rattle.book_journal.specs.Lines.{lineOf, journalOf}
+use Rattle.book_journal.specs.Lines.{fieldsOf, lineOf, journalOf}
 use Rattle.book_journal.specs.Replay.{scoringIn}
 use Rattle.book_journal.specs.History.{History, bookAt, InputsFit, CallFits}
 use Rattle.book_journal.specs.Stretches.{stretchWinner, scoredIn, lineWinner, Groups, StretchesRight, LineStretchesRight}
-use Rattle.book_journal.proofs.Standing.{fieldsOf, comes-back}
+use Rattle.book_journal.proofs.Standing.{comes-back}
 use Rattle.book_journal.proofs.Kept.{kept-at}
 use Rattle.book_journal.proofs.Again.{sound-at, lines-right}
 

@@ -76,15 +76,15 @@ handedIn (r ∷ rs) = isHanding r + handedIn rs
 pub record CountsAgree (i : Inputs) (h : History i) : Type 0 where
   -- each count, by the replies
   pub tallied : (k : ℕ) → countIn k (linesOf (bookAt h)) ≡ countIn k (linesOf (openedBy i (h .opening))) + saidIn k (replies (openedBy i (h .opening)) (h .calls))
-  -- their sum is the number of answers in the history
+  -- together they count the answers
   pub answers : total (linesOf (bookAt h)) ≡ number (openedBy i (h .opening)) + answersIn (replies (openedBy i (h .opening)) (h .calls))
-  -- the seeds handed out are that sum plus one if a seed is waiting
+  -- Next handed out one seed for each of them, and one more where a seed waits
   pub handed-out : number (openedBy i (h .opening)) + handedIn (replies (openedBy i (h .opening)) (h .calls)) ≡ total (linesOf (bookAt h)) + cond (bookAt h .waits) 1 0
   -- so that the report is never refused for it
   pub few : total (linesOf (bookAt h)) ≤ 656
-  -- a refused call counts nowhere: it enters nothing
+  -- a call that is refused enters nothing
   pub refused-nowhere : (c : Call) (n : ℕ) → bookCall (bookAt h) c .reply ≡ refused n → bookCall (bookAt h) c .book ≡ bookAt h
 
--- each count is the number of such lines in the journal of the same run
+-- and they are those of the run's journal, line for line
 abbrev pub InJournal : {i : Inputs} → History i → Type 0
 InJournal h = (k : ℕ) → countIn k (linesOf (bookAt h)) ≡ countIn k (readJournal (journalOf (bookAt h)) .lines)

@@ -55,8 +55,8 @@ abbrev pub outcomeIn : Recorded → Outcome
 outcomeIn (line.Skipped reason) = Skipped reason
 outcomeIn (line.Scored m) = Scored (scoringIn m)
 
--- What a line records of a seed with the tilts t stands for an answer. Under S the camera passes Answer's check and the ±0.05, the mean is finite and not below
--- 0, and the score is the one that mean, camera, tilts and the observed centre give. Of a skip nothing is asked.
+-- What a line records of a seed with the tilts t can be taken for its answer. Of S: Answer's camera check, tangential coefficients of at most 0.05 in size, a finite
+-- mean not below 0, and the very score that Answer would work out from it. Of a skip nothing is asked.
 unfoldable pub canStand : Pt2 → ScheimpflugParams → Recorded → Bool
 canStand center t (line.Skipped reason) = true
 canStand center t (line.Scored m) =
@@ -112,8 +112,8 @@ stopAt unread = notOfForm
 unfoldable pub walked : Inputs → List Float → List ℕ → Walked
 walked i l bs = let r = readJournal bs in walkFrom (opened i) (written (firstList i) l) 0 (r .lines) (stopAt (r .ending))
 
--- ---- the reply: the winner's number and score, 11 where the run ended with none, Unfinished with the next seed where the lines run out, Start's own refusals,
--- and 29 and 30 with the line's number, from 1
+-- ---- the reply: who won, and with which score; the seed that comes next in a run that hasn't ended; 11 for one that ended without a winner, or Start's own number;
+-- 29 or 30, and the number of the line, from 1
 pub data Replayed : Type 0 where
   winner : ℕ → Float → Replayed
   unfinished : CandidateSeed → Replayed

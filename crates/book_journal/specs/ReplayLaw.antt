@@ -30,7 +30,7 @@ pub record LinesOfRun (b : Book) : Type 0 where
   pub lines-taken : All Writable (linesOf b)
   pub read-back : readJournal (journalOf b) ≡ record { lines = linesOf b; ending = ended }
 
--- ---- For each journal of a run from the same inputs, handed on as in demand 3, the winner, every seed and every round are those of that run.
+-- ---- A run's own journal, walked from the same inputs, gives that run back.
 pub record RunAgain (i : Inputs) (h : History i) (l : List Float) : Type 0 where
   pub all-lines : walked i l (journalOf (bookAt h)) .stop ≡ allTaken
   -- the book is the run's, but that no seed waits: so are its lists, its entries and its best
@@ -46,7 +46,7 @@ pub record BufferOf (i : Inputs) (l : List Float) (b : Book) (m : List Float) : 
   pub same-length : length m ≡ length l
   pub beyond : drop (demand i) m ≡ drop (demand i) l
 
--- ---- Whatever is accepted: the winner is of all S lines the earliest with the lowest score, with all properties of a result.
+-- ---- Whatever bytes are accepted, their winner is what a result would be: the earliest of the lowest scores on S lines, with all that holds of a result.
 pub record Accepted (i : Inputs) (l : List Float) (bs : List ℕ) (n : ℕ) (s : Float) : Type 0 where
   pub best : Candidate
   pub number-is : best .number ≡ n
@@ -81,8 +81,8 @@ pub record Declines (i : Inputs) (l : List Float) (bs : List ℕ) : Type 0 where
 abbrev pub StartRefuses : Inputs → List Float → List ℕ → Type 0
 StartRefuses i l bs = (n : ℕ) → FirstHolds (conditions i (length l)) (suc n) → replayOf i l bs ≡ record { reply = declined (suc n); list = l }
 
--- ---- What the walk keeps of a journal: the longest front that is walked without 29 and 30. With it alone the walk comes to the same book and the same buffer, so
--- after 29 or 30 the seed buffer is as the lines before left it.
+-- ---- What the walk keeps of a journal: its longest front that is walked to the end. It alone leads to the same book and the same buffer, so the buffer after a
+-- refused line is that of the lines before it.
 module _ (i : Inputs) (l : List Float) (bs : List ℕ) where
   -- the bytes of the lines that the walk took
   abbrev pub keptBytes : List ℕ

@@ -25,7 +25,7 @@ pub data EndedBy : Type 0 where
   by29 : EndedBy
   by30 : EndedBy
 
--- the lines and bytes kept, the bytes dropped, and what ended it
+-- how much is kept, in lines and in bytes, how many bytes aren't, and why it ends there
 pub record Report : Type 0 where
   pub lines : ℕ
   pub kept : ℕ
@@ -49,7 +49,7 @@ keptOf bs w = journalBytes (take (w .taken) (readJournal bs .lines))
 abbrev pub restOf : List ℕ → Walked → List ℕ
 restOf bs w = drop (length (keptOf bs w)) bs
 
--- Kept and dropped bytes are each counted from their own part; the missing newline is looked for before 29 and 30.
+-- Neither number of bytes is worked out from the other. A rest without a newline is told as such, whatever the walk says of it.
 unfoldable pub reportOn : List ℕ → Walked → Report
 reportOn bs w = record {
   lines = w .taken;
@@ -85,7 +85,7 @@ pub record GivesBack (i : Inputs) (l : List Float) (bs : List ℕ) (b : Book) (m
   pub lines-are : r .lines ≡ number b
   pub kept-journal : take (r .kept) bs ≡ journalOf b
   pub is-longest : (at : ℕ) → at ≤ length bs → walked i l (take at bs) .stop ≡ allTaken → at ≤ r .kept
-  -- kept and dropped bytes add up to the file's length
+  -- together they are the whole file
   pub adds-up : r .kept + r .dropped ≡ length bs
   -- each ending says what stands behind the kept bytes: nothing; no newline; a newline, but no line of the form; a line that can't follow
   pub nothing-left : r .ended-by ≡ byNothing → drop (r .kept) bs ≡ []
@@ -93,7 +93,7 @@ pub record GivesBack (i : Inputs) (l : List Float) (bs : List ℕ) (b : Book) (m
   pub not-of-form : r .ended-by ≡ by29 → (1 ≤ newlines (drop (r .kept) bs)) × NoLine (drop (r .kept) bs)
   pub not-the-run : r .ended-by ≡ by30 → (n : Line) × (tail : List ℕ) × LineFits n × Writable n × (drop (r .kept) bs ≡ lineBytes n ++ tail) × (follows b n ≡ false)
 
--- ---- The journal of a run, cut after any byte, loses only the line that the cut fell in, and none where it fell after a newline.
+-- ---- A run's journal that ends after any of its bytes: every whole line before that place is kept, and nothing else.
 module _ (i : Inputs) (h : History i) (at : ℕ) where
   abbrev pub cutJournal : List ℕ
   cutJournal = take at (journalOf (bookAt h))
@@ -117,7 +117,7 @@ module _ (i : Inputs) (h : History i) (at : ℕ) where
     -- the book is that of as many answers
     pub book-is : walked i l cutJournal .book ≡ enteredIn (opened i) (take lines (entries (bookAt h)))
 
-  -- ---- The run that continues from the kept lines, handed on as in demand 3 and given the same host answers, ends as the uncut one.
+  -- ---- A run that goes on from them, with the calls that followed, is the run that was cut.
   -- the run as Resume gives it back
   abbrev pub cutRun : Book
   cutRun = openedBy i (from cutJournal)

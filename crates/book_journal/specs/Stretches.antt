@@ -35,8 +35,8 @@ pub record Groups : Type 0 where
   pub of-any : (cs : List Chosen) → All IsNumber cs → winnerOf cs ≡ foldr winnerOfTwo nothing cs
   pub as-records : (a b : Chosen) → winnerOfBests (held a) (held b) ≡ held (winnerOfTwo a b)
 
--- ---- Take each stretch's winner, in order, then the winner of those: it is the run's winner, ties included, and grouping the stretches differently changes
--- nothing. So it is of any book: however it was opened, whatever its inputs, and whether or not its run is over.
+-- ---- Wherever the answers are cut into stretches, and however these are put into groups, the winner of the winners, in their order, is the run's. So it is of any
+-- book: however it was opened, whatever its inputs, and whether or not its run is over.
 pub record StretchesRight (b : Book) : Type 0 where
   pub any-cutting : (ss : List (List Entry)) → joined ss ≡ entries b → winnerOf (map stretchWinner ss) ≡ runBest b
   pub any-grouping : (gs : List (List (List Entry))) → joined (joined gs) ≡ entries b → winnerOf (map (λ ss. winnerOf (map stretchWinner ss)) gs) ≡ runBest b
