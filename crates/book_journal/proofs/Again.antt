@@ -80,11 +80,16 @@ pub record Sound (i : Inputs) (b : Book) : Type 0 where
 pub sound-at : (i : Inputs) (h : History i) → InputsFit i → All CallFits (h .calls) → Sound i (bookAt h)
 sound-at i h f k = record { start = opened-good i (h .room) (h .accepted); start-holds = opened-holds i f; kept = kept-at i h; holds = holds-at i h f k }
 
+pub sound-taken : (i : Inputs) (b : Book) → Good i (opened i) → Kept i b → All Writable (linesOf b)
+sound-taken i b g k = trail-taken i (opened i) (atRest b) (entries b) g (k .trail)
+
+pub lines-taken : (i : Inputs) (h : History i) → All Writable (linesOf (bookAt h))
+lines-taken i h = sound-taken i (bookAt h) (opened-good i (h .room) (h .accepted)) (kept-at i h)
+
 pub lines-right : (i : Inputs) (b : Book) → Sound i b → LinesOfRun b
 lines-right i b s =
     let fit = trail-fit i (opened i) (atRest b) (entries b) (s .start) (s .start-holds) (s .holds .held) (s .kept .trail) in
-    let taken = trail-taken i (opened i) (atRest b) (entries b) (s .start) (s .kept .trail) in
-    record { lines-fit = fit; lines-taken = taken; read-back = whole-reading (linesOf b) fit taken }
+    record { lines-fit = fit; read-back = whole-reading (linesOf b) fit (sound-taken i b (s .start) (s .kept)) }
 
 -- ---- the buffer as entries leave it
 unfoldable pub listAlong : Book → List Float → List Entry → List Float

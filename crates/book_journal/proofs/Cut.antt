@@ -31,7 +31,7 @@ use Rattle.book_journal.specs.Resume.{byNothing, byMissingNewline, by29,
 use Rattle.book_journal.proofs.Opening.{start-number, none-refused}
 use Rattle.book_journal.proofs.Walk.{walkEnd, walked-keeps}
 use Rattle.book_journal.proofs.Kept.{Trail}
-use Rattle.book_journal.proofs.Again.{listAlong, Sound, sound-at, lines-right, walk-whole}
+use Rattle.book_journal.proofs.Again.{listAlong, Sound, sound-at, sound-taken, lines-right, walk-whole}
 use Rattle.book_journal.proofs.Beside.{same-as-reader}
 use Rattle.book_journal.proofs.Front.{all-take, front-bytes, front-reads, front-alone}
 use Rattle.book_journal.proofs.Buffer.{walked-buffer}
@@ -243,7 +243,7 @@ module _ (i : Inputs) (b : Book) (s : Sound i b) (l : List Float) (at : ℕ) whe
   whole-fit = all-take LineFits (cut .whole) (linesOf b) (lines-right i b s .lines-fit)
 
   whole-taken : All Writable whole
-  whole-taken = all-take Writable (cut .whole) (linesOf b) (lines-right i b s .lines-taken)
+  whole-taken = all-take Writable (cut .whole) (linesOf b) (sound-taken i b (s .start) (s .kept))
 
   cut-read : readJournal front .lines ≡ whole
   cut-read = ap (λ (z : List ℕ). readJournal z .lines) (cut .cut-is) ∙ front-read whole (cut .part) whole-fit whole-taken (cut-no-line (cut .part) (cut .no-newline))

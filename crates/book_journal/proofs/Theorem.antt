@@ -3,7 +3,7 @@ use Rattle.book_journal.specs.History.{bookAt}
 use Rattle.book_journal.specs.Theorem.{JournalsRight}
 use Rattle.book_journal.proofs.Opening.{start-number}
 use Rattle.book_journal.proofs.Walk as walks
-use Rattle.book_journal.proofs.Again.{sound-at, lines-right}
+use Rattle.book_journal.proofs.Again.{sound-at, lines-taken, lines-right}
 use Rattle.book_journal.proofs.Beside as beside
 use Rattle.book_journal.proofs.Accepted as replying
 use Rattle.book_journal.proofs.Front as fronts
@@ -16,6 +16,7 @@ use Rattle.book_journal.proofs.Stretched as stretching
 
 pub journals-right : JournalsRight
 journals-right = record {
+  lines-taken = lines-taken;
   lines-of-run = λ i h f. lines-right i (bookAt h) (sound-at i h (f .inputs-fit) (f .calls-fit));
   start-first = start-number;
   start-refuses = replying.start-refuses;

@@ -10,7 +10,7 @@ use Rattle.common.specs.Each.{All}
 use Rattle.seed_rules.specs.Layout.{flat}
 use Rattle.score_best.specs.declared.Candidate.{Candidate}
 use Rattle.journal_line.specs.declared.Line.{Line}
-use Rattle.journal_line.specs.Line.{LineFits, Writable, journalBytes}
+use Rattle.journal_line.specs.Line.{LineFits, journalBytes}
 use Rattle.journal_line.specs.Reading.{lineNumber, ended, refused, readJournal}
 use Rattle.book.specs.Book.{Inputs, demand, Book, entries, number}
 use Rattle.book.specs.Conditions.{FirstHolds, NoneHolds, conditions}
@@ -24,10 +24,9 @@ pub record StartNumber (i : Inputs) (n : ℕ) : Type 0 where
   pub refuses : (m : ℕ) → (startNumber i n ≡ suc m) ↔ FirstHolds (conditions i n) (suc m)
   pub accepts : (startNumber i n ≡ 0) ↔ NoneHolds (conditions i n)
 
--- ---- E2: the writer takes every line of a run, and the reader gives each of them back
+-- ---- E2: a run's lines, whose numbers are binary64's, are those that the reader gives of its journal
 pub record LinesOfRun (b : Book) : Type 0 where
   pub lines-fit : All LineFits (linesOf b)
-  pub lines-taken : All Writable (linesOf b)
   pub read-back : readJournal (journalOf b) ≡ record { lines = linesOf b; ending = ended }
 
 -- ---- A run's own journal, walked from the same inputs, gives that run back.

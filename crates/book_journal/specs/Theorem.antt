@@ -6,10 +6,12 @@ use lib.ListN.{length}
 use lib.Ieee.{Float}
 use Rattle.common.specs.Each.{All}
 use Rattle.search_record.specs.declared.run.Run.{Run}
+use Rattle.journal_line.specs.Line.{Writable}
 use Rattle.book.specs.Calls.{Call}
 use Rattle.book.specs.Book.{Inputs, Book, number}
 use Rattle.book.specs.Conditions.{NoneHolds, conditions}
 use Rattle.book.proofs.RunOf.{runOf}
+use Rattle.book_journal.specs.Lines.{linesOf}
 use Rattle.book_journal.specs.Replay.{walked, winner, replayOf}
 use Rattle.book_journal.specs.History.{openedBy, History, bookAt, listAt, InputsFit, CallFits}
 use Rattle.book_journal.specs.ReplayLaw.{StartNumber, LinesOfRun, RunAgain, BufferOf, Accepted, SameAsReader, Declines, StartRefuses, FrontAlone}
@@ -24,7 +26,8 @@ pub record Fitting (i : Inputs) (h : History i) : Type 0 where
   pub calls-fit : All CallFits (h .calls)
 
 pub record JournalsRight : Type 0 where
-  -- ---- E2: every line of a run is one that the writer takes and the reader gives back
+  -- ---- E2: every line of a run is one that the writer takes, whatever the host sent, and that the reader gives back
+  pub lines-taken : (i : Inputs) (h : History i) → All Writable (linesOf (bookAt h))
   pub lines-of-run : (i : Inputs) (h : History i) → Fitting i h → LinesOfRun (bookAt h)
   -- ---- E5
   pub start-first : (i : Inputs) (n : ℕ) → StartNumber i n
