@@ -224,7 +224,7 @@ closing i = record {
 }
 
 -- ---- an outcome is entered
-all-at : {A : Type 0} (P : A → Type 0) (d : A) (xs : List A) (k : ℕ) → All P xs → k < length xs → P (getD xs k d)
+pub all-at : {A : Type 0} (P : A → Type 0) (d : A) (xs : List A) (k : ℕ) → All P xs → k < length xs → P (getD xs k d)
 all-at P d [] k h l = absurd (omega arith)
 all-at P d (x ∷ xs) zero h l = h .0
 all-at P d (x ∷ xs) (suc k) h l = all-at P d xs k (h .1) (omega arith)

@@ -223,7 +223,7 @@ run-step : (b : Book) → rec.nextStep (runOf b) ≡ stepOf (suc (b .round)) (b 
 unfolding rec.nextStep runOf
 run-step b = step-next (b .round) (b .inputs .step)
 
-run-seeds : (b : Book) (w : Candidate) → ans.nextSeeds (runOf b) w ≡ listAround (b .inputs) (suc (b .round)) w
+pub run-seeds : (b : Book) (w : Candidate) → ans.nextSeeds (runOf b) w ≡ listAround (b .inputs) (suc (b .round)) w
 unfolding ans.nextSeeds listAround
 run-seeds b w = simp (run-step, run-max, run-one-axis)
 
@@ -248,7 +248,7 @@ opened-with : (r : Run) (n : ℕ) (s : Float) (q : Waiting) → rec.nextStep r �
 unfolding rec.roundOpened
 opened-with r n s q e f = rw (e, f)
 
-open-run : (b : Book) (ss : List CandidateSeed) → b .waits ≡ false → rec.roundOpened (runOf b) (length ss) ≡ runOf (withRound b ss)
+pub open-run : (b : Book) (ss : List CandidateSeed) → b .waits ≡ false → rec.roundOpened (runOf b) (length ss) ≡ runOf (withRound b ss)
 open-run b ss w = opened-with (runOf b) (length ss) (stepOf (suc (b .round)) (b .inputs .step)) rec.nobody (run-step b) (nobody-waits b w) ∙ rest b ss
   where
     rest : (b : Book) (ss : List CandidateSeed) → openedWith (runOf b) (length ss) (stepOf (suc (b .round)) (b .inputs .step)) rec.nobody ≡ runOf (withRound b ss)
@@ -259,7 +259,7 @@ unfolding noBest
 held-else nothing c = refl
 held-else (chosen w) c = refl
 
-run-else : (b : Book) → ans.orBest (runOf b .«round_best») (runOf b .«run_best») ≡ held (orElse (roundBest b) (runBest b))
+pub run-else : (b : Book) → ans.orBest (runOf b .«round_best») (runOf b .«run_best») ≡ held (orElse (roundBest b) (runBest b))
 run-else b = rw (run-round-best b, run-run-best b) (held-else (roundBest b) (runBest b))
 
 open-ends : (b : Book) (l : List Float) (s : CandidateSeed) (ss : List CandidateSeed) → b .waits ≡ false → There b l → 54 ≤ demand (b .inputs) → length (s ∷ ss) ≤ 9
@@ -372,7 +372,7 @@ entered-is b o =
     let p : length (b .answered ++ entry b o ∷ []) ≡ length (b .answered) + 1 = length-append (b .answered) (entry b o ∷ []) in
     rw (p, entry-count b (entry b o))
 
-enter-run : (b : Book) (o : Outcome) → b .waits ≡ true → rec.entered (runOf b) o ≡ runOf (withEntry b o)
+pub enter-run : (b : Book) (o : Outcome) → b .waits ≡ true → rec.entered (runOf b) o ≡ runOf (withEntry b o)
 enter-run b o w =
     entered-with (runOf b) o (current b) (held (bestOf (scoredOf (b .answered ++ entry b o ∷ [])))) (held (bestOf (scoredOf (b .earlier ++ (b .answered ++ entry b o ∷ [])))))
     (lastIn (lastOf (b .earlier ++ (b .answered ++ entry b o ∷ [])))) (waiting-seed b w) (enter-round-best b o) (enter-run-best b o) (enter-last b o)
@@ -388,7 +388,7 @@ module _ (b : Book) (o : Outcome) where
   unfolding withEntry
   entry-there l f = f
 
-enter-agrees : (b : Book) (o : Outcome) (l : List Float) → b .waits ≡ true → There b l → 54 ≤ demand (b .inputs) → Ends (ans.enterDef (runOf b) l o) (bookEnter b o)
+pub enter-agrees : (b : Book) (o : Outcome) (l : List Float) → b .waits ≡ true → There b l → 54 ≤ demand (b .inputs) → Ends (ans.enterDef (runOf b) l o) (bookEnter b o)
 unfolding ans.enterDef bookEnter
 enter-agrees b o l w f d =
     let c = withEntry b o in

@@ -51,7 +51,7 @@ use Rattle.book.proofs.Opening.{opens}
 use Rattle.book.proofs.Ending.{opened-lasts, run-ends}
 
 -- ---- a run that gives a result
-result-over : (i : Inputs) (b : Book) (w : Candidate) → Good i b → resultDef (runOf b) ≡ Result w → (b .over ≡ true) × (runBest b ≡ chosen w)
+pub result-over : (i : Inputs) (b : Book) (w : Candidate) → Good i b → resultDef (runOf b) ≡ Result w → (b .over ≡ true) × (runBest b ≡ chosen w)
 unfolding resultDef
 result-over i b w g h =
     let t = sound-run i b g in
@@ -62,7 +62,7 @@ result-over i b w g h =
     (λ o. let k : Refused 14 ≡ Result w = simp (run-fields, t, o) at h in let z : _≡_ {A = ℕ} 0 1 = cc in absurd (omega arith))
 
 -- so it is over, as it is where Result gives 11
-is-over : (i : Inputs) (b : Book) → Good i b → Over (runOf b) → b .over ≡ true
+pub is-over : (i : Inputs) (b : Book) → Good i b → Over (runOf b) → b .over ≡ true
 unfolding resultDef
 is-over i b g =
     ⊎-elim
@@ -72,11 +72,11 @@ is-over i b g =
     case (b .over) (λ o. o) (λ o. let k : Refused 14 ≡ Refused 11 = simp (run-fields, t, o) at h in let z : _≡_ {A = ℕ} 14 11 = cc in absurd (omega arith)))
 
 -- it has handed out every round
-over-handed : (b : Book) → b .waits ≡ false → handedIn b ≡ map handingOf (entries b)
+pub over-handed : (b : Book) → b .waits ≡ false → handedIn b ≡ map handingOf (entries b)
 unfolding handedIn
 over-handed b w = simp w (append-nil (map handingOf (entries b)))
 
-all-handed : (i : Inputs) (b : Book) (w : Candidate) → Good i b → b .over ≡ true → runBest b ≡ chosen w → handedIn b ≡ handings i (outcomesIn (entries b)) (suc (i .rounds))
+pub all-handed : (i : Inputs) (b : Book) (w : Candidate) → Good i b → b .over ≡ true → runBest b ≡ chosen w → handedIn b ≡ handings i (outcomesIn (entries b)) (suc (i .rounds))
 all-handed i b w g o e =
     ⊎-elim
     (λ n. let z : _≡_ {A = ℕ} 0 1 = cc in absurd (omega arith))
@@ -125,7 +125,7 @@ winner-answered i l cs w t m = ⊎-elim (λ a. a) (λ n. absurd (nobody n)) (by-
     nobody n = unfold opened scoredOf in List·Memᴰ·not-nil n
 
 -- ---- while a seed waits
-answer-open : (i : Inputs) (b : Book) (l : List Float) → State i b l → runOf b .waiting .«is_waiting» ≡ true
+pub answer-open : (i : Inputs) (b : Book) (l : List Float) → State i b l → runOf b .waiting .«is_waiting» ≡ true
     → (f : Finding) (rows : List Float) (flags : List ℕ) → (f ≡ Failed) ⊎ (firstRefusal (rowChecks rows flags) ≡ 0) → answerRefusal (runOf b) (length l) f rows flags ≡ 0
 answer-open i b l s w f rows flags k =
     let g = s .good in

@@ -1,6 +1,7 @@
 pub mod DigitLaws
 pub mod Examples
 pub mod FieldLaws
+pub mod Fronts
 pub mod Line
 pub mod Numbers
 pub mod Outcome

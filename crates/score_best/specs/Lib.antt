@@ -1,2 +1,4 @@
 pub mod Best
 pub mod Order
+pub mod Winners
+pub mod WinnerLaws

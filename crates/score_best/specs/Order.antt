@@ -41,7 +41,7 @@ lower-beats v w h k = simp (h, k)
 pub beats-number : (v w : Candidate) → beats v w ≡ true → Sound v
 beats-number v w h = case (isNan (v .score)) (λ n. absurd (true≢false (sym h ∙ nan-never-beats v w n))) (λ n. n)
 
-asym : (v w : Candidate) → beats v w ≡ true → beats w v ≡ false
+pub asym : (v w : Candidate) → beats v w ≡ true → beats w v ≡ false
 asym v w h =
     let n = beats-number v w h in
     case (isNan (w .score))
@@ -51,7 +51,7 @@ asym v w h =
 irrefl : (w : Candidate) → beats w w ≡ false
 irrefl w = case (beats w w) (λ e. asym w w e) (λ e. e)
 
-cotrans : (u v w : Candidate) → beats u v ≡ true → beats w v ≡ false → beats u w ≡ true
+pub cotrans : (u v w : Candidate) → beats u v ≡ true → beats w v ≡ false → beats u w ≡ true
 cotrans u v w h k =
     let n = beats-number u v h in
     case (isNan (w .score))

@@ -3,6 +3,7 @@
 
 ghost use mathlib.Core.Path.{_≡_};
 ghost use Rattle.score_best.specs.Best.{isBetter, improved, noBest};
+ghost use Rattle.score_best.specs.Winners.{winnerOfBests};
 use camera_models::distortion::BrownConrady5;
 use camera_models::intrinsics::FxFyCxCy;
 use camera_tilt::sensor::ScheimpflugParams;
@@ -82,4 +83,21 @@ pub fn improved(current: Best, candidate: Candidate) -> Best
         };
     }
     current
+}
+
+// The winner of two stretches of candidates, the earlier one first: a lower score wins, an equal one doesn't, and a stretch without a candidate leaves the
+// other's.
+pub fn winner(first: Best, second: Best) -> Best
+    ensures { λ r. ⌜ r ≡ winnerOfBests first second ⌝ }
+{
+    if !first.found {
+        return second;
+    }
+    if !second.found {
+        return first;
+    }
+    if is_better(second.candidate, first) {
+        return second;
+    }
+    first
 }

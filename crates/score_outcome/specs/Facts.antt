@@ -23,9 +23,10 @@ use Rattle.score_outcome.specs.declared.Finding.{Finding}
 use Rattle.score_outcome.specs.declared.Finding.the-variants.{Failed, Solved}
 use Rattle.score_outcome.specs.declared.Outcome.the-variants.{Skipped, Scored}
 
--- A focal length is finite and above 0, a radial coefficient is +0, a tangential one finite and at most 0.05 in size, the mean finite and not below 0,
--- and the score is that of mean, camera, the seed's tilts and the observed centre, and is a number.
+-- The camera passes the check: a focal length is finite and above 0; a radial coefficient is +0, a tangential one finite and at most 0.05 in size, the mean
+-- finite and not below 0, and the score is that of mean, camera, the seed's tilts and the observed centre, and is a number.
 pub record ScoredFacts (sensor : ScheimpflugParams) (center : Pt2) (g : Scoring) : Type 0 where
+  pub camera-valid : validCamera (g .camera) ≡ true
   pub fx-finite : isFinite (g .camera .k .fx) ≡ true
   pub fy-finite : isFinite (g .camera .k .fy) ≡ true
   pub fx-above : lt plusZero (g .camera .k .fx) ≡ true
@@ -59,6 +60,7 @@ scoring-facts s sensor center rows flags v f n =
     let p2 = both-true (isFinite (d .k1) && isFinite (d .k2) && isFinite (d .k3) && isFinite (d .p1)) (isFinite (d .p2)) (numbers .1) in
     let p1 = both-true (isFinite (d .k1) && isFinite (d .k2) && isFinite (d .k3)) (isFinite (d .p1)) (p2 .0) in
     record {
+      camera-valid = v;
       fx-finite = focal .0;
       fy-finite = focal .1;
       fx-above = x .1;

@@ -1,0 +1,16 @@
+pub mod Opening
+pub mod Standing
+pub mod Walk
+pub mod Kept
+pub mod Held
+pub mod Again
+pub mod Beside
+pub mod Accepted
+pub mod Front
+pub mod Buffer
+pub mod Cut
+pub mod GoingOn
+pub mod Counted
+pub mod Stretched
+pub mod Live
+pub mod Theorem

@@ -1,0 +1,10 @@
+pub mod Lines
+pub mod Replay
+pub mod History
+pub mod ReplayLaw
+pub mod Resume
+pub mod Counts
+pub mod Stretches
+pub mod Live
+pub mod Theorem
+pub mod Worked
