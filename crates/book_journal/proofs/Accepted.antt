@@ -15,12 +15,12 @@ use Rattle.score_best.specs.Best.{chosen}
 use Rattle.journal_line.specs.Line.{journalBytes}
 use Rattle.journal_line.specs.Reading.{refused, Lines}
 use Rattle.journal_line.specs.Whole.{whole-lines}
-use Rattle.book.specs.Book.{Inputs, Book, entries, current, runBest}
+use Rattle.book.specs.Book.{Inputs, Book, entries, current, runBest, lineOf}
 use Rattle.book.specs.Theorem.{Wins}
 use Rattle.book.proofs.Cases.{case-chosen}
 use Rattle.book.proofs.Good.{Good}
 use Rattle.book.proofs.Winner.{winner as best-wins}
-use Rattle.book_journal.specs.Lines.{lineOf, linesOf}
+use Rattle.book_journal.specs.Lines.{linesOf}
 use Rattle.book_journal.specs.Replay.{startNumber, Stop, allTaken, notOfForm, notTheRun, Walked, walked, winner, unfinished, declined, declinedAt, standing, replyTo, replayOf}
 use Rattle.book_journal.specs.History.{InputsFit}
 use Rattle.book_journal.specs.ReplayLaw.{StartRefuses, Declines, SameAsReader, Accepted}

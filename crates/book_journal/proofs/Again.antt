@@ -15,11 +15,12 @@ use Rattle.score_outcome.specs.declared.Outcome.the-variants.{Skipped, Scored}
 use Rattle.journal_line.specs.declared.Line.{Line}
 use Rattle.journal_line.specs.Line.{recordable, writable, Writable, LineFits}
 use Rattle.journal_line.specs.Whole.{whole-reading}
-use Rattle.book.specs.Book.{Inputs, Entry, Book, entries, number, current, runBest, firstList, opened, bookEnter}
+use Rattle.journal_line.specs.Outcome.{recordedAs}
+use Rattle.book.specs.Book.{Inputs, Entry, Book, entries, number, current, runBest, firstList, opened, bookEnter, lineOf}
 use Rattle.book.specs.Conditions.{NoneHolds, conditions}
 use Rattle.book.proofs.Moves.{entry, Stands}
 use Rattle.book.proofs.Good.{Good, steps}
-use Rattle.book_journal.specs.Lines.{recordedOf, lineOf, linesOf, journalOf}
+use Rattle.book_journal.specs.Lines.{linesOf, journalOf}
 use Rattle.book_journal.specs.Replay.{follows, Stop, allTaken, listAfter, walkFrom, walked, standing, replayOf}
 use Rattle.book_journal.specs.History.{History, bookAt, InputsFit, CallFits, atRest}
 use Rattle.book_journal.specs.ReplayLaw.{LinesOfRun}
@@ -43,7 +44,7 @@ number-most i b g o =
 round-most : (i : Inputs) (b : Book) → Good i b → b .round ≤ 16
 round-most i b g = let k = g .core .in-rounds in let s = g .core .sized .few-rounds in omega arith
 
-recordable-outcome : (i : Inputs) (t : ScheimpflugParams) (o : Outcome) → Stands i t o → recordable (recordedOf o) ≡ true
+recordable-outcome : (i : Inputs) (t : ScheimpflugParams) (o : Outcome) → Stands i t o → recordable (recordedAs o) ≡ true
 unfolding recordable
 recordable-outcome i t (Skipped n) s = rw (le-leb 1 n (s .0), le-leb n 4 (s .1))
 recordable-outcome i t (Scored g) s = ap not (s .score-number)

@@ -18,11 +18,12 @@ use Rattle.journal_line.specs.Reading.{Ending, ended, refused, unread, Lines, r
 use Rattle.journal_line.specs.Numbers.{whole-numbered}
 use Rattle.journal_line.specs.Whole.{whole-stops}
 use Rattle.journal_line.specs.Fronts.{whole-front}
-use Rattle.book.specs.Book.{Inputs, Book, entries, number, firstList, opened, bookEnter}
+use Rattle.journal_line.specs.Outcome.{outcomeIn}
+use Rattle.book.specs.Book.{Inputs, Book, entries, number, firstList, opened, bookEnter, lineOf}
 use Rattle.book.specs.Conditions.{NoneHolds, conditions}
 use Rattle.book.proofs.Moves.{entry, enter-holds as enter-place}
-use Rattle.book_journal.specs.Lines.{lineOf, linesOf}
-use Rattle.book_journal.specs.Replay.{outcomeIn, follows, Stop, allTaken, notOfForm, notTheRun, Walked, listAfter, walkFrom, stopAt, walked}
+use Rattle.book_journal.specs.Lines.{linesOf}
+use Rattle.book_journal.specs.Replay.{follows, Stop, allTaken, notOfForm, notTheRun, Walked, listAfter, walkFrom, stopAt, walked}
 use Rattle.book_journal.specs.History.{InputsFit}
 use Rattle.book_journal.specs.ReplayLaw.{SameAsReader}
 use Rattle.book_journal.proofs.Standing.{follower}

@@ -20,7 +20,7 @@ use Rattle.book.specs.Book.{Inputs, demand, Entry, Book, entries, current, firs
 use Rattle.book.specs.Conditions.{NoneHolds, conditions}
 use Rattle.book.proofs.Moves.{entry, Stands, Closing, close-by, enter-by, enter-holds as enter-place, await-holds as await-place, Moves, stays, hands, enters, moves, call-by}
 use Rattle.book.proofs.Good.{Good, waits-going}
-use Rattle.book_journal.specs.Replay.{outcomeIn, listAfter, Walked, walked}
+use Rattle.book_journal.specs.Replay.{listAfter, Walked, walked}
 use Rattle.book_journal.specs.History.{Opening, fresh, from, openedBy, History, bookAt, InputsFit, CallFits, atRest, openedList, listUnder, listAt}
 use Rattle.book_journal.specs.ReplayLaw.{RunAgain, BufferOf}
 use Rattle.book_journal.proofs.Opening.{room-enough}
@@ -28,6 +28,7 @@ use Rattle.book_journal.proofs.Standing.{follower}
 use Rattle.book_journal.proofs.Walk.{walked-keeps, any-buffer}
 use Rattle.book_journal.proofs.Kept.{Trail, Kept, rest-enter, kept-opened, kept-opening, kept-enter, kept-line, kept-steps}
 use Rattle.book_journal.proofs.Again.{listAlong, sound-at, walked-again, again-standing, again-list}
+use Rattle.journal_line.specs.Outcome.{outcomeIn}
 
 -- ---- an outcome is entered: the round stays, and then its list does, or another one opens
 abbrev Moved : Book → Book → Type 0

@@ -15,12 +15,13 @@ use Rattle.score_outcome.specs.declared.Outcome.the-variants.{Skipped, Scored}
 use Rattle.score_outcome.specs.Evaluation.{findingRefusal, outcomeOf}
 use Rattle.journal_line.specs.declared.Line.{Line}
 use Rattle.journal_line.specs.Reading.{Lines}
+use Rattle.journal_line.specs.Outcome.{recordedAs}
 use Rattle.book.specs.Calls.{Call, next, seed, answer, ask, Reply, candidate, over, refused}
-use Rattle.book.specs.Book.{Inputs, demand, Entry, Book, entries, number, current, runBest, opened, withWaiting, bookEnter, Kept as Answer, bookNext, bookSeed, bookAnswer, bookResult, bookCall, replyTo, replies, after}
+use Rattle.book.specs.Book.{Inputs, demand, Entry, Book, entries, number, current, runBest, opened, withWaiting, bookEnter, Kept as Answer, bookNext, bookSeed, bookAnswer, bookResult, bookCall, replyTo, replies, after, lineOf}
 use Rattle.book.proofs.Cases.{case-chosen}
 use Rattle.book.proofs.Moves.{entry, Stands, enter-holds, await-holds}
 use Rattle.book.proofs.Good.{Good, Proper}
-use Rattle.book_journal.specs.Lines.{recordedOf, lineOf, linesOf}
+use Rattle.book_journal.specs.Lines.{linesOf}
 use Rattle.book_journal.specs.History.{Opening, fresh, from, openedBy, History, bookAt, InputsFit, CallFits}
 use Rattle.book_journal.specs.Counts.{kindOf, one, countIn, total, said, saidIn, isAnswer, answersIn, isHanding, handedIn, CountsAgree, InJournal}
 use Rattle.book_journal.proofs.Kept.{kept-at}
@@ -59,7 +60,7 @@ says b (answer n f rows flags) =
 says b ask = case (b .over) (λ o. case-chosen (runBest b) (λ e. simp (o, e) (quiet refl no-answer)) (λ v e. simp (o, e) (quiet refl no-answer))) (λ o. simp o (quiet refl no-answer))
 
 -- ---- an outcome's reply
-reply-kind : (k : ℕ) (o : Outcome) → said k (replyTo o) ≡ one k (kindOf (recordedOf o))
+reply-kind : (k : ℕ) (o : Outcome) → said k (replyTo o) ≡ one k (kindOf (recordedAs o))
 reply-kind k (Skipped n) = refl
 reply-kind k (Scored s) = refl
 
@@ -77,7 +78,7 @@ lines-enter : (b : Book) (o : Outcome) → linesOf (bookEnter b o) ≡ linesOf b
 lines-enter b o = ap (map lineOf) (enter-holds b o .0) ∙ map-append lineOf (entries b) (entry b o ∷ [])
 
 -- one more entry is one more of its kind, as the run's record keeps the counts
-pub count-enter : (k : ℕ) (b : Book) (o : Outcome) → countIn k (linesOf (bookEnter b o)) ≡ countIn k (linesOf b) + one k (kindOf (recordedOf o))
+pub count-enter : (k : ℕ) (b : Book) (o : Outcome) → countIn k (linesOf (bookEnter b o)) ≡ countIn k (linesOf b) + one k (kindOf (recordedAs o))
 unfolding countIn
 count-enter k b o = ap (countIn k) (lines-enter b o) ∙ count-append k (linesOf b) (lineOf (entry b o) ∷ []) ∙ omega arith
 
@@ -147,7 +148,7 @@ five-kinds (suc (suc (suc zero))) h = refl
 five-kinds (suc (suc (suc (suc zero)))) h = refl
 five-kinds (suc (suc (suc (suc (suc k))))) h = absurd (omega arith)
 
-kind-most : (i : Inputs) (t : ScheimpflugParams) (o : Outcome) → Stands i t o → kindOf (recordedOf o) ≤ 4
+kind-most : (i : Inputs) (t : ScheimpflugParams) (o : Outcome) → Stands i t o → kindOf (recordedAs o) ≤ 4
 kind-most i t (Skipped n) s = s .1
 kind-most i t (Scored g) s = omega arith
 
@@ -155,7 +156,7 @@ total-entries : (i : Inputs) (es : List Entry) → All (Proper i) es → total (
 unfolding countIn
 total-entries i [] p = refl
 total-entries i (e ∷ es) p =
-    let x = five-kinds (kindOf (recordedOf (e .outcome))) (kind-most i (e .seed .sensor) (e .outcome) (p .0 .stands)) in
+    let x = five-kinds (kindOf (recordedAs (e .outcome))) (kind-most i (e .seed .sensor) (e .outcome) (p .0 .stands)) in
     let y = total-entries i es (p .1) in
     omega arith
 

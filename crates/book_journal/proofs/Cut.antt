@@ -20,10 +20,10 @@ use Rattle.journal_line.specs.Reading.{newlines, Lines, readJournal}
 use Rattle.journal_line.specs.Numbers.{newlines-append}
 use Rattle.journal_line.specs.Whole.{whole-lines}
 use Rattle.journal_line.specs.Fronts.{NoLine, whole-front, whole-rest, front-read, front-ended, cut-no-line, Cut, cut-journal, journal-append}
-use Rattle.book.specs.Book.{Inputs, Entry, Book, entries, firstList, opened, bookEnter}
+use Rattle.book.specs.Book.{Inputs, Entry, Book, entries, firstList, opened, bookEnter, lineOf}
 use Rattle.book.specs.Conditions.{NoneHolds, conditions}
 use Rattle.book.proofs.Moves.{entry, enter-holds}
-use Rattle.book_journal.specs.Lines.{lineOf, linesOf, journalOf}
+use Rattle.book_journal.specs.Lines.{linesOf, journalOf}
 use Rattle.book_journal.specs.Replay.{startNumber, follows, Stop, allTaken, notOfForm, notTheRun, Walked, stopAt, walked}
 use Rattle.book_journal.specs.History.{History, bookAt, InputsFit, CallFits, atRest, enteredIn}
 use Rattle.book_journal.specs.ReplayLaw.{keptBytes}

@@ -15,8 +15,9 @@ use Rattle.journal_line.specs.Line.{lineBytes, journalBytes}
 use Rattle.journal_line.specs.Reading.{lineNumber, ended, readJournal}
 use Rattle.journal_line.specs.Whole.{whole-reading, whole-lines}
 use Rattle.journal_line.specs.Fronts.{whole-front, front-read-first, line-number, journal-append}
+use Rattle.journal_line.specs.Outcome.{outcomeIn}
 use Rattle.book.specs.Book.{Inputs, Book, firstList, opened, bookEnter}
-use Rattle.book_journal.specs.Replay.{outcomeIn, follows, Stop, allTaken, Walked, listAfter, walkFrom, stopAt, walked}
+use Rattle.book_journal.specs.Replay.{follows, Stop, allTaken, Walked, listAfter, walkFrom, stopAt, walked}
 use Rattle.book_journal.specs.ReplayLaw.{keptBytes, FrontAlone}
 use Rattle.book_journal.proofs.Walk.{walkEnd, walk-end, walk-on, walk-stop}
 use Rattle.book_journal.proofs.Beside.{all-taken-ended, not-run-taken}

@@ -14,10 +14,10 @@ use Rattle.journal_line.specs.declared.Line.{Line}
 use Rattle.journal_line.specs.Line.{journalBytes}
 use Rattle.journal_line.specs.Fronts.{journal-append}
 use Rattle.book.specs.Calls.{Call, next}
-use Rattle.book.specs.Book.{Inputs, demand, Entry, Book, entries, number, opened, withWaiting, bookEnter, Kept as Answer, bookNext, bookCall, replies, after}
+use Rattle.book.specs.Book.{Inputs, demand, Entry, Book, entries, number, opened, withWaiting, bookEnter, Kept as Answer, bookNext, bookCall, replies, after, lineOf}
 use Rattle.book.proofs.Moves.{enteredBy, Moves, stays, hands, enters, moves, grows, after-by}
 use Rattle.book.proofs.Good.{Good, waits-going}
-use Rattle.book_journal.specs.Lines.{lineOf, linesOf, journalOf}
+use Rattle.book_journal.specs.Lines.{linesOf, journalOf}
 use Rattle.book_journal.specs.History.{openedBy, History, bookAt, InputsFit, CallFits, atRest, enteredIn}
 use Rattle.book_journal.specs.Resume.{cutRun, again, uncut, goingOn, GoesOn, GoesOnSomewhere, EntersOn, JournalGrows}
 use Rattle.book_journal.proofs.Kept.{Kept, trail-entered, rest-same, kept-opening, kept-steps, grown}

@@ -40,13 +40,13 @@ use Rattle.score_best.specs.Best.{Chosen, nothing, chosen, bestOf}
 use Rattle.score_best.specs.Order.{found-leads}
 use Rattle.journal_line.specs.declared.Line.{Line}
 use Rattle.journal_line.specs.Line.{Fits, recordedNumbers, LineFits}
+use Rattle.journal_line.specs.Outcome.{recordedAs, outcomeIn}
 use Rattle.book.specs.Calls.{Call, next, seed, answer, ask}
 use Rattle.book.specs.Book.{Inputs, demand, Entry, Book, entries, noSeed, current, scoredOf, roundBest, runBest, orElse, firstList, listAround, opened, withWaiting, withEntry, withRound, withEnd, bookEnter, Kept, bookCall, after}
 use Rattle.book.proofs.Cases.{case-outcome}
 use Rattle.book.proofs.Moves.{entry, Closing, close-by, enter-by, enteredBy, Moves, stays, hands, enters, moves}
 use Rattle.book.proofs.Good.{Good, all-at}
-use Rattle.book_journal.specs.Lines.{recordedOf}
-use Rattle.book_journal.specs.Replay.{outcomeIn, walked}
+use Rattle.book_journal.specs.Replay.{walked}
 use Rattle.book_journal.specs.History.{Opening, fresh, from, openedBy, History, bookAt, AllFit, four, InputsFit, FindingFits, CallFits}
 use Rattle.book_journal.proofs.Standing.{score-fits, recorded-back}
 use Rattle.book_journal.proofs.Walk.{walked-keeps}
@@ -102,7 +102,7 @@ around-fits i r w h =
 
 -- ---- an outcome's numbers, as its line has them
 abbrev pub HeldOutcome : Outcome → Type 0
-HeldOutcome o = AllFit (recordedNumbers (recordedOf o))
+HeldOutcome o = AllFit (recordedNumbers (recordedAs o))
 
 bound-fits : Fits tangentialBound
 bound-fits = ofBits-fits binary64 0x3fa9_9999_9999_999a

@@ -8,12 +8,13 @@ use lib.Ieee.{Float}
 use Rattle.score_outcome.specs.declared.Outcome.{Outcome}
 use Rattle.journal_line.specs.declared.Line.{Line}
 use Rattle.journal_line.specs.Line.{LineFits, Writable}
+use Rattle.journal_line.specs.Outcome.{outcomeIn}
 use Rattle.book.specs.Calls.{Call}
 use Rattle.book.specs.Book.{Inputs, Entry, Book, entries, current, opened, withWaiting, withEntry, bookEnter, bookCall, after}
 use Rattle.book.specs.Conditions.{NoneHolds, conditions}
 use Rattle.book.proofs.Moves.{entry, Stands, enter-holds, await-holds, enteredBy, grows, Steps, after-by}
 use Rattle.book.proofs.Good.{Good, steps, waits-going}
-use Rattle.book_journal.specs.Replay.{outcomeIn, follows, walked}
+use Rattle.book_journal.specs.Replay.{follows, walked}
 use Rattle.book_journal.specs.History.{Opening, fresh, from, openedBy, History, bookAt, atRest, enteredIn}
 use Rattle.book_journal.proofs.Opening.{opened-good}
 use Rattle.book_journal.proofs.Standing.{follower}

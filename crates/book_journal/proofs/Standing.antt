@@ -29,10 +29,11 @@ use Rattle.journal_line.specs.declared.Recorded.{Recorded}
 use Rattle.journal_line.specs.declared.Recorded.the-variants as line
 use Rattle.journal_line.specs.declared.Line.{Line}
 use Rattle.journal_line.specs.Line.{recordable, writable, Writable, Fits, recordedNumbers, LineFits}
-use Rattle.book.specs.Book.{Inputs, Book, number, current}
+use Rattle.journal_line.specs.Outcome.{fieldsOf, recordedAs, scoringIn, outcomeIn}
+use Rattle.journal_line.specs.Standing.{sameReal, sameReals, canStand}
+use Rattle.book.specs.Book.{Inputs, Book, number, current, lineOf}
 use Rattle.book.proofs.Moves.{entry, Stands}
-use Rattle.book_journal.specs.Lines.{fieldsOf, recordedOf, lineOf}
-use Rattle.book_journal.specs.Replay.{sameReal, sameReals, scoringIn, outcomeIn, canStand, follows}
+use Rattle.book_journal.specs.Replay.{follows}
 use Rattle.book_journal.specs.History.{AllFit}
 
 -- ---- tests put together
@@ -72,11 +73,11 @@ scoring-back s e f g =
     let with : Float → Float → Float → Scoring = λ a b c. record { camera = record { k = s .camera .k; dist = record { k1 = a; k2 = b; k3 = c; p1 = d .p1; p2 = d .p2 } }; mean = s .mean; score = s .score } in
     ap (λ (a : Float). with a plusZero plusZero) (sym e) ∙ ap (λ (b : Float). with (d .k1) b plusZero) (sym f) ∙ ap (λ (c : Float). with (d .k1) (d .k2) c) (sym g)
 
-pub comes-back : (i : Inputs) (t : ScheimpflugParams) (o : Outcome) → Stands i t o → outcomeIn (recordedOf o) ≡ o
+pub comes-back : (i : Inputs) (t : ScheimpflugParams) (o : Outcome) → Stands i t o → outcomeIn (recordedAs o) ≡ o
 comes-back i t (Skipped n) h = refl
 comes-back i t (Scored s) h = ap Scored (scoring-back s (h .k1-zero) (h .k2-zero) (h .k3-zero))
 
-scored-passes : (center : Pt2) (t : ScheimpflugParams) (s : Scoring) → ScoredFacts t center s → canStand center t (recordedOf (Scored s)) ≡ true
+scored-passes : (center : Pt2) (t : ScheimpflugParams) (s : Scoring) → ScoredFacts t center s → canStand center t (recordedAs (Scored s)) ≡ true
 unfolding canStand within
 scored-passes center t s f =
     let c : scoringIn (fieldsOf s) .camera ≡ s .camera = ap (λ (z : Scoring). z .camera) (scoring-back s (f .k1-zero) (f .k2-zero) (f .k3-zero)) in
@@ -84,7 +85,7 @@ scored-passes center t s f =
     (both (both (both (both (ap validCamera c ∙ f .camera-valid) (f .p1-within)) (f .p2-within)) (f .mean-finite)) (ap not (f .mean-not-below)))
     (real-same (s .score) (scoreOf (s .mean) (scoringIn (fieldsOf s) .camera) t center) (f .score-is ∙ ap (λ (x : PinholeCamera). scoreOf (s .mean) x t center) (sym c)))
 
-passes : (i : Inputs) (t : ScheimpflugParams) (o : Outcome) → Stands i t o → canStand (i .center) t (recordedOf o) ≡ true
+passes : (i : Inputs) (t : ScheimpflugParams) (o : Outcome) → Stands i t o → canStand (i .center) t (recordedAs o) ≡ true
 unfolding canStand
 passes i t (Skipped n) h = refl
 passes i t (Scored s) h = scored-passes (i .center) t s h
@@ -137,7 +138,7 @@ unfolding recordable
 recorded-stands i t (line.Skipped n) w f h = let p = both-true (leb 1 n) (leb n 4) w in (leb-true 1 n (p .0), leb-true n 4 (p .1))
 recorded-stands i t (line.Scored m) w f h = scored-stands (i .center) t m (not-true (isNan (m .score)) w) f h
 
-pub recorded-back : (r : Recorded) → recordedOf (outcomeIn r) ≡ r
+pub recorded-back : (r : Recorded) → recordedAs (outcomeIn r) ≡ r
 recorded-back (line.Skipped n) = refl
 recorded-back (line.Scored m) = refl
 

@@ -12,12 +12,12 @@ use Rattle.journal_line.specs.declared.Recorded.{Recorded}
 use Rattle.journal_line.specs.declared.Recorded.the-variants as line
 use Rattle.journal_line.specs.declared.Line.{Line}
 use Rattle.journal_line.specs.Reading.{Lines, readJournal}
-use Rattle.book.specs.Book.{Inputs, Entry, Book, entries, scoredOf, runBest}
+use Rattle.journal_line.specs.Outcome.{fieldsOf, scoringIn}
+use Rattle.book.specs.Book.{Inputs, Entry, Book, entries, scoredOf, runBest, lineOf}
 use Rattle.book.proofs.Cases.{case-outcome}
 use Rattle.book.proofs.Simulation.{scored-append}
 use Rattle.book.proofs.Good.{Proper}
-use Rattle.book_journal.specs.Lines.{fieldsOf, lineOf, journalOf}
-use Rattle.book_journal.specs.Replay.{scoringIn}
+use Rattle.book_journal.specs.Lines.{journalOf}
 use Rattle.book_journal.specs.History.{History, bookAt, InputsFit, CallFits}
 use Rattle.book_journal.specs.Stretches.{stretchWinner, scoredIn, lineWinner, Groups, StretchesRight, LineStretchesRight}
 use Rattle.book_journal.proofs.Standing.{comes-back}

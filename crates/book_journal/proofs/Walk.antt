@@ -11,8 +11,9 @@ use Rattle.journal_line.specs.declared.Line.{Line}
 use Rattle.journal_line.specs.Line.{LineFits, Writable}
 use Rattle.journal_line.specs.Reading.{readJournal}
 use Rattle.journal_line.specs.Fronts.{whole-front}
+use Rattle.journal_line.specs.Outcome.{outcomeIn}
 use Rattle.book.specs.Book.{Inputs, Book, firstList, opened, bookEnter}
-use Rattle.book_journal.specs.Replay.{outcomeIn, follows, Stop, notTheRun, Walked, listAfter, walkFrom, stopAt, walked}
+use Rattle.book_journal.specs.Replay.{follows, Stop, notTheRun, Walked, listAfter, walkFrom, stopAt, walked}
 
 abbrev pub walkEnd : Book → List Float → ℕ → Stop → Walked
 walkEnd b l n e = record { book = b; list = l; taken = n; stop = e }

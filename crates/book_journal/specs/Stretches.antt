@@ -9,9 +9,9 @@ use Rattle.score_best.specs.WinnerLaws.{IsNumber}
 use Rattle.journal_line.specs.declared.Recorded.the-variants as line
 use Rattle.journal_line.specs.declared.Line.{Line}
 use Rattle.journal_line.specs.Reading.{readJournal}
+use Rattle.journal_line.specs.Outcome.{scoringIn}
 use Rattle.book.specs.Book.{Entry, Book, entries, scoredOf, runBest}
 use Rattle.book_journal.specs.Lines.{journalOf}
-use Rattle.book_journal.specs.Replay.{scoringIn}
 
 -- ---- the winner of a stretch of answered candidates: the earliest with the lowest score; none where none of them was scored
 abbrev pub stretchWinner : List Entry → Chosen
