@@ -16,9 +16,9 @@ use Rattle.score_outcome.specs.Evaluation.{findingRefusal, outcomeOf}
 use Rattle.journal_line.specs.declared.Line.{Line}
 use Rattle.journal_line.specs.Reading.{Lines}
 use Rattle.journal_line.specs.Outcome.{recordedAs}
-use Rattle.book.specs.Calls.{Call, next, seed, answer, ask, Reply, candidate, over, refused}
-use Rattle.book.specs.Book.{Inputs, demand, Entry, Book, entries, number, current, runBest, opened, withWaiting, bookEnter, Kept as Answer, bookNext, bookSeed, bookAnswer, bookResult, bookCall, replyTo, replies, after, lineOf}
-use Rattle.book.proofs.Cases.{case-chosen}
+use Rattle.book.specs.Calls.{Call, next, seed, answer, ask, Reply, candidate, over, refused, progress, stop, last}
+use Rattle.book.specs.Book.{Inputs, demand, Entry, Book, entries, number, current, runBest, opened, withWaiting, bookEnter, Kept as Answer, bookNext, bookSeed, bookAnswer, bookResult, bookProgress, bookStop, bookLast, lastOf, bookCall, replyTo, replies, after, lineOf}
+use Rattle.book.proofs.Cases.{case-chosen, case-option}
 use Rattle.book.proofs.Moves.{entry, Stands, enter-holds, await-holds}
 use Rattle.book.proofs.Good.{Good, Proper}
 use Rattle.book_journal.specs.Lines.{linesOf}
@@ -41,7 +41,7 @@ no-answer : Quiet over
 no-answer = ((λ k. refl), refl, refl)
 
 says : (b : Book) (c : Call) → Says b (bookCall b c)
-unfolding bookCall bookNext bookSeed bookAnswer bookResult
+unfolding bookCall bookNext bookSeed bookAnswer bookResult bookProgress bookStop bookLast
 says b (next n) =
     case (b .waits) (λ w. simp w (quiet refl no-answer)) (λ w.
     case (ltb n (demand (b .inputs))) (λ s. simp (w, s) (quiet refl no-answer)) (λ s.
@@ -54,10 +54,13 @@ says b (answer n f rows flags) =
     (λ w. case (ltb n (demand (b .inputs)))
     (λ s. simp (w, s) (quiet refl no-answer))
     (λ s. case (eqb (findingRefusal f (current b .sensor) rows flags) 0)
-    (λ z. simp (w, s, z) (answers-with (outcomeOf f (current b .sensor) (b .inputs .center) rows flags) w refl refl))
+    (λ z. simp (w, s, z) (answers-with (outcomeOf (b .inputs .share) f (current b .sensor) (b .inputs .center) rows flags) w refl refl))
     (λ z. simp (w, s, z) (quiet refl no-answer))))
     (λ w. simp w (quiet refl no-answer))
 says b ask = case (b .over) (λ o. case-chosen (runBest b) (λ e. simp (o, e) (quiet refl no-answer)) (λ v e. simp (o, e) (quiet refl no-answer))) (λ o. simp o (quiet refl no-answer))
+says b progress = quiet refl no-answer
+says b (stop n) = case (ltb n (demand (b .inputs))) (λ t. simp t (quiet refl no-answer)) (λ t. simp t (quiet refl no-answer))
+says b last = case-option (lastOf (entries b)) (λ e. simp e (quiet refl no-answer)) (λ a e. simp e (quiet refl no-answer))
 
 -- ---- an outcome's reply
 reply-kind : (k : ℕ) (o : Outcome) → said k (replyTo o) ≡ one k (kindOf (recordedAs o))

@@ -1,7 +1,7 @@
 -- The numbers in a run's book fit binary64, its seeds' and its outcomes', where Start's inputs and the host's findings do. Assumes nothing.
 use Prim.Native.Nat.{ℕ, zero, suc, _-_, _/_}
 use native.Mathlib.Omega.{arith}
-use mathlib.Core.Path.{_≡_, ap}
+use mathlib.Core.Path.{_≡_, refl, ap, subst}
 use mathlib.Core.Logic.{⊎-elim}
 use mathlib.Core.Bool.{false, not, _&&_, cond}
 use mathlib.Core.List.{List, [], _∷_, _++_, append-nil, List·Memᴰ, List·Memᴰ·not-nil, List·Memᴰ·cases-cons}
@@ -25,23 +25,23 @@ use Rattle.seed_rules.specs.Rules.{tilts, seedWith}
 use Rattle.seed_rules.specs.Layout.{readFrom, six, seedAt, allSeeds}
 use Rattle.seed_rules.specs.Facts.{initial-all, next-all}
 use Rattle.score_camera.specs.declared.pinhole.PinholeCamera.{PinholeCamera}
-use Rattle.score_camera.specs.Camera.{tangentialBound, damped, dampedCamera, validCamera}
+use Rattle.score_camera.specs.Camera.{tangentialBound, damped, dampedCamera}
 use Rattle.score_rows.specs.declared.ErrorSum.{ErrorSum}
 use Rattle.score_rows.specs.Rows.{meanOf}
 use Rattle.score_outcome.specs.declared.SolvedCamera.{SolvedCamera}
 use Rattle.score_outcome.specs.declared.Finding.{Finding}
 use Rattle.score_outcome.specs.declared.Finding.the-variants.{Failed, Solved}
 use Rattle.score_outcome.specs.declared.Outcome.{Outcome}
-use Rattle.score_outcome.specs.declared.Outcome.the-variants.{Scored}
+use Rattle.score_outcome.specs.declared.Outcome.the-variants.{Skipped, Scored}
 use Rattle.score_outcome.specs.Evaluation.{solvedAt, meanWith, scoringOf, evaluated, outcomeOf, findingRefusal}
-use Rattle.score_outcome.specs.Outcomes.{invalid-skips, infinite-skips, nan-skips, number-scores}
+use Rattle.score_outcome.specs.Outcomes.{scored-passed}
 use Rattle.score_best.specs.declared.Candidate.{Candidate}
 use Rattle.score_best.specs.Best.{Chosen, nothing, chosen, bestOf}
 use Rattle.score_best.specs.Order.{found-leads}
 use Rattle.journal_line.specs.declared.Line.{Line}
 use Rattle.journal_line.specs.Line.{Fits, recordedNumbers, LineFits}
 use Rattle.journal_line.specs.Outcome.{recordedAs, outcomeIn}
-use Rattle.book.specs.Calls.{Call, next, seed, answer, ask}
+use Rattle.book.specs.Calls.{Call, next, seed, answer, ask, progress, stop, last}
 use Rattle.book.specs.Book.{Inputs, demand, Entry, Book, entries, noSeed, current, scoredOf, roundBest, runBest, orElse, firstList, listAround, opened, withWaiting, withEntry, withRound, withEnd, bookEnter, Kept, bookCall, after}
 use Rattle.book.proofs.Cases.{case-outcome}
 use Rattle.book.proofs.Moves.{entry, Closing, close-by, enter-by, enteredBy, Moves, stays, hands, enters, moves}
@@ -149,22 +149,17 @@ module _ (c : PinholeCamera) (t : ScheimpflugParams) (center : Pt2) (rows : List
     ),
   )
 
-  evaluated-held : HeldOutcome (evaluated solved t center rows flags)
-  evaluated-held =
-      case (validCamera (dampedCamera c))
-      (λ v.
-      case (isFinite (meanWith solved rows flags))
-      (λ m.
-      case (isNan (scoringOf solved t center rows flags .score))
-      (λ n. rw (nan-skips solved t center rows flags v m n) tt)
-      (λ n. rw (number-scores solved t center rows flags v m n) scoring-held))
-      (λ m. rw (infinite-skips solved t center rows flags v m) tt))
-      (λ v. rw (invalid-skips solved t center rows flags v) tt)
+  evaluated-held : (share : ℕ) → HeldOutcome (evaluated share solved t center rows flags)
+  evaluated-held share = go (evaluated share solved t center rows flags) refl
+    where
+      go : (o : Outcome) → evaluated share solved t center rows flags ≡ o → HeldOutcome o
+      go (Skipped n) e = tt
+      go (Scored g) e = subst (λ (x : Scoring). HeldOutcome (Scored x)) (scored-passed share solved t center rows flags g e .is) scoring-held
 
-finding-held : (f : Finding) (t : ScheimpflugParams) (center : Pt2) (rows : List Float) (flags : List ℕ) → FindingFits f → HeldOutcome (outcomeOf f t center rows flags)
+finding-held : (share : ℕ) (f : Finding) (t : ScheimpflugParams) (center : Pt2) (rows : List Float) (flags : List ℕ) → FindingFits f → HeldOutcome (outcomeOf share f t center rows flags)
 unfolding outcomeOf
-finding-held Failed t center rows flags h = tt
-finding-held (Solved c) t center rows flags h = evaluated-held c t center rows flags h
+finding-held share Failed t center rows flags h = tt
+finding-held share (Solved c) t center rows flags h = evaluated-held c t center rows flags h share
 
 -- what a call enters
 pub no-entry : (b : Book) (o : Outcome) → [] ≡ entry b o ∷ [] → ⊥
@@ -179,9 +174,12 @@ entered-held b (next n) o k e = absurd (no-entry b o e)
 entered-held b (seed n) o k e = absurd (no-entry b o e)
 entered-held b (answer n f rows flags) o k e =
     case (b .waits && (not (ltb n (demand (b .inputs))) && eqb (findingRefusal f (current b .sensor) rows flags) 0))
-    (λ t. rw (same-outcome b (outcomeOf f (current b .sensor) (b .inputs .center) rows flags) o (simp t at e)) at (finding-held f (current b .sensor) (b .inputs .center) rows flags k))
+    (λ t. rw (same-outcome b (outcomeOf (b .inputs .share) f (current b .sensor) (b .inputs .center) rows flags) o (simp t at e)) at (finding-held (b .inputs .share) f (current b .sensor) (b .inputs .center) rows flags k))
     (λ t. absurd (no-entry b o (simp t at e)))
 entered-held b ask o k e = absurd (no-entry b o e)
+entered-held b progress o k e = absurd (no-entry b o e)
+entered-held b (stop n) o k e = absurd (no-entry b o e)
+entered-held b last o k e = absurd (no-entry b o e)
 
 -- ---- a book's
 abbrev pub HeldEntry : Entry → Type 0

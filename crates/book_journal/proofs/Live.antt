@@ -21,7 +21,7 @@ use Rattle.score_outcome.specs.Evaluation.{findingRefusal, outcomeOf}
 use Rattle.score_best.specs.Best.{noBest}
 use Rattle.search_record.specs.declared.run.Run.{Run}
 use Rattle.search_answer.specs.Answer as ans
-use Rattle.book.specs.Calls.{Call, next, seed, answer, ask}
+use Rattle.book.specs.Calls.{Call, next, seed, answer, ask, progress, stop, last}
 use Rattle.book.specs.Book.{Inputs, demand, Book, entries, current, roundBest, runBest, orElse, listAround, opened, withWaiting, withEntry, withRound, withEnd, closeRound, bookEnter, Kept as Answer, bookAnswer, bookCall, after}
 use Rattle.book.specs.Conditions.{NoneHolds, conditions}
 use Rattle.book.specs.Walk.{runCall}
@@ -162,7 +162,7 @@ answer-list i b l n f rows flags g =
     (λ s. simp (run-fields, t, w, d, s) (refused-list b l n))
     (λ s. case (eqb (findingRefusal f (current b .sensor) rows flags) 0)
     (λ z.
-    let o = outcomeOf f (current b .sensor) (b .inputs .center) rows flags in
+    let o = outcomeOf (b .inputs .share) f (current b .sensor) (b .inputs .center) rows flags in
     let k = steps i .enters-by b o (waits-going i b (g .good) w) (outcome-stands (b .inputs) f (current b .sensor) rows flags) (g .good) in
     let room : 6 * length (bookEnter b o .list) ≤ demand (b .inputs) = rw (k .inputs-are ∙ sym (g .good .inputs-are)) at (k .core .fits) in
     let long = g .there .long in
@@ -181,6 +181,9 @@ call-list i b l (answer n f rows flags) g = answered i b l n f rows flags g
         → runCall (runOf b) l (answer n f rows flags) .list ≡ listAfter b (bookCall b (answer n f rows flags) .book) l
     answered i b l n f rows flags g = unfold bookCall in answer-list i b l n f rows flags g
 call-list i b l ask g = sym (call-unchanged b ask l refl)
+call-list i b l progress g = sym (call-unchanged b progress l refl)
+call-list i b l (stop n) g = sym (call-unchanged b (stop n) l refl)
+call-list i b l last g = sym (call-unchanged b last l refl)
 
 -- ---- any calls
 pub live-list : (i : Inputs) (b : Book) (l : List Float) (cs : List Call) → State i b l → trace.listAfter (runOf b) l cs ≡ listUnder b l cs

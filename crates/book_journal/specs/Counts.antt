@@ -6,18 +6,18 @@ use mathlib.Core.Bool.{cond}
 use mathlib.Core.List.{List, [], _∷_}
 use lib.Dec.{eqb}
 use Rattle.journal_line.specs.declared.Recorded.{Recorded}
-use Rattle.journal_line.specs.declared.Recorded.the-variants as line
+use Rattle.journal_line.specs.declared.Recorded.the-variants as recorded
 use Rattle.journal_line.specs.declared.Line.{Line}
 use Rattle.journal_line.specs.Reading.{readJournal}
-use Rattle.book.specs.Calls.{Call, Reply, candidate, over, part, scored, skipped, result, refused}
+use Rattle.book.specs.Calls.{Call, Reply, candidate, over, part, scored, skipped, result, bar, stopped, line, noLine, refused}
 use Rattle.book.specs.Book.{Inputs, number, bookCall, replies}
 use Rattle.book_journal.specs.Lines.{linesOf, journalOf}
 use Rattle.book_journal.specs.History.{openedBy, History, bookAt}
 
 -- ---- the kinds: 0 for scored, 1 to 4 for skipped for that reason
 abbrev pub kindOf : Recorded → ℕ
-kindOf (line.Scored m) = 0
-kindOf (line.Skipped reason) = reason
+kindOf (recorded.Scored m) = 0
+kindOf (recorded.Skipped reason) = reason
 
 -- 1 of what is of kind k
 abbrev pub one : ℕ → ℕ → ℕ
@@ -40,6 +40,10 @@ said k (part xs) = 0
 said k (scored s) = one k 0
 said k (skipped reason) = one k reason
 said k (result w) = 0
+said k (bar p) = 0
+said k (stopped c r) = 0
+said k (line l) = 0
+said k noLine = 0
 said k (refused n) = 0
 
 unfoldable pub saidIn : ℕ → List Reply → ℕ
@@ -53,6 +57,10 @@ isAnswer (part xs) = 0
 isAnswer (scored s) = 1
 isAnswer (skipped reason) = 1
 isAnswer (result w) = 0
+isAnswer (bar p) = 0
+isAnswer (stopped c r) = 0
+isAnswer (line l) = 0
+isAnswer noLine = 0
 isAnswer (refused n) = 0
 
 unfoldable pub answersIn : List Reply → ℕ
@@ -66,6 +74,10 @@ isHanding (part xs) = 0
 isHanding (scored s) = 0
 isHanding (skipped reason) = 0
 isHanding (result w) = 0
+isHanding (bar p) = 0
+isHanding (stopped c r) = 0
+isHanding (line l) = 0
+isHanding noLine = 0
 isHanding (refused n) = 0
 
 unfoldable pub handedIn : List Reply → ℕ
