@@ -10,11 +10,15 @@ use capi_records::camera::CameraReply;
 use capi_records::camera::InverseReply;
 use capi_records::camera::Matrix3;
 use capi_records::camera::SumReply;
+use capi_records::journal::LineRecord;
+use capi_records::journal::ReadReply;
+use capi_records::journal::WriteReply;
 use capi_records::lists::CenterReply;
 use capi_records::lists::LineReply;
 use capi_records::lists::NormalizeReply;
 use capi_records::plate::PlateReply;
 use capi_records::record::BestRecord;
+use capi_records::record::LastRecord;
 use capi_records::record::OptionsRecord;
 use capi_records::record::PlaceRecord;
 use capi_records::record::RunRecord;
@@ -244,6 +248,34 @@ pub extern "C" fn jc_echo_progress_reply(x: ProgressReply) -> ProgressReply
 
 #[no_mangle]
 pub extern "C" fn jc_echo_stop_flat(x: StopFlat) -> StopFlat
+    ensures { λ r. ⌜ r ≡ x ⌝ }
+{
+    x
+}
+
+#[no_mangle]
+pub extern "C" fn jc_echo_line(x: LineRecord) -> LineRecord
+    ensures { λ r. ⌜ r ≡ x ⌝ }
+{
+    x
+}
+
+#[no_mangle]
+pub extern "C" fn jc_echo_write_reply(x: WriteReply) -> WriteReply
+    ensures { λ r. ⌜ r ≡ x ⌝ }
+{
+    x
+}
+
+#[no_mangle]
+pub extern "C" fn jc_echo_read_reply(x: ReadReply) -> ReadReply
+    ensures { λ r. ⌜ r ≡ x ⌝ }
+{
+    x
+}
+
+#[no_mangle]
+pub extern "C" fn jc_echo_last_record(x: LastRecord) -> LastRecord
     ensures { λ r. ⌜ r ≡ x ⌝ }
 {
     x

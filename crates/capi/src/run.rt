@@ -6,10 +6,12 @@ ghost use Rattle.search_answer.specs.Answer.{answerDef};
 ghost use Rattle.search_calls.specs.Result.{resultDef};
 ghost use Rattle.search_calls.specs.Progress.{progressDef};
 ghost use Rattle.search_calls.specs.Stop.{stopDef};
+ghost use Rattle.search_calls.specs.Last.{lastDef};
 ghost use Rattle.capi_records.specs.Record.{optionsFrom, runFrom};
-ghost use Rattle.capi_records.specs.Run.{flatStarted, flatNext, flatAnswer, flatResult, flatStopped, findingOf, copied, copyCount};
+ghost use Rattle.capi_records.specs.Run.{flatStarted, flatNext, flatAnswer, flatResult, flatStopped, flatLastLine, findingOf, copied, copyCount};
 use camera_models::intrinsics::FxFyCxCy;
 use camera_models::math::Pt2;
+use capi_records::record::LastRecord;
 use capi_records::record::OptionsRecord;
 use capi_records::record::RunRecord;
 use capi_records::record::options_of;
@@ -22,6 +24,7 @@ use capi_records::run::StopFlat;
 use capi_records::run::answer_flat;
 use capi_records::run::copy_part;
 use capi_records::run::finding_of;
+use capi_records::run::last_flat;
 use capi_records::run::next_flat;
 use capi_records::run::result_flat;
 use capi_records::run::start_flat;
@@ -117,4 +120,12 @@ pub extern "C" fn jc_stop(run: RunRecord, list: &[f64]) -> StopFlat
     ensures { λ r. ⌜ r ≡ flatStopped (stopDef (runFrom run) (now (list .entry))) ⌝ }
 {
     stop_flat(search_calls::stop::stop(run_of(run), list))
+}
+
+// The last answered candidate's line, or nothing before the first answer.
+#[no_mangle]
+pub extern "C" fn jc_last_line(run: RunRecord) -> LastRecord
+    ensures { λ r. ⌜ r ≡ flatLastLine (lastDef (runFrom run)) ⌝ }
+{
+    last_flat(search_calls::last::last_line(run_of(run)))
 }

@@ -33,15 +33,16 @@ use Rattle.search_calls.specs.Progress.{progressDef}
 use Rattle.search_calls.specs.declared.stop.Outlook.{Outlook}
 use Rattle.search_calls.specs.declared.stop.Stopped.the-variants.{Standing}
 use Rattle.search_calls.specs.Stop.{bestSoFar, leftSeeds, nothingLeft, outlookOf, stopDef}
+use Rattle.search_calls.specs.Last.{hasLine, recordedIn, lastDef}
 use Rattle.capi_records.specs.Record.{flagOf, isSet, flatRun}
 use Rattle.capi_records.specs.RoundTrip.{run-back}
-use Rattle.capi_records.specs.Run.{flatStarted, flatHanded, flatNext, flatAnswered, flatAnswer, flatResult, flatStopped, findingOf, copied, copyCount}
+use Rattle.capi_records.specs.Run.{flatStarted, flatHanded, flatNext, flatAnswered, flatAnswer, flatResult, flatStopped, flatLastLine, findingOf, copied, copyCount}
 use Rattle.book.specs.Book.{Inputs}
 use Rattle.book.specs.Calls.{Reply, part}
-use Rattle.book.specs.Walk.{Step, handedReply, answeredReply, resultedReply, progressReply, stoppedReply, runCall, walk}
+use Rattle.book.specs.Walk.{Step, handedReply, answeredReply, resultedReply, progressReply, stoppedReply, lastReply, runCall, walk}
 use Rattle.book.specs.Theorem.{optionsOf, startOf, startedList}
 use Rattle.book.proofs.Theorem.{search-is-book}
-use Rattle.capi_book.specs.Exported.{Exported, jc-next, jc-seed, jc-answer, jc-result, jc-progress, jc-stop, callOf, readNext, readAnswer, readResult, readProgress, readStop, FlatStep, flatCall, flatWalk}
+use Rattle.capi_book.specs.Exported.{Exported, jc-next, jc-seed, jc-answer, jc-result, jc-progress, jc-stop, jc-last-line, callOf, readNext, readAnswer, readResult, readProgress, readStop, readLast, FlatStep, flatCall, flatWalk}
 use Rattle.capi_book.specs.Theorem.{ExportedIsWalk, ExportedIsBook}
 
 -- ---- the record in a reply
@@ -88,6 +89,14 @@ stop-read r l =
     case (sound r)
     (λ s. case (ltb (length l) (r .place .demand)) (λ t. simp (s, t)) (λ t. simp (s, t) (outlook-read (outlookOf (bestSoFar r) (leftSeeds r l)))))
     (λ s. simp s (outlook-read (nothingLeft noBest)))
+
+-- a skipped line's reason isn't 0
+last-read : (r : Run) → readLast (flatLastLine (lastDef r)) ≡ lastReply (lastDef r)
+unfolding lastDef recordedIn
+last-read r =
+    case (hasLine r)
+    (λ h. case (eqb (r .last .skipped) 0) (λ z. simp (h, z)) (λ z. simp (h, z)))
+    (λ h. simp h)
 
 outcome-read : (share : ℕ) (f : Finding) (sensor : ScheimpflugParams) (center : Pt2) (rows : List Float) (flags : List ℕ) (r : Run)
     → readAnswer (flatAnswered (replyOf (outcomeOf share f sensor center rows flags)) r) ≡ answeredReply (replyOf (outcomeOf share f sensor center rows flags))
@@ -143,6 +152,7 @@ call-same r l (jc-answer n solved camera rows flags) =
 call-same r l jc-result = record { reply = rw (run-back r) (result-read r); run = refl; list = refl }
 call-same r l jc-progress = record { reply = rw (run-back r) (progress-read (progressDef r)); run = refl; list = refl }
 call-same r l (jc-stop n) = record { reply = rw (run-back r) (stop-read r (take n l)); run = refl; list = refl }
+call-same r l jc-last-line = record { reply = rw (run-back r) (last-read r); run = refl; list = refl }
 
 walk-more : (r : Run) (l : List Float) (c : Exported) (cs : List Exported)
     → ((s : Run) (k : List Float) → flatWalk (flatRun s) k cs ≡ walk s k (map callOf cs)) → flatWalk (flatRun r) l (c ∷ cs) ≡ walk r l (map callOf (c ∷ cs))

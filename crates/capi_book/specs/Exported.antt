@@ -13,15 +13,18 @@ use Rattle.search_calls.specs.declared.progress.ProgressReply.{ProgressReply}
 use Rattle.search_calls.specs.Result.{resultDef}
 use Rattle.search_calls.specs.Progress.{progressDef}
 use Rattle.search_calls.specs.Stop.{stopDef}
+use Rattle.search_calls.specs.Last.{lastDef}
+use Rattle.capi_records.specs.declared.record.LastRecord.{LastRecord}
 use Rattle.capi_records.specs.declared.record.RunRecord.{RunRecord}
 use Rattle.capi_records.specs.declared.run.NextFlat.{NextFlat}
 use Rattle.capi_records.specs.declared.run.AnswerFlat.{AnswerFlat}
 use Rattle.capi_records.specs.declared.run.ResultFlat.{ResultFlat}
 use Rattle.capi_records.specs.declared.run.StopFlat.{StopFlat}
+use Rattle.capi_records.specs.Journal.{lineFrom}
 use Rattle.capi_records.specs.Record.{isSet, runFrom}
-use Rattle.capi_records.specs.Run.{flatNext, flatAnswer, flatResult, flatStopped, findingOf, copied, copyCount}
+use Rattle.capi_records.specs.Run.{flatNext, flatAnswer, flatResult, flatStopped, flatLastLine, findingOf, copied, copyCount}
 use Rattle.score_best.specs.Best.{nothing, chosen}
-use Rattle.book.specs.Calls.{Call, nothing-left, floor, Reply, candidate, over, part, scored, skipped, result, bar, stopped, refused}
+use Rattle.book.specs.Calls.{Call, nothing-left, floor, Reply, candidate, over, part, scored, skipped, result, bar, stopped, line, noLine, refused}
 use Rattle.book.specs.Calls as book
 
 -- An exported call with its arguments, but for the run's record and the seed list. n is how many numbers of the list are lent; jc_seed also
@@ -33,6 +36,7 @@ pub data Exported : Type 0 where
   jc-result : Exported
   jc-progress : Exported
   jc-stop : ℕ → Exported
+  jc-last-line : Exported
 
 -- the call of the book that it makes
 abbrev pub callOf : Exported → Call
@@ -42,6 +46,7 @@ callOf (jc-answer n solved camera rows flags) = book.answer n (findingOf solved 
 callOf jc-result = book.ask
 callOf jc-progress = book.progress
 callOf (jc-stop n) = book.stop n
+callOf jc-last-line = book.last
 
 -- ---- what a host reads off a reply: a number that isn't 0 is a refusal's, and then the flags say which field counts
 abbrev pub readNext : NextFlat → Reply
@@ -62,6 +67,9 @@ readStop f =
     (stopped (cond (eqb (f .«has_best») 0) nothing (chosen (f .best))) (cond (eqb (f .«has_floor») 0) nothing-left (floor (f .floor) (isSet (f .«no_gain»)))))
     (refused (f .number))
 
+abbrev pub readLast : LastRecord → Reply
+readLast f = cond (eqb (f .found) 0) noLine (line (lineFrom (f .line)))
+
 -- ---- what is read of a call, and the record and the whole seed list after it
 pub record FlatStep : Type 0 where
   pub reply : Reply
@@ -80,6 +88,7 @@ flatCall r l (jc-answer n solved camera rows flags) =
 flatCall r l jc-result = record { reply = readResult (flatResult (resultDef (runFrom r))); run = r; list = l }
 flatCall r l jc-progress = record { reply = readProgress (progressDef (runFrom r)); run = r; list = l }
 flatCall r l (jc-stop n) = record { reply = readStop (flatStopped (stopDef (runFrom r) (take n l))); run = r; list = l }
+flatCall r l jc-last-line = record { reply = readLast (flatLastLine (lastDef (runFrom r))); run = r; list = l }
 
 unfoldable pub flatWalk : RunRecord → List Float → List Exported → List Reply
 flatWalk r l [] = []

@@ -6,6 +6,7 @@ use Rattle.float.specs.Literals.{plusZero}
 use Rattle.score_best.specs.declared.Best.{Best}
 use Rattle.score_best.specs.Best.{noBest}
 use Rattle.search_record.specs.Record.{nobody}
+use Rattle.search_record.specs.declared.run.LastAnswer.{LastAnswer}
 use Rattle.search_record.specs.declared.run.Options.{Options}
 use Rattle.search_record.specs.declared.run.Place.{Place}
 use Rattle.search_record.specs.declared.run.Waiting.{Waiting}
@@ -14,7 +15,9 @@ use Rattle.capi_records.specs.declared.record.OptionsRecord.{OptionsReco
 use Rattle.capi_records.specs.declared.record.PlaceRecord.{PlaceRecord}
 use Rattle.capi_records.specs.declared.record.WaitingRecord.{WaitingRecord}
 use Rattle.capi_records.specs.declared.record.BestRecord.{BestRecord}
+use Rattle.capi_records.specs.declared.record.LastRecord.{LastRecord}
 use Rattle.capi_records.specs.declared.record.RunRecord.{RunRecord}
+use Rattle.capi_records.specs.Journal.{noLine}
 
 abbrev pub flagOf : Bool → ℕ
 flagOf b = cond b 1 0
@@ -46,6 +49,26 @@ bestFrom b = record { found = isSet (b .found); candidate = b .candidate }
 abbrev pub flatBest : Best → BestRecord
 flatBest b = record { found = flagOf (b .found); candidate = b .candidate }
 
+abbrev pub lastFrom : LastRecord → LastAnswer
+lastFrom l =
+    let m = l .line in
+    record {
+      found = isSet (l .found);
+      number = m .number;
+      round = m .round;
+      seed = m .seed;
+      skipped = m .skipped;
+      scored = record { score = m .score; mean = m .mean; k = m .k; p1 = m .p1; p2 = m .p2 };
+    }
+
+abbrev pub flatLast : LastAnswer → LastRecord
+flatLast a =
+    let f = a .scored in
+    record {
+      found = flagOf (a .found);
+      line = record { number = a .number; round = a .round; seed = a .seed; skipped = a .skipped; score = f .score; mean = f .mean; k = f .k; p1 = f .p1; p2 = f .p2 };
+    }
+
 abbrev pub runFrom : RunRecord → Run
 runFrom r = record {
   options = optionsFrom (r .options);
@@ -54,6 +77,7 @@ runFrom r = record {
   waiting = waitingFrom (r .waiting);
   «round_best» = bestFrom (r .«round_best»);
   «run_best» = bestFrom (r .«run_best»);
+  last = lastFrom (r .last);
 }
 
 abbrev pub flatRun : Run → RunRecord
@@ -64,6 +88,7 @@ flatRun r = record {
   waiting = flatWaiting (r .waiting);
   «round_best» = flatBest (r .«round_best»);
   «run_best» = flatBest (r .«run_best»);
+  last = flatLast (r .last);
 }
 
 -- all zeros
@@ -75,4 +100,5 @@ noRun = record {
   waiting = flatWaiting nobody;
   «round_best» = flatBest noBest;
   «run_best» = flatBest noBest;
+  last = record { found = 0; line = noLine };
 }

@@ -9,4 +9,4 @@ set-flag true = refl
 set-flag false = refl
 
 pub run-back : (r : Run) → runFrom (flatRun r) ≡ r
-run-back r = simp (set-flag (r .options .«one_axis»), set-flag (r .place .over), set-flag (r .waiting .«is_waiting»), set-flag (r .«round_best» .found), set-flag (r .«run_best» .found))
+run-back r = simp (set-flag (r .options .«one_axis»), set-flag (r .place .over), set-flag (r .waiting .«is_waiting»), set-flag (r .«round_best» .found), set-flag (r .«run_best» .found), set-flag (r .last .found))

@@ -30,6 +30,10 @@ use Rattle.capi_records.specs.declared.run.NextFlat.{NextFlat}
 use Rattle.capi_records.specs.declared.run.AnswerFlat.{AnswerFlat}
 use Rattle.capi_records.specs.declared.run.ResultFlat.{ResultFlat}
 use Rattle.capi_records.specs.declared.run.StopFlat.{StopFlat}
+use Rattle.search_calls.specs.declared.last.LastLine.{LastLine}
+use Rattle.search_calls.specs.declared.last.LastLine.the-variants as lastline
+use Rattle.capi_records.specs.declared.record.LastRecord.{LastRecord}
+use Rattle.capi_records.specs.Journal.{flatLine, noLine}
 
 -- 01, 'Start'
 abbrev pub flatStarted : Started → StartFlat
@@ -84,3 +88,8 @@ copied part to = cond (leb (length part) (length to)) (part ++ drop (length part
 
 abbrev pub copyCount : List Float → List Float → ℕ
 copyCount part to = cond (leb (length part) (length to)) (length part) 0
+
+-- the last answered line, or nothing
+abbrev pub flatLastLine : LastLine → LastRecord
+flatLastLine (lastline.Answered l) = record { found = 1; line = flatLine l }
+flatLastLine lastline.Nothing = record { found = 0; line = noLine }

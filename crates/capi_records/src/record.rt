@@ -1,9 +1,13 @@
 // The run's record with its flags as bytes, and the ways there and back.
 ghost use mathlib.Core.Path.{_≡_};
-ghost use Rattle.capi_records.specs.Record.{flagOf, optionsFrom, flatOptions, placeFrom, flatPlace, waitingFrom, flatWaiting, bestFrom, flatBest, runFrom, flatRun, noRun};
+ghost use Rattle.capi_records.specs.Record.{flagOf, optionsFrom, flatOptions, placeFrom, flatPlace, waitingFrom, flatWaiting, bestFrom, flatBest, lastFrom, flatLast, runFrom, flatRun, noRun};
 use camera_models::math::Pt2;
+use crate::journal::LineRecord;
+use crate::journal::no_line;
+use journal_line::ScoredFields;
 use score_best::Best;
 use score_best::Candidate;
+use search_record::run::LastAnswer;
 use search_record::run::Options;
 use search_record::run::Place;
 use search_record::run::Run;
@@ -42,6 +46,13 @@ pub struct BestRecord {
     pub candidate: Candidate,
 }
 
+// The last answered candidate's line, if found is not 0.
+#[repr(C)]
+pub struct LastRecord {
+    pub found: u8,
+    pub line: LineRecord,
+}
+
 #[repr(C)]
 pub struct RunRecord {
     pub options: OptionsRecord,
@@ -50,6 +61,7 @@ pub struct RunRecord {
     pub waiting: WaitingRecord,
     pub round_best: BestRecord,
     pub run_best: BestRecord,
+    pub last: LastRecord,
 }
 
 pub fn flag(b: bool) -> u8
@@ -150,6 +162,48 @@ fn best_record(b: Best) -> BestRecord
     }
 }
 
+fn last_of(l: LastRecord) -> LastAnswer
+    ensures { λ r. ⌜ r ≡ lastFrom l ⌝ }
+{
+    let seed = l.line.seed;
+    let k = l.line.k;
+    LastAnswer {
+        found: l.found != 0,
+        number: l.line.number,
+        round: l.line.round,
+        seed,
+        skipped: l.line.skipped,
+        scored: ScoredFields {
+            score: l.line.score,
+            mean: l.line.mean,
+            k,
+            p1: l.line.p1,
+            p2: l.line.p2,
+        },
+    }
+}
+
+fn last_record(a: LastAnswer) -> LastRecord
+    ensures { λ r. ⌜ r ≡ flatLast a ⌝ }
+{
+    let seed = a.seed;
+    let k = a.scored.k;
+    LastRecord {
+        found: flag(a.found),
+        line: LineRecord {
+            number: a.number,
+            round: a.round,
+            seed,
+            skipped: a.skipped,
+            score: a.scored.score,
+            mean: a.scored.mean,
+            k,
+            p1: a.scored.p1,
+            p2: a.scored.p2,
+        },
+    }
+}
+
 pub fn run_of(r: RunRecord) -> Run
     ensures { λ s. ⌜ s ≡ runFrom r ⌝ }
 {
@@ -161,6 +215,7 @@ pub fn run_of(r: RunRecord) -> Run
         waiting: waiting_of(r.waiting),
         round_best: best_of(r.round_best),
         run_best: best_of(r.run_best),
+        last: last_of(r.last),
     }
 }
 
@@ -175,6 +230,7 @@ pub fn run_record(r: Run) -> RunRecord
         waiting: waiting_record(r.waiting),
         round_best: best_record(r.round_best),
         run_best: best_record(r.run_best),
+        last: last_record(r.last),
     }
 }
 
@@ -203,5 +259,9 @@ pub fn no_run() -> RunRecord
         waiting: waiting_record(search_record::run::nobody()),
         round_best: best_record(score_best::no_best()),
         run_best: best_record(score_best::no_best()),
+        last: LastRecord {
+            found: 0,
+            line: no_line(),
+        },
     }
 }

@@ -4,7 +4,10 @@ ghost use Prim.Native.Nat.{_≤_};
 ghost use lib.ListN.{length};
 ghost use lib.Seq.{sets};
 ghost use Rattle.score_best.specs.Best.{noBest};
-ghost use Rattle.capi_records.specs.Run.{flatStarted, flatNext, flatAnswer, flatResult, flatOutlook, flatStopped, findingOf, copied, copyCount};
+ghost use Rattle.capi_records.specs.Run.{flatStarted, flatNext, flatAnswer, flatResult, flatOutlook, flatStopped, flatLastLine, findingOf, copied, copyCount};
+use crate::journal::line_record;
+use crate::journal::no_line;
+use crate::record::LastRecord;
 use crate::record::RunRecord;
 use crate::record::flag;
 use crate::record::no_run;
@@ -14,6 +17,7 @@ use score_camera::pinhole::PinholeCamera;
 use score_outcome::Finding;
 use search_answer::AnswerReply;
 use search_answer::Answered;
+use search_calls::last::LastLine;
 use search_calls::next::Handed;
 use search_calls::next::NextReply;
 use search_calls::result::Resulted;
@@ -215,4 +219,19 @@ pub fn copy_part(part: &[f64], to: &mut [f64]) -> usize
     }
     copy(part, to);
     part.len()
+}
+
+pub fn last_flat(last: LastLine) -> LastRecord
+    ensures { λ r. ⌜ r ≡ flatLastLine last ⌝ }
+{
+    match last {
+        LastLine::Answered(line) => LastRecord {
+            found: 1,
+            line: line_record(line),
+        },
+        LastLine::Nothing => LastRecord {
+            found: 0,
+            line: no_line(),
+        },
+    }
 }

@@ -1,4 +1,4 @@
--- `capi_records::record::no_run` meets its contract, by those of `nobody`, `waiting_record`, `no_best` and `best_record`. Assumes nothing.
+-- `capi_records::record::no_run` meets its contract, by those of `nobody`, `waiting_record`, `no_best`, `best_record` and `no_line`. Assumes nothing.
 use borrow.Author.Needs.{needs}
 use Rattle.capi_records.proofs.record.no_run.Statement.{statement}
 use Rattle.capi_records.proofs.record.no_run.Tie as tie
@@ -21,15 +21,19 @@ no-best-requires-2 c κs = search needs
 best-record-requires-2 : tie.Need-best-record-requires-2
 best-record-requires-2 c κs = search needs
 
+no-line-requires : tie.Need-no-line-requires
+no-line-requires c κs = search needs
+
 returns : tie.Need-returns
 returns c =
     simp (
-      c .best-record2 .ensures,
-      c .before .no-best2 .ensures,
-      c .before .before .best-record .ensures,
-      c .before .before .before .no-best .ensures,
-      c .before .before .before .before .waiting-record .ensures,
-      c .before .before .before .before .before .nobody .ensures,
+      c .no-line .ensures,
+      c .before .best-record2 .ensures,
+      c .before .before .no-best2 .ensures,
+      c .before .before .before .best-record .ensures,
+      c .before .before .before .before .no-best .ensures,
+      c .before .before .before .before .before .waiting-record .ensures,
+      c .before .before .before .before .before .before .nobody .ensures,
     )
 
 pub no-run-spec : {M : Type 1} → statement M
@@ -42,4 +46,5 @@ no-run-spec =
     best-record-requires
     no-best-requires-2
     best-record-requires-2
+    no-line-requires
     returns)
