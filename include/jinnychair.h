@@ -82,6 +82,8 @@ enum {
     JC_SOURCE_COLLINEAR = 24,      /* the source points lie on a line */
     JC_DESTINATION_COLLINEAR = 25, /* the destination points lie on a line */
     JC_TILT_TOO_LARGE = 27,        /* max_abs_tilt is above 0.5 radians (28.6 degrees), or a tilt is NaN or beyond that */
+    JC_NOT_WRITABLE = 28,          /* a line's buffer is below JC_LINE_LEN bytes, or the line isn't one that a journal has */
+    JC_NOT_A_LINE = 29,            /* the bytes at the place aren't those of a line */
     JC_TILTS_OFF_AXIS = 31,        /* a one-axis run's y tilts aren't the single value 0, of either sign */
     JC_SEED_OFF_AXIS = 32,         /* a decomposition seed of a one-axis run has a tilt y other than 0 */
     JC_SHARE_TOO_LARGE = 33,       /* min_counted is above 100 */
@@ -107,7 +109,8 @@ enum {
     JC_SEED_NUMBERS = 6,    /* of a seed */
     JC_ROW_NUMBERS = 4,     /* of an answer's row */
     JC_DESIGN_NUMBERS = 18, /* of a point's two design rows */
-    JC_MOST_LIST = 3072     /* numbers that a seed list can need */
+    JC_MOST_LIST = 3072,    /* numbers that a seed list can need */
+    JC_LINE_LEN = 256       /* bytes that a buffer for a line of the journal needs */
 };
 
 /* How many numbers the seed list of a search needs. */
@@ -261,6 +264,24 @@ typedef struct {
     jc_candidate candidate;
 } jc_best_record;
 
+/* A line of the journal: an answered candidate's number, the round that it was handed out in, its seed, and what came of it. Where skipped is 0
+ * it was scored, and score, mean error, focal lengths, centre and tangential distortion are those of the scored camera; else skipped is
+ * JC_SKIP_..., and the numbers behind it are not read, and 0 where a line was read. */
+typedef struct {
+    size_t number, round;
+    jc_candidate_seed seed;
+    uint8_t skipped;
+    double score, mean;
+    jc_intrinsics k;
+    double p1, p2;
+} jc_line;
+
+/* The last answered candidate's line, if found is not 0. */
+typedef struct {
+    uint8_t found;
+    jc_line line;
+} jc_last_line_record;
+
 /* A run. The caller keeps it and hands it on unchanged from call to call; it may be copied and stored. Nothing in it is a pointer. */
 typedef struct {
     jc_options options;
@@ -268,6 +289,7 @@ typedef struct {
     jc_place_record place;
     jc_waiting_record waiting;
     jc_best_record round_best, run_best;
+    jc_last_line_record last;
 } jc_run_record;
 
 /* 0 and the run, or a refusal. */
@@ -310,6 +332,21 @@ typedef struct {
     jc_candidate best;
     double floor;
 } jc_stop_flat;
+
+/* 0 and how many bytes were written, or a refusal. */
+typedef struct {
+    uint8_t number;
+    size_t len;
+} jc_write_flat;
+
+/* 0 and a line; 0 and end, 1; or a refusal and the line's number, from 1. The next line is read at next: behind a line that was read, and
+ * else at the place that was asked for. */
+typedef struct {
+    uint8_t number, end;
+    size_t line_number;
+    jc_line line;
+    size_t next;
+} jc_read_flat;
 
 /* ---- root, camera, tilt, distortion ---- */
 
@@ -415,6 +452,19 @@ jc_progress_reply jc_progress(jc_run_record run);
  * waiting seed counts as the run keeps it, the others as they stand in the list now, a penalty that isn't a number as infinity. 10. */
 jc_stop_flat jc_stop(jc_run_record run, const double *list, size_t list_len);
 
+/* ---- the journal: a line for each answered candidate ---- */
+
+/* The last answered candidate's line, if there is one. The run keeps one only: write it before the next jc_answer. */
+jc_last_line_record jc_last_line(jc_run_record run);
+/* Writes the line to the front of `to`: 124 to 247 bytes, 17 fields with commas between them and a newline at the end: number, round, the
+ * seed's six numbers, S or the skip's letter (H, C, E, N for 1 to 4), score, mean, fx, fy, cx, cy, p1, p2. Number and round are decimal, the
+ * others the 16 hexadecimal digits of their bits, with 7ff8000000000000 for every NaN; behind a skip's letter each field is a minus sign. 28
+ * where `to` has less than JC_LINE_LEN bytes, the number is above 655, the round above 16, skipped above 4, or the score of a scored line NaN. */
+jc_write_flat jc_write_line(jc_line line, uint8_t *to, size_t to_len);
+/* Reads the line at a place of a journal; at its end, and behind it, end is 1. 29 where the bytes there aren't, byte for byte, a line that
+ * jc_write_line writes. */
+jc_read_flat jc_read_line(const uint8_t *bytes, size_t bytes_len, size_t at);
+
 /* ---- for tests only: each struct as it came, to see that both sides lay it out alike ---- */
 
 jc_pt2 jc_echo_pt2(jc_pt2 x);
@@ -441,6 +491,10 @@ jc_center_reply jc_echo_center_reply(jc_center_reply x);
 jc_place_record jc_echo_place_record(jc_place_record x);
 jc_waiting_record jc_echo_waiting_record(jc_waiting_record x);
 jc_best_record jc_echo_best_record(jc_best_record x);
+jc_line jc_echo_line(jc_line x);
+jc_last_line_record jc_echo_last_line_record(jc_last_line_record x);
+jc_write_flat jc_echo_write_flat(jc_write_flat x);
+jc_read_flat jc_echo_read_flat(jc_read_flat x);
 jc_run_record jc_echo_run_record(jc_run_record x);
 jc_start_flat jc_echo_start_flat(jc_start_flat x);
 jc_next_flat jc_echo_next_flat(jc_next_flat x);
@@ -543,19 +597,38 @@ JC_ASSERT(sizeof(jc_waiting_record) == 56);
 JC_ASSERT(offsetof(jc_waiting_record, seed) == 8);
 JC_ASSERT(sizeof(jc_best_record) == 120);
 JC_ASSERT(offsetof(jc_best_record, candidate) == 8);
-JC_ASSERT(sizeof(jc_run_record) == 408);
+JC_ASSERT(sizeof(jc_line) == 136);
+JC_ASSERT(offsetof(jc_line, round) == 8);
+JC_ASSERT(offsetof(jc_line, seed) == 16);
+JC_ASSERT(offsetof(jc_line, skipped) == 64);
+JC_ASSERT(offsetof(jc_line, score) == 72);
+JC_ASSERT(offsetof(jc_line, mean) == 80);
+JC_ASSERT(offsetof(jc_line, k) == 88);
+JC_ASSERT(offsetof(jc_line, p1) == 120);
+JC_ASSERT(offsetof(jc_line, p2) == 128);
+JC_ASSERT(sizeof(jc_last_line_record) == 144);
+JC_ASSERT(offsetof(jc_last_line_record, line) == 8);
+JC_ASSERT(sizeof(jc_write_flat) == 16);
+JC_ASSERT(offsetof(jc_write_flat, len) == 8);
+JC_ASSERT(sizeof(jc_read_flat) == 160);
+JC_ASSERT(offsetof(jc_read_flat, end) == 1);
+JC_ASSERT(offsetof(jc_read_flat, line_number) == 8);
+JC_ASSERT(offsetof(jc_read_flat, line) == 16);
+JC_ASSERT(offsetof(jc_read_flat, next) == 152);
+JC_ASSERT(sizeof(jc_run_record) == 552);
 JC_ASSERT(offsetof(jc_run_record, center) == 40);
 JC_ASSERT(offsetof(jc_run_record, place) == 56);
 JC_ASSERT(offsetof(jc_run_record, waiting) == 112);
 JC_ASSERT(offsetof(jc_run_record, round_best) == 168);
 JC_ASSERT(offsetof(jc_run_record, run_best) == 288);
-JC_ASSERT(sizeof(jc_start_flat) == 416);
+JC_ASSERT(offsetof(jc_run_record, last) == 408);
+JC_ASSERT(sizeof(jc_start_flat) == 560);
 JC_ASSERT(offsetof(jc_start_flat, run) == 8);
-JC_ASSERT(sizeof(jc_next_flat) == 424);
+JC_ASSERT(sizeof(jc_next_flat) == 568);
 JC_ASSERT(offsetof(jc_next_flat, over) == 1);
 JC_ASSERT(offsetof(jc_next_flat, candidate) == 8);
 JC_ASSERT(offsetof(jc_next_flat, run) == 16);
-JC_ASSERT(sizeof(jc_answer_flat) == 424);
+JC_ASSERT(sizeof(jc_answer_flat) == 568);
 JC_ASSERT(offsetof(jc_answer_flat, skipped) == 1);
 JC_ASSERT(offsetof(jc_answer_flat, score) == 8);
 JC_ASSERT(offsetof(jc_answer_flat, run) == 16);

@@ -261,21 +261,21 @@ pub extern "C" fn jc_echo_line(x: LineRecord) -> LineRecord
 }
 
 #[no_mangle]
-pub extern "C" fn jc_echo_write_reply(x: WriteReply) -> WriteReply
+pub extern "C" fn jc_echo_write_flat(x: WriteReply) -> WriteReply
     ensures { λ r. ⌜ r ≡ x ⌝ }
 {
     x
 }
 
 #[no_mangle]
-pub extern "C" fn jc_echo_read_reply(x: ReadReply) -> ReadReply
+pub extern "C" fn jc_echo_read_flat(x: ReadReply) -> ReadReply
     ensures { λ r. ⌜ r ≡ x ⌝ }
 {
     x
 }
 
 #[no_mangle]
-pub extern "C" fn jc_echo_last_record(x: LastRecord) -> LastRecord
+pub extern "C" fn jc_echo_last_line_record(x: LastRecord) -> LastRecord
     ensures { λ r. ⌜ r ≡ x ⌝ }
 {
     x
