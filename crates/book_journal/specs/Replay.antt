@@ -5,14 +5,22 @@ use mathlib.Core.Bool.{Bool, true, false, not, _&&_, cond}
 use mathlib.Core.List.{List, [], _∷_}
 use lib.Dec.{eqb}
 use lib.ListN.{length}
-use lib.Ieee.{Float}
+use lib.Ieee.{Float, lt}
+use Rattle.float.specs.Float.{bitsOf, isFinite}
+use Rattle.float.specs.Literals.{plusZero}
+use Rattle.camera_models.specs.declared.math.Pt2.{Pt2}
+use Rattle.camera_tilt.specs.declared.sensor.ScheimpflugParams.{ScheimpflugParams}
 use Rattle.seed_rules.specs.declared.CandidateSeed.{CandidateSeed}
+use Rattle.seed_rules.specs.Rules.{within}
 use Rattle.seed_rules.specs.Layout.{six, written}
+use Rattle.score_camera.specs.Camera.{tangentialBound, validCamera}
+use Rattle.score_camera.specs.Penalties.{scoreOf}
 use Rattle.score_best.specs.Best.{Chosen, nothing, chosen}
 use Rattle.search_start.specs.Start.{startRefusal}
+use Rattle.journal_line.specs.declared.Recorded.{Recorded}
+use Rattle.journal_line.specs.declared.Recorded.the-variants as line
 use Rattle.journal_line.specs.declared.Line.{Line}
-use Rattle.journal_line.specs.Outcome.{outcomeIn}
-use Rattle.journal_line.specs.Standing.{sameReals, canStand}
+use Rattle.journal_line.specs.Outcome.{scoringIn, outcomeIn}
 use Rattle.journal_line.specs.Reading.{Ending, ended, refused, unread, readJournal}
 use Rattle.book.specs.Book.{Inputs, Book, number, current, runBest, firstList, opened, bookEnter}
 use Rattle.book.specs.Theorem.{optionsOf}
@@ -22,6 +30,29 @@ unfoldable pub startNumber : Inputs → ℕ → ℕ
 startNumber i n = startRefusal (i .views) (optionsOf i) (i .xs) (i .ys) (i .decomposition) n
 
 -- ---- a line beside the book
+-- bit by bit, any NaN matching any
+unfoldable pub sameReal : Float → Float → Bool
+sameReal x y = eqb (bitsOf x) (bitsOf y)
+
+unfoldable pub sameReals : List Float → List Float → Bool
+sameReals [] [] = true
+sameReals [] (y ∷ ys) = false
+sameReals (x ∷ xs) [] = false
+sameReals (x ∷ xs) (y ∷ ys) = sameReal x y && sameReals xs ys
+
+-- What a line records of a seed with the tilts t can be taken for its answer. Of S: Answer's camera check, tangential coefficients of at most 0.05 in size, a finite
+-- mean not below 0, and the very score that Answer would work out from it. Of a skip nothing is asked.
+unfoldable pub canStand : Pt2 → ScheimpflugParams → Recorded → Bool
+canStand center t (line.Skipped reason) = true
+canStand center t (line.Scored m) =
+    let c = scoringIn m .camera in
+    validCamera c
+    && within tangentialBound (m .p1)
+    && within tangentialBound (m .p2)
+    && isFinite (m .mean)
+    && not (lt (m .mean) plusZero)
+    && sameReal (m .score) (scoreOf (m .mean) c t center)
+
 -- The line can be the answer to the seed that the book hands out next: number, round and seed are its own. None can once the run is over.
 unfoldable pub follows : Book → Line → Bool
 follows b l =

@@ -19,9 +19,8 @@ use Rattle.journal_line.specs.declared.Recorded.the-variants as line
 use Rattle.journal_line.specs.declared.Line.{Line}
 use Rattle.journal_line.specs.Line.{digitByte, digits, decimalWidth, decimal, real, reasonLetter, outcomeFields, restOfLine, lineBytes, recordable, writable, journalBytes}
 use Rattle.journal_line.specs.Reading.{digitOf, numberAt, decimalWidthAt, realAt, reals, reasonOf, outcomeAt, fromRound, fromSeed, uncheckedLine, begins, ofForm, newlines, readLine, goesOn, readAll}
-use Rattle.journal_line.specs.Standing.{sameReal, sameReals, canStand}
 use Rattle.book.specs.Book.{Inputs, demand, stepOf, scoredOf, roundBest, runBest, firstList, listAround, opened, withEntry, withRound, withEnd, closeRound, bookEnter}
-use Rattle.book_journal.specs.Replay.{startNumber, follows, listAfter, walkFrom, walked, winner, unfinished, declined, declinedAt, standing, replayOf}
+use Rattle.book_journal.specs.Replay.{sameReal, sameReals, canStand, startNumber, follows, listAfter, walkFrom, walked, winner, unfinished, declined, declinedAt, standing, replayOf}
 use Rattle.book_journal.specs.Resume.{byNothing, byMissingNewline, by29, by30, Report, reportOn}
 
 abbrev bits : ℕ → Float

@@ -6,7 +6,6 @@ pub mod Line
 pub mod Numbers
 pub mod Outcome
 pub mod Reading
-pub mod Standing
 pub mod Steps
 pub mod Summary
 pub mod Unique
