@@ -46,6 +46,7 @@ use Rattle.book.proofs.Seeds.{nine}
 use Rattle.book.proofs.Good.{Proper, Good, waits-going, at-most}
 use Rattle.book.proofs.RunOf.{runOf, State, run-waiting, run-round-best, run-run-best, run-max, run-one-axis, run-fields, run-bests, sound-run, lastIn, run-last}
 use Rattle.book.proofs.Lists.{seed-at, part-at, seeds-there, Front, lend, give-back, write-front, no-front, short}
+use Rattle.search_calls.specs.declared.last.LastLine.the-variants as lastline
 use Rattle.search_calls.specs.Last.{hasLine, recordedIn, lastDef}
 
 -- a call's step beside the book's
@@ -181,23 +182,29 @@ last-all P (d ∷ es) h = case-option (lastOf es) (λ n. simp (lastOf, n) (h .0)
 
 -- it was scored, or skipped for a reason from 1 to 4
 line-is : (i : Inputs) (n r : ℕ) (s : CandidateSeed) (o : Outcome) → Stands i (s .sensor) o → (x : Run) → rec.sound x ≡ true → x .last ≡ rec.lastAnswer n r s (recordedAs o)
-    → lastReply (lastDef x) ≡ line (record { number = n; round = r; seed = s; outcome = recordedAs o })
+    → lastDef x ≡ lastline.Answered (record { number = n; round = r; seed = s; outcome = recordedAs o })
 unfolding lastDef hasLine recordedIn
 line-is i n r s (Skipped k) p x t h = simp (t, h, le-leb k 4 (p .1), ne-eqb k 0 (λ e. omega (arith, p .0)))
 line-is i n r s (Scored g) p x t h = simp (t, h)
 
-no-line : (x : Run) → x .last ≡ rec.noAnswer → lastReply (lastDef x) ≡ noLine
+no-line : (x : Run) → x .last ≡ rec.noAnswer → lastDef x ≡ lastline.Nothing
 unfolding lastDef hasLine
 no-line x h = case (rec.sound x) (λ t. simp (h, t)) (λ t. simp (h, t))
+
+-- the last of a book's entries, and its line
+pub last-proper : (i : Inputs) (b : Book) (e : Entry) → Good i b → lastOf (entries b) ≡ some e → Proper (b .inputs) e
+last-proper i b e g n = rw n at (last-all (Proper (b .inputs)) (entries b) (g .core .proper))
+
+pub last-line-is : (i : Inputs) (b : Book) (e : Entry) → Good i b → lastOf (entries b) ≡ some e → lastDef (runOf b) ≡ lastline.Answered (lineOf e)
+last-line-is i b e g n =
+    line-is (b .inputs) (e .number) (e .round) (e .seed) (e .outcome) (last-proper i b e g n .stands) (runOf b) (sound-run i b g) (run-last b ∙ ap lastIn n)
 
 last-agrees : (i : Inputs) (b : Book) (l : List Float) → State i b l → Agrees (runCall (runOf b) l last) (bookLast b)
 unfolding runCall bookLast
 last-agrees i b l f =
     case-option (lastOf (entries b))
-    (λ n. record { reply = simp n (no-line (runOf b) (run-last b ∙ ap lastIn n)); run = refl; there = f .there })
-    (λ e n.
-    let p = rw n at (last-all (Proper (b .inputs)) (entries b) (f .good .core .proper)) in
-    record { reply = simp n (line-is (b .inputs) (e .number) (e .round) (e .seed) (e .outcome) (p .stands) (runOf b) (sound-run i b (f .good)) (run-last b ∙ ap lastIn n)); run = refl; there = f .there })
+    (λ n. record { reply = simp n (ap lastReply (no-line (runOf b) (run-last b ∙ ap lastIn n))); run = refl; there = f .there })
+    (λ e n. record { reply = simp n (ap lastReply (last-line-is i b e (f .good) n)); run = refl; there = f .there })
 
 -- ---- the end of a round
 -- the run and the list that go with a book

@@ -50,7 +50,7 @@ recordable-outcome i t (Skipped n) s = rw (le-leb 1 n (s .0), le-leb n 4 (s .1))
 recordable-outcome i t (Scored g) s = ap not (s .score-number)
 
 -- ---- the lines of a trail are such as the writer takes
-entry-taken : (i : Inputs) (b : Book) (o : Outcome) → Good i b → b .over ≡ false → Stands (b .inputs) (current b .sensor) o → Writable (lineOf (entry b o))
+pub entry-taken : (i : Inputs) (b : Book) (o : Outcome) → Good i b → b .over ≡ false → Stands (b .inputs) (current b .sensor) o → Writable (lineOf (entry b o))
 unfolding writable
 entry-taken i b o g v s = rw (le-leb (number b) 655 (number-most i b g v), le-leb (b .round) 16 (round-most i b g)) (recordable-outcome (b .inputs) (current b .sensor) o s)
 

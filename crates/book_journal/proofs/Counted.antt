@@ -29,10 +29,10 @@ use Rattle.book_journal.proofs.Again.{sound-at, lines-right}
 use Rattle.book_journal.proofs.Cut.{none-waits}
 
 -- ---- what a call replies, beside what it does: nothing and no answer, Next's candidate, or an outcome's reply
-abbrev Quiet : Reply → Type 0
+abbrev pub Quiet : Reply → Type 0
 Quiet r = ((k : ℕ) → said k r ≡ 0) × (isAnswer r ≡ 0) × (isHanding r ≡ 0)
 
-data Says (b : Book) (k : Answer) : Type 0 where
+pub data Says (b : Book) (k : Answer) : Type 0 where
   quiet : k .book ≡ b → Quiet (k .reply) → Says b k
   hands-out : b .waits ≡ false → k .book ≡ withWaiting b → k .reply ≡ candidate (number b) → Says b k
   answers-with : (o : Outcome) → b .waits ≡ true → k .book ≡ bookEnter b o → k .reply ≡ replyTo o → Says b k
@@ -40,7 +40,7 @@ data Says (b : Book) (k : Answer) : Type 0 where
 no-answer : Quiet over
 no-answer = ((λ k. refl), refl, refl)
 
-says : (b : Book) (c : Call) → Says b (bookCall b c)
+pub says : (b : Book) (c : Call) → Says b (bookCall b c)
 unfolding bookCall bookNext bookSeed bookAnswer bookResult bookProgress bookStop bookLast
 says b (next n) =
     case (b .waits) (λ w. simp w (quiet refl no-answer)) (λ w.
@@ -67,7 +67,7 @@ reply-kind : (k : ℕ) (o : Outcome) → said k (replyTo o) ≡ one k (kindOf (r
 reply-kind k (Skipped n) = refl
 reply-kind k (Scored s) = refl
 
-reply-answers : (o : Outcome) → (isAnswer (replyTo o) ≡ 1) × (isHanding (replyTo o) ≡ 0)
+pub reply-answers : (o : Outcome) → (isAnswer (replyTo o) ≡ 1) × (isHanding (replyTo o) ≡ 0)
 reply-answers (Skipped n) = (refl, refl)
 reply-answers (Scored s) = (refl, refl)
 
@@ -77,7 +77,7 @@ unfolding countIn
 count-append k [] ms = omega arith
 count-append k (l ∷ ls) ms = omega (arith, count-append k ls ms)
 
-lines-enter : (b : Book) (o : Outcome) → linesOf (bookEnter b o) ≡ linesOf b ++ lineOf (entry b o) ∷ []
+pub lines-enter : (b : Book) (o : Outcome) → linesOf (bookEnter b o) ≡ linesOf b ++ lineOf (entry b o) ∷ []
 lines-enter b o = ap (map lineOf) (enter-holds b o .0) ∙ map-append lineOf (entries b) (entry b o ∷ [])
 
 -- one more entry is one more of its kind, as the run's record keeps the counts

@@ -13,4 +13,5 @@ pub mod GoingOn
 pub mod Counted
 pub mod Stretched
 pub mod Live
+pub mod Written
 pub mod Theorem

@@ -13,10 +13,12 @@ use Rattle.book_journal.proofs.Cut as cutting
 use Rattle.book_journal.proofs.GoingOn as going
 use Rattle.book_journal.proofs.Counted as counting
 use Rattle.book_journal.proofs.Stretched as stretching
+use Rattle.book_journal.proofs.Written.{written-is-journal}
 
 pub journals-right : JournalsRight
 journals-right = record {
   lines-taken = lines-taken;
+  written-is-journal = written-is-journal;
   lines-of-run = λ i h f. lines-right i (bookAt h) (sound-at i h (f .inputs-fit) (f .calls-fit));
   start-first = start-number;
   start-refuses = replying.start-refuses;

@@ -6,5 +6,6 @@ pub mod Resume
 pub mod Counts
 pub mod Stretches
 pub mod Live
+pub mod Written
 pub mod Theorem
 pub mod Worked

@@ -19,6 +19,7 @@ use Rattle.book_journal.specs.Resume.{Report, resumed, resumeOf, ResumeR
 use Rattle.book_journal.specs.Counts.{CountsAgree, InJournal}
 use Rattle.book_journal.specs.Stretches.{Groups, StretchesRight, LineStretchesRight}
 use Rattle.book_journal.specs.Live.{LiveBuffer, Continues}
+use Rattle.book_journal.specs.Written.{WrittenIsJournal}
 
 -- a history whose numbers are binary64's, as all of a program are
 pub record Fitting (i : Inputs) (h : History i) : Type 0 where
@@ -29,6 +30,8 @@ pub record JournalsRight : Type 0 where
   -- ---- E2: every line of a run is one that the writer takes, whatever the host sent, and that the reader gives back
   pub lines-taken : (i : Inputs) (h : History i) → All Writable (linesOf (bookAt h))
   pub lines-of-run : (i : Inputs) (h : History i) → Fitting i h → LinesOfRun (bookAt h)
+  -- the bytes that a host writes after each accepted Answer are the journal of the run
+  pub written-is-journal : (i : Inputs) (l : List Float) (r : Run) (cs : List Call) → WrittenIsJournal i l r cs
   -- ---- E5
   pub start-first : (i : Inputs) (n : ℕ) → StartNumber i n
   pub start-refuses : (i : Inputs) (l : List Float) (bs : List ℕ) → StartRefuses i l bs
