@@ -53,11 +53,11 @@ root-27 r t m e h = square-lt-back r (2 ^ 27) (omega arith)
 -- ---- the root from a guess
 
 -- Three differences, none of which has wrapped: of m and h's square, of that and twice h times l, of that and l's square.
-pub joined : (m h l a d t : ℕ) → h < 2 ^ 28 → l < 2 ^ 28 → a < 2 ^ 29 → d < 2 ^ 37 → t ≤ 3 * (h * 2 ^ 26 + l) + 2 → (a + h * h) % 2 ^ 64 ≡ m → (d + 2 * h * l) % 2 ^ 64 ≡ a * 2 ^ 26 → (t + l * l) % 2 ^ 64 ≡ d * 2 ^ 26 → (h * 2 ^ 26 + l) * (h * 2 ^ 26 + l) + t ≡ m * 4 ^ 26
+pub joined : (m h l a d t : ℕ) → h < 2 ^ 28 → l < 2 ^ 31 → a < 2 ^ 37 → d < 2 ^ 37 → t ≤ 3 * (h * 2 ^ 26 + l) + 2 → (a + h * h) % 2 ^ 64 ≡ m → (d + 2 * h * l) % 2 ^ 64 ≡ a * 2 ^ 26 → (t + l * l) % 2 ^ 64 ≡ d * 2 ^ 26 → (h * 2 ^ 26 + l) * (h * 2 ^ 26 + l) + t ≡ m * 4 ^ 26
 joined m h l a d t H L A D T e f g =
     let e = unwrapped (a + h * h) m (omega (arith, product 28 28 h h H H)) e in
-    let f = unwrapped (d + 2 * h * l) (a * 2 ^ 26) (omega (arith, product 28 28 h l H L)) f in
-    let g = unwrapped (t + l * l) (d * 2 ^ 26) (omega (arith, product 28 28 l l L L)) g in
+    let f = unwrapped (d + 2 * h * l) (a * 2 ^ 26) (omega (arith, product 28 31 h l H L)) f in
+    let g = unwrapped (t + l * l) (d * 2 ^ 26) (omega (arith, product 31 31 l l L L)) g in
     omega (arith, e, f, g)
   where
     unwrapped : (x y : ℕ) → x < 2 ^ 64 → x % 2 ^ 64 ≡ y → x ≡ y
@@ -83,12 +83,6 @@ nearest-of n r t p e T≤ = go (ltb r t) (ltb→lt r t) (nltb→le r t)
 pub near-sum : (h l u : ℕ) → h < 2 ^ 28 → l < 2 ^ 31 → u < 2 ^ 64 → h * 2 ^ 26 + l + u / 2 ^ 63 < 2 ^ 55
 near-sum h l u H L U = omega arith
 
-pub wrong-sum : (a d t w : ℕ) → a < 2 ^ 64 → d < 2 ^ 64 → t < 2 ^ 64 → w < 2 ^ 64 → a / 2 ^ 29 + d / 2 ^ 37 + t / 2 ^ 63 + w / 2 ^ 63 < 2 ^ 40
-wrong-sum a d t w A D T< W = omega arith
-
-pub wrong-part : (a d t : ℕ) → a < 2 ^ 64 → d < 2 ^ 64 → t < 2 ^ 64 → a / 2 ^ 29 + d / 2 ^ 37 + t / 2 ^ 63 < 2 ^ 40
-wrong-part a d t A D T< = omega arith
-
 -- the sign of a difference of small numbers is a comparison
 sign-is : (r t u : ℕ) → u < 2 ^ 64 → t < 2 ^ 62 → r < 2 ^ 62 → (u + t) % 2 ^ 64 ≡ r → cond (ltb r t) (r + 1) r ≡ r + u / 2 ^ 63
 sign-is r t u U T< R e = go (ltb r t) (ltb→lt r t) (nltb→le r t)
@@ -104,33 +98,24 @@ sign-is r t u U T< R e = go (ltb r t) (ltb→lt r t) (nltb→le r t)
     go false g l = down (l tt)
 
 -- what the five differences leave of the guess h, l where nothing in them is too great
-module _ (m h l a d t u w : ℕ) (P : 0 < m) (H : h < 2 ^ 28) (L : a % 2 ^ 32 < 2 ^ 29 → l < 2 ^ 28) (U : u < 2 ^ 64) (W : w < 2 ^ 64) (e : (a + h * h) % 2 ^ 64 ≡ m)
-    (f : (d + 2 * (h * l)) % 2 ^ 64 ≡ a * 2 ^ 26 % 2 ^ 64) (g : (t + l * l) % 2 ^ 64 ≡ d * 2 ^ 26 % 2 ^ 64) where
-  nearest : (a < 2 ^ 29) → (d < 2 ^ 37) → (t ≤ 3 * (h * 2 ^ 26 + l) + 2) → (u + t) % 2 ^ 64 ≡ h * 2 ^ 26 + l → NearestRoot (m * 4 ^ 26) (h * 2 ^ 26 + l + u / 2 ^ 63)
-  nearest A D T≤ s =
-      let l-lt : l < 2 ^ 28 = L (omega arith) in
-      let f′ : (d + 2 * h * l) % 2 ^ 64 ≡ a * 2 ^ 26 = ap (λ (x : ℕ). (d + x) % 2 ^ 64) (mul-assoc 2 h l) ∙ f ∙ whole a (omega arith) in
-      let g′ : (t + l * l) % 2 ^ 64 ≡ d * 2 ^ 26 = g ∙ whole d (omega arith) in
-      subst (NearestRoot (m * 4 ^ 26)) (sign-is (h * 2 ^ 26 + l) t u U (bound h l t H l-lt T≤) (small-root h l H l-lt) s)
-      (nearest-of (m * 4 ^ 26) (h * 2 ^ 26 + l) t (omega arith) (joined m h l a d t H l-lt A D T≤ e f′ g′) T≤)
+module _ (m h l a d t u w : ℕ) (P : 0 < m) (H : h < 2 ^ 28) (L : l < 2 ^ 31) (U : u < 2 ^ 64) (e : (a + h * h) % 2 ^ 64 ≡ m)
+    (f : (d + 2 * (h * l)) % 2 ^ 64 ≡ a * 2 ^ 26 % 2 ^ 64) (g : (t + l * l) % 2 ^ 64 ≡ d * 2 ^ 26 % 2 ^ 64) (A : a < 2 ^ 37) (D : d < 2 ^ 37) where
+  nearest : (t ≤ 3 * (h * 2 ^ 26 + l) + 2) → (u + t) % 2 ^ 64 ≡ h * 2 ^ 26 + l → NearestRoot (m * 4 ^ 26) (h * 2 ^ 26 + l + u / 2 ^ 63)
+  nearest T≤ s =
+      let f′ : (d + 2 * h * l) % 2 ^ 64 ≡ a * 2 ^ 26 = ap (λ (x : ℕ). (d + x) % 2 ^ 64) (mul-assoc 2 h l) ∙ f ∙ whole a A in
+      let g′ : (t + l * l) % 2 ^ 64 ≡ d * 2 ^ 26 = g ∙ whole d D in
+      subst (NearestRoot (m * 4 ^ 26)) (sign-is (h * 2 ^ 26 + l) t u U (bound h l t H L T≤) (omega arith) s)
+      (nearest-of (m * 4 ^ 26) (h * 2 ^ 26 + l) t (omega arith) (joined m h l a d t H L A D T≤ e f′ g′) T≤)
     where
       whole : (x : ℕ) → x < 2 ^ 37 → x * 2 ^ 26 % 2 ^ 64 ≡ x * 2 ^ 26
       whole x k = omega arith
 
-      bound : (h l t : ℕ) → h < 2 ^ 28 → l < 2 ^ 28 → t ≤ 3 * (h * 2 ^ 26 + l) + 2 → t < 2 ^ 62
+      bound : (h l t : ℕ) → h < 2 ^ 28 → l < 2 ^ 31 → t ≤ 3 * (h * 2 ^ 26 + l) + 2 → t < 2 ^ 62
       bound h l t H L T≤ = omega arith
 
-      small-root : (h l : ℕ) → h < 2 ^ 28 → l < 2 ^ 28 → h * 2 ^ 26 + l < 2 ^ 62
-      small-root h l H L = omega arith
-
-  pub right : (u + t) % 2 ^ 64 ≡ h * 2 ^ 26 + l → w ≡ (u + 2 * (h * 2 ^ 26 + l)) % 2 ^ 64 → l < 2 ^ 31 → a / 2 ^ 29 + d / 2 ^ 37 + t / 2 ^ 63 + w / 2 ^ 63 ≡ 0 → NearestRoot (m * 4 ^ 26) (h * 2 ^ 26 + l + u / 2 ^ 63)
-  right s v L′ z =
-      let p = parts a d t w z in
-      nearest (p .0) (p .1) (small-rest (h * 2 ^ 26 + l) t w u (low-root h l H L′) U (p .2) (p .3) s v) s
+  pub right : (u + t) % 2 ^ 64 ≡ h * 2 ^ 26 + l → w ≡ (u + 2 * (h * 2 ^ 26 + l)) % 2 ^ 64 → t < 2 ^ 63 → w < 2 ^ 63 → NearestRoot (m * 4 ^ 26) (h * 2 ^ 26 + l + u / 2 ^ 63)
+  right s v T< W< = nearest (small-rest (h * 2 ^ 26 + l) t w u (low-root h l H L) U T< W< s v) s
     where
-      parts : (a d t w : ℕ) → a / 2 ^ 29 + d / 2 ^ 37 + t / 2 ^ 63 + w / 2 ^ 63 ≡ 0 → (a < 2 ^ 29) × (d < 2 ^ 37) × (t < 2 ^ 63) × (w < 2 ^ 63)
-      parts a d t w z = (omega arith, omega arith, omega arith, omega arith)
-
       low-root : (h l : ℕ) → h < 2 ^ 28 → l < 2 ^ 31 → h * 2 ^ 26 + l < 2 ^ 55
       low-root h l H L = omega arith
 

@@ -1,4 +1,5 @@
 pub mod Bits
+pub mod Or
 pub mod Quick
 pub mod NearestRoot
 pub mod Exponent

@@ -38,7 +38,7 @@ fn high_digits(m: u64, y: u64) -> u64
 // About half of what is left over times y: the 26 binary digits behind.
 fn low_digits(a: u64, y: u64) -> u64
     requires { ⌜ (a < 2 ^ 32) × (y < 2 ^ 32) ⌝ }
-    ensures { λ r. ⌜ (r < 2 ^ 31) × (a < 2 ^ 29 → r < 2 ^ 28) ⌝ }
+    ensures { λ r. ⌜ r < 2 ^ 31 ⌝ }
 {
     (a * y) >> 33
 }
@@ -67,16 +67,17 @@ pub fn nearest_root(m: u64, y: u64) -> u64
     nearest_by_digits(m)
 }
 
-// A whole number near a root, and 0 if it is the nearest.
+// A whole number near a root. It is the nearest one if `wide` is below 2^37 and `signs` below 2^63.
 pub struct Guessed {
     pub root: u64,
-    pub wrong: u64,
+    pub wide: u64,
+    pub signs: u64,
 }
 
 // The same with no branch, so that several roots are worked out side by side: where the guess is not near enough it says so.
 pub fn guessed_root(m: u64, y: u64) -> Guessed
     requires { ⌜ (0 < m) × (m < 2 ^ 54) × (y < 2 ^ 32) ⌝ }
-    ensures { λ r. ⌜ (r .root < 2 ^ 55) × (r .wrong < 2 ^ 40) × (r .wrong ≡ 0 → NearestRoot (m * 4 ^ 26) (r .root)) ⌝ }
+    ensures { λ r. ⌜ (r .root < 2 ^ 55) × (r .wide < 2 ^ 37 → r .signs < 2 ^ 63 → NearestRoot (m * 4 ^ 26) (r .root)) ⌝ }
 {
     let h = high_digits(m, y);
     let a = std::num::wrapping_sub_u64(m, h * h);
@@ -85,10 +86,10 @@ pub fn guessed_root(m: u64, y: u64) -> Guessed
     let root = h * 0x400_0000 + l;
     let remainder = std::num::wrapping_sub_u64(d << 26, l * l);
     let above = std::num::wrapping_sub_u64(root, remainder);
-    let up = above >> 63;
-    let over = std::num::wrapping_add_u64(above, 2 * root) >> 63;
+    let over = std::num::wrapping_add_u64(above, 2 * root);
     Guessed {
-        root: root + up,
-        wrong: (a >> 29) + (d >> 37) + (remainder >> 63) + over,
+        root: root + (above >> 63),
+        wide: a | d,
+        signs: remainder | over,
     }
 }

@@ -71,7 +71,7 @@ inFront flags i (suc j) = inFront flags i j + oneInFront (getD flags (i + j) 0)
 abbrev pub Squares : PinholeCamera → Matrix → List Float → ℕ → ℕ → List Float → Type 0
 Squares c h numbers i n xs = (j : ℕ) → j < n → getD xs j nan ≡ squareAt c h numbers (i + j)
 
--- the bits of the roots of the first n of xs, where nothing is wrong
+-- the bits of the roots of the first n of xs, where `wrong` says that they are right
 abbrev pub QuickRoots : ℕ → List ℕ → ℕ → List Float → Type 0
 QuickRoots n bits wrong xs = (j : ℕ) → j < n → Quick (getD bits j 0) wrong (getD xs j nan)
 
@@ -153,7 +153,7 @@ bits-row s flag b x small e =
     and-true false = refl
 
 pub from-bits : (s : ErrorSum) (c : PinholeCamera) (h : Matrix) (ns : List Float) (fs : List ℕ) (xs : List Float) (bits : List ℕ) (wrong i n : ℕ)
-    → Squares c h ns i n xs → QuickRoots n bits wrong xs → wrong ≡ 0 → addBits s fs bits i n ≡ addRows s c h ns fs i n
+    → Squares c h ns i n xs → QuickRoots n bits wrong xs → wrong < 2 ^ 37 → addBits s fs bits i n ≡ addRows s c h ns fs i n
 unfolding addBits addRows addRow
 from-bits s c h ns fs xs bits wrong i zero squares quick z = refl
 from-bits s c h ns fs xs bits wrong i (suc j) squares quick z =

@@ -10,6 +10,7 @@ use crate::ErrorSum;
 use crate::add_rows;
 use crate::square_at;
 use crate::with_error;
+use root_code::quick::quick_guess;
 use root_code::quick::quick_sqrt;
 use score_camera::pinhole::PinholeCamera;
 
@@ -38,7 +39,20 @@ fn square_errors(
     }
 }
 
-// The roots of n numbers, and 0 if all of them are right.
+// Guesses for the roots of n numbers, on which nothing rests. They have a loop of their own: what is left for each row is then so
+// short that the processor works on several rows at a time.
+fn quick_guesses(guesses: &mut [u64; 16], squares: &[f64; 16], n: usize)
+    requires { ⌜ (length (now guesses) ≡ 16) × (n ≤ 16) ⌝ }
+    ensures { λ _. ⌜ length (now (guesses .exit)) ≡ 16 ⌝ }
+{
+    let mut j = 0;
+    while j < n {
+        guesses[j] = quick_guess(squares[j]);
+        j += 1;
+    }
+}
+
+// The roots of n numbers from the guesses that stand in their places. All of them are right if the reply is below 2^37.
 fn quick_roots(bits: &mut [u64; 16], squares: &[f64; 16], n: usize) -> u64
     requires { ⌜ (length (now bits) ≡ 16) × (n ≤ 16) ⌝ }
     ensures { λ r. ⌜ (length (now (bits .exit)) ≡ 16) × QuickRoots n (now (bits .exit)) r (now (squares .entry)) ⌝ }
@@ -46,9 +60,9 @@ fn quick_roots(bits: &mut [u64; 16], squares: &[f64; 16], n: usize) -> u64
     let mut wrong: u64 = 0;
     let mut j = 0;
     while j < n {
-        let q = quick_sqrt(squares[j]);
+        let q = quick_sqrt(squares[j], bits[j]);
         bits[j] = q.bits;
-        wrong += q.wrong;
+        wrong = wrong | q.wrong;
         j += 1;
     }
     wrong
@@ -157,7 +171,8 @@ fn add_dense(
     let mut block = first;
     while 0 < block {
         square_errors(&mut squares, camera, h, rows, i + done, block);
-        if quick_roots(&mut bits, &squares, block) != 0 {
+        quick_guesses(&mut bits, &squares, block);
+        if quick_roots(&mut bits, &squares, block) >= 0x20_0000_0000 {
             return Part {
                 total: sum,
                 rows: done,

@@ -1,7 +1,9 @@
 -- `root_code::from_guess::guessed_root` meets its contract. Assumes nothing.
 use native.Mathlib.Nat.{lt-of-lt-of-le}
 use native.Mathlib.Omega.{arith}
-use Rattle.root_code.proofs.Steps.{product, near-sum, wrong-part, wrong-sum, right}
+use Prim.Native.Nat.{_^_}
+use Rattle.root_code.specs.Or.{both-below}
+use Rattle.root_code.proofs.Steps.{product, near-sum, right}
 use borrow.Author.Needs.{needs}
 use Rattle.root_code.proofs.from_guess.guessed_root.Statement.{statement}
 use Rattle.root_code.proofs.from_guess.guessed_root.Tie as tie
@@ -24,13 +26,13 @@ mul-wrapping-sub-u64-2 : tie.Need-mul-wrapping-sub-u64-2
 mul-wrapping-sub-u64-2 c =
     let h = c .before .before .high-digits in
     let l = c .low-digits in
-    omega (arith, product 28 31 (h .result) (l .result) (h .ensures) (l .ensures .0))
+    omega (arith, product 28 31 (h .result) (l .result) (h .ensures) (l .ensures))
 
 mul-wrapping-sub-u64-3 : tie.Need-mul-wrapping-sub-u64-3
 mul-wrapping-sub-u64-3 c =
     let h = c .before .before .high-digits in
     let l = c .low-digits in
-    omega (arith, product 28 31 (h .result) (l .result) (h .ensures) (l .ensures .0))
+    omega (arith, product 28 31 (h .result) (l .result) (h .ensures) (l .ensures))
 
 wrapping-sub-u64-requires-2 : tie.Need-wrapping-sub-u64-requires-2
 wrapping-sub-u64-requires-2 c κs = search needs
@@ -44,7 +46,7 @@ add-root c = search needs
 mul-wrapping-sub-u64-4 : tie.Need-mul-wrapping-sub-u64-4
 mul-wrapping-sub-u64-4 c =
     let l = c .before .low-digits in
-    omega (arith, product 31 31 (l .result) (l .result) (l .ensures .0) (l .ensures .0))
+    omega (arith, product 31 31 (l .result) (l .result) (l .ensures) (l .ensures))
 
 wrapping-sub-u64-requires-3 : tie.Need-wrapping-sub-u64-requires-3
 wrapping-sub-u64-requires-3 c κs = search needs
@@ -58,25 +60,12 @@ mul-wrapping-add-u64 c = search needs
 wrapping-add-u64-requires : tie.Need-wrapping-add-u64-requires
 wrapping-add-u64-requires c κs = search needs
 
-add-t14 : tie.Need-add-t14
-add-t14 c =
+add-t12 : tie.Need-add-t12
+add-t12 c =
     let h = c .before .before .before .before .before .before .high-digits in
     let l = c .before .before .before .before .low-digits in
-    let k = near-sum (h .result) (l .result) (c .before .wrapping-sub-u644 .result) (h .ensures) (l .ensures .0) (c .before .wrapping-sub-u644 .ok) in
+    let k = near-sum (h .result) (l .result) (c .before .wrapping-sub-u644 .result) (h .ensures) (l .ensures) (c .before .wrapping-sub-u644 .ok) in
     record { fits = lt-of-lt-of-le k (omega arith) }
-
-add-t15 : tie.Need-add-t15
-add-t15 c = search needs
-
-add-t17 : tie.Need-add-t17
-add-t17 c =
-    let t = c .before .before .wrapping-sub-u643 in
-    let d = c .before .before .before .wrapping-sub-u642 in
-    let a = c .before .before .before .before .before .wrapping-sub-u64 in
-    record { fits = lt-of-lt-of-le (wrong-part (a .result) (d .result) (t .result) (a .ok) (d .ok) (t .ok)) (omega arith) }
-
-add-t18 : tie.Need-add-t18
-add-t18 c = search needs
 
 returns : tie.Need-returns
 returns c =
@@ -88,9 +77,11 @@ returns c =
     let a = c .before .before .before .before .before .wrapping-sub-u64 in
     let h = c .before .before .before .before .before .before .high-digits in
     let s = c .before .before .before .before .before .before .before in (
-      near-sum (h .result) (l .result) (v .result) (h .ensures) (l .ensures .0) (v .ok),
-      wrong-sum (a .result) (d .result) (t .result) (w .result) (a .ok) (d .ok) (t .ok) (w .ok),
-      right (s .args .m) (h .result) (l .result) (a .result) (d .result) (t .result) (v .result) (w .result) (s .pre .0) (h .ensures) (l .ensures .1) (v .ok) (w .ok) (a .ensures) (d .ensures) (t .ensures) (v .ensures) (w .ensures) (l .ensures .0),
+      near-sum (h .result) (l .result) (v .result) (h .ensures) (l .ensures) (v .ok),
+      λ wide signs.
+          let p = both-below (a .result) (d .result) (2 ^ 37) wide in
+          let q = both-below (t .result) (w .result) (2 ^ 63) signs in
+          right (s .args .m) (h .result) (l .result) (a .result) (d .result) (t .result) (v .result) (w .result) (s .pre .0) (h .ensures) (l .ensures) (v .ok) (a .ensures) (d .ensures) (t .ensures) (p .0) (p .1) (v .ensures) (w .ensures) (q .0) (q .1),
     )
 
 pub guessed-root-spec : {M : Type 1} → statement M
@@ -111,8 +102,5 @@ guessed-root-spec =
     wrapping-sub-u64-requires-4
     mul-wrapping-add-u64
     wrapping-add-u64-requires
-    add-t14
-    add-t15
-    add-t17
-    add-t18
+    add-t12
     returns)

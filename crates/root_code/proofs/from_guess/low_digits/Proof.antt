@@ -8,10 +8,7 @@ mul-result : tie.Need-mul-result
 mul-result c = omega (arith, product 32 32 (c .args .a) (c .args .y) (c .pre .0) (c .pre .1))
 
 returns : tie.Need-returns
-returns c = (
-  omega (arith, product 32 32 (c .args .a) (c .args .y) (c .pre .0) (c .pre .1)),
-  λ h. omega (arith, product 29 32 (c .args .a) (c .args .y) h (c .pre .1)),
-)
+returns c = omega (arith, product 32 32 (c .args .a) (c .args .y) (c .pre .0) (c .pre .1))
 
 pub low-digits-spec : {M : Type 1} → statement M
 low-digits-spec = tie.close (tie.spec mul-result returns)

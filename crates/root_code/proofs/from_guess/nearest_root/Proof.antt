@@ -36,7 +36,7 @@ mul-wrapping-sub-u64-4 : tie.Need-mul-wrapping-sub-u64-4
 mul-wrapping-sub-u64-4 c =
     let h = c .before .before .before .high-digits in
     let l = c .low-digits in
-    omega (arith, product 28 28 (h .result) (l .result) (h .ensures) (l .ensures .1 (omega arith)))
+    omega (arith, product 28 31 (h .result) (l .result) (h .ensures) (l .ensures))
 
 wrapping-sub-u64-requires-2 : tie.Need-wrapping-sub-u64-requires-2
 wrapping-sub-u64-requires-2 c κs = search needs
@@ -59,7 +59,7 @@ mul-wrapping-sub-u64-5 c = search needs
 mul-wrapping-sub-u64-6 : tie.Need-mul-wrapping-sub-u64-6
 mul-wrapping-sub-u64-6 c =
     let l = c .before .before .low-digits in
-    omega (arith, product 31 31 (l .result) (l .result) (l .ensures .0) (l .ensures .0))
+    omega (arith, product 31 31 (l .result) (l .result) (l .ensures) (l .ensures))
 
 wrapping-sub-u64-requires-3 : tie.Need-wrapping-sub-u64-requires-3
 wrapping-sub-u64-requires-3 c κs = search needs
@@ -81,7 +81,7 @@ returns-3 c =
     let a = d .before .before .before in
     let h = a .before .high-digits in
     let m = a .before .before .args .m in
-    let e = joined m (h .result) (l .result) (a .wrapping-sub-u64 .result) (d .wrapping-sub-u642 .result) (t .wrapping-sub-u643 .result) (h .ensures) (l .ensures .1 (omega arith)) (omega arith) (omega arith) (c .before .if3 .taken) (a .wrapping-sub-u64 .ensures) (d .wrapping-sub-u642 .ensures) (t .wrapping-sub-u643 .ensures) in
+    let e = joined m (h .result) (l .result) (a .wrapping-sub-u64 .result) (d .wrapping-sub-u642 .result) (t .wrapping-sub-u643 .result) (h .ensures) (l .ensures) (omega arith) (omega arith) (c .before .if3 .taken) (a .wrapping-sub-u64 .ensures) (d .wrapping-sub-u642 .ensures) (t .wrapping-sub-u643 .ensures) in
     rw (c .nearest-whole .ensures) (nearest-of (m * 4 ^ 26) (h .result * 2 ^ 26 + l .result) (t .wrapping-sub-u643 .result) (omega arith) e (c .before .if3 .taken))
 
 nearest-by-digits-requires-3 : tie.Need-nearest-by-digits-requires-3

@@ -17,10 +17,10 @@ above y (inf s) h = tt
 above y (fin s m e) h = tt
 
 returns : tie.Need-returns
-returns c = above (c .before .args .y) (c .before .args .x) (c .if1 .taken)
+returns c = (rw (c .if1 .taken), above (c .before .args .y) (c .before .args .x) (c .if1 .taken))
 
 returns-2 : tie.Need-returns-2
-returns-2 c = search needs
+returns-2 c = (rw (c .if1 .left), search needs)
 
 pub larger-spec : {M : Type 1} → statement M
 larger-spec = tie.close (tie.spec returns returns-2)

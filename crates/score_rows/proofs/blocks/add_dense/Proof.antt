@@ -27,11 +27,14 @@ add-square-errors c = search needs
 square-errors-requires : tie.Need-square-errors-requires Inv-loop μ-loop
 square-errors-requires c κs = (c .before .before .loop .inv .2, omega arith, omega arith)
 
+quick-guesses-requires : tie.Need-quick-guesses-requires Inv-loop μ-loop
+quick-guesses-requires c κs = (c .before .before .before .before .before .loop .inv .3, omega arith)
+
 quick-roots-requires : tie.Need-quick-roots-requires Inv-loop μ-loop
-quick-roots-requires c κs = (c .before .before .before .before .before .loop .inv .3, omega arith)
+quick-roots-requires c κs = (c .before .before .quick-guesses .ensures, omega arith)
 
 returns : tie.Need-returns Inv-loop μ-loop
-returns c = (omega arith, c .before .before .before .before .before .before .before .loop .inv .4)
+returns c = (omega arith, c .before .before .before .before .before .before .before .before .before .before .loop .inv .4)
 
 add-add-roots : tie.Need-add-add-roots Inv-loop μ-loop
 add-add-roots c = search needs
@@ -54,9 +57,9 @@ loop-less c = search needs
 loop-again : tie.Need-loop-again Inv-loop μ-loop
 loop-again c =
     let q = c .before .before .before .before .quick-roots in
-    let x = c .before .before .before .before .before .before .before .square-errors in
-    let l = c .before .before .before .before .before .before .before .before .before .before .loop in
-    let a = c .before .before .before .before .before .before .before .before .before .before .before .before .before .args in (
+    let x = c .before .before .before .before .before .before .before .before .before .before .square-errors in
+    let l = c .before .before .before .before .before .before .before .before .before .before .before .before .before .loop in
+    let a = c .before .before .before .before .before .before .before .before .before .before .before .before .before .before .before .before .args in (
       omega arith,
       omega arith,
       x .ensures .0,
@@ -79,6 +82,7 @@ add-dense-spec =
     loop-holds
     add-square-errors
     square-errors-requires
+    quick-guesses-requires
     quick-roots-requires
     returns
     add-add-roots

@@ -1,9 +1,12 @@
--- `root_code::quick::quick_estimate` meets its contract. Assumes nothing.
+-- `root_code::quick::quick_guess` meets its contract. Assumes nothing.
 use native.Mathlib.Omega.{arith}
 use Rattle.root_code.specs.Bits.{no-nan, number-bits}
 use borrow.Author.Needs.{needs}
-use Rattle.root_code.proofs.quick.quick_estimate.Statement.{statement}
-use Rattle.root_code.proofs.quick.quick_estimate.Tie as tie
+use Rattle.root_code.proofs.quick.quick_guess.Statement.{statement}
+use Rattle.root_code.proofs.quick.quick_guess.Tie as tie
+
+bits-of-requires : tie.Need-bits-of-requires
+bits-of-requires c κs = search needs
 
 wrapping-add-u64-requires : tie.Need-wrapping-add-u64-requires
 wrapping-add-u64-requires c κs = search needs
@@ -29,10 +32,11 @@ float-to-bits-result c = search needs
 returns : tie.Need-returns
 returns c = search needs
 
-pub quick-estimate-spec : {M : Type 1} → statement M
-quick-estimate-spec =
+pub quick-guess-spec : {M : Type 1} → statement M
+quick-guess-spec =
     tie.close
     (tie.spec
+    bits-of-requires
     wrapping-add-u64-requires
     add-t
     float-from-bits-s
