@@ -1,6 +1,7 @@
 -- A run of two candidates and its journal, worked out: what replay and Resume say of it, whole, damaged and cut. Proved by computing. Assumes nothing.
 use Prim.Native.Nat.{ℕ}
 use mathlib.Core.Path.{_≡_, refl}
+use mathlib.Core.Bool.{false}
 use mathlib.Core.List.{List, [], _∷_, _++_}
 use lib.ListN.{take, replicate}
 use lib.Ieee.{Float, binary64, ofBits, toBits, ofFields, ofInt, add, sub, mul, div, neg, lt, le, eq, isNan, sum, round, units, odd, size, span, climb}
@@ -9,7 +10,7 @@ use Rattle.float.specs.Float.{bitsOf, absOf, isFinite, minOf, maxOf}
 use Rattle.camera_models.specs.declared.intrinsics.FxFyCxCy.{FxFyCxCy}
 use Rattle.seed_rules.specs.declared.CandidateSeed.{CandidateSeed}
 use Rattle.seed_rules.specs.Merge.{keep, hasNear, push, mergedInto}
-use Rattle.seed_rules.specs.Rules.{closer, tiltNear, cameraNear, near, within, inBound, pairs, seedGrid, initialList, offsets, nextList}
+use Rattle.seed_rules.specs.Rules.{closer, tiltNear, cameraNear, near, within, inBound, pairs, seedGrid, initialList, offsets, yOffsets, nextList}
 use Rattle.seed_rules.specs.Layout.{laid, six, readFrom}
 use Rattle.score_camera.specs.Camera.{finiteIntrinsics, finiteDistortion, validCamera}
 use Rattle.score_camera.specs.Penalties.{distortionPenalty, tiltPenalty, centrePenalty, scoreOf}
@@ -47,7 +48,7 @@ seedOf x = record { «reference_k» = camera; sensor = record { «tilt_x» = x; 
 
 -- two typed tilts about x, 0 and 0.25, and one about y, 0
 abbrev inputsWith : ℕ → Inputs
-inputsWith rounds = record { views = 3; rounds = rounds; step = quarter; max = half; xs = f0 ∷ quarter ∷ []; ys = f0 ∷ []; decomposition = []; base = camera; center = record { x = f0; y = f0 } }
+inputsWith rounds = record { views = 3; rounds = rounds; step = quarter; max = half; one-axis = false; share = 0; xs = f0 ∷ quarter ∷ []; ys = f0 ∷ []; decomposition = []; base = camera; center = record { x = f0; y = f0 } }
 
 abbrev given : Inputs
 given = inputsWith 0
@@ -102,7 +103,7 @@ pub record Replays : Type 0 where
   pub too-short : replayOf given [] (120 ∷ []) ≡ record { reply = declined 8; list = [] }
 
 pub replays : Replays
-unfolding replayOf startNumber goodSeed tooMany demandOf every walked walkFrom listAfter follows canStand sameReal sameReals standing opened firstList bookEnter closeRound withEntry withRound withEnd roundBest runBest scoredOf bestOf firstUnbeaten unbeaten beats demand stepOf listAround offsets nextList digitByte digits decimalWidth decimal bitsOf real reasonLetter outcomeFields restOfLine lineBytes recordable writable journalBytes digitOf numberAt decimalWidthAt realAt reals reasonOf outcomeAt fromRound fromSeed uncheckedLine begins ofForm newlines readLine goesOn readAll keep hasNear push mergedInto closer tiltNear cameraNear near within inBound pairs seedGrid initialList laid readFrom finiteIntrinsics finiteDistortion validCamera distortionPenalty tiltPenalty centrePenalty scoreOf absOf isFinite minOf maxOf toBits add sub mul div neg lt le eq isNan ofBits ofFields ofInt sum round units odd size span climb
+unfolding replayOf startNumber goodSeed tooMany demandOf every walked walkFrom listAfter follows canStand sameReal sameReals standing opened firstList bookEnter closeRound withEntry withRound withEnd roundBest runBest scoredOf bestOf firstUnbeaten unbeaten beats demand stepOf listAround offsets yOffsets nextList digitByte digits decimalWidth decimal bitsOf real reasonLetter outcomeFields restOfLine lineBytes recordable writable journalBytes digitOf numberAt decimalWidthAt realAt reals reasonOf outcomeAt fromRound fromSeed uncheckedLine begins ofForm newlines readLine goesOn readAll keep hasNear push mergedInto closer tiltNear cameraNear near within inBound pairs seedGrid initialList laid readFrom finiteIntrinsics finiteDistortion validCamera distortionPenalty tiltPenalty centrePenalty scoreOf absOf isFinite minOf maxOf toBits add sub mul div neg lt le eq isNan ofBits ofFields ofInt sum round units odd size span climb
 replays = record {
   its-winner = refl;
   unfinished-run = refl;

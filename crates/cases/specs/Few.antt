@@ -1,5 +1,6 @@
 -- Runs that ask for a share of counted rows: one of three rows is 33 per cent of them and not 34. Definitions only.
 use Prim.Native.Nat.{ℕ}
+use mathlib.Core.Bool.{false}
 use mathlib.Core.List.{List, [], _∷_, _++_}
 use lib.Ieee.{Float}
 use Rattle.score_outcome.specs.declared.Finding.the-variants.{Solved}
@@ -14,6 +15,7 @@ fewInputs share = record {
   rounds = 0;
   step = f0;
   max = quarter;
+  one-axis = false;
   share = share;
   xs = f0 ∷ quarter ∷ bits 0xbfd0_0000_0000_0000 ∷ [];
   ys = f0 ∷ [];

@@ -36,6 +36,7 @@ inputsWith one-axis max ys ds = record {
   step = eighth;
   max = max;
   one-axis = one-axis;
+  share = 0;
   xs = quarter ∷ [];
   ys = ys;
   decomposition = ds;

@@ -22,7 +22,7 @@ fn every_reply_every_list_and_every_record_are_the_books() {
     assert!([1, 2, 3, 4, 6, 9].iter().all(|&total| tally.later_totals[total] > 0), "{tally:?}");
     assert!(tally.stops.iter().all(|&times| times > 100), "{tally:?}");
     // Counted errors; and rows that were counted, but too few of them.
-    assert!(tally.errors[0] > 10_000 && tally.errors[1] > 1000, "{tally:?}");
+    assert!(tally.errors[0] > 10_000 && tally.errors[1] > 200, "{tally:?}");
     assert!(tally.entered.iter().all(|&times| times > 100), "{tally:?}");
     assert!((1..15).chain([27, 31, 32, 33]).all(|number| tally.refused[number] > 0), "{tally:?}");
 }
