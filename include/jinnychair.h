@@ -82,6 +82,8 @@ enum {
     JC_SOURCE_COLLINEAR = 24,      /* the source points lie on a line */
     JC_DESTINATION_COLLINEAR = 25, /* the destination points lie on a line */
     JC_TILT_TOO_LARGE = 27,        /* max_abs_tilt is above 0.5 radians (28.6 degrees), or a tilt is NaN or beyond that */
+    JC_CANNOT_WRITE = 28,          /* a line's buffer is below JC_LINE_LEN bytes, or the line isn't one that the journal has */
+    JC_BAD_LINE = 29,              /* the bytes at the place aren't those of a line */
     JC_NO_SHARED_POWER = 34        /* no power of two makes whole numbers in their ranges of a camera's four */
 };
 
@@ -104,7 +106,8 @@ enum {
     JC_SEED_NUMBERS = 6,    /* of a seed */
     JC_ROW_NUMBERS = 4,     /* of an answer's row */
     JC_DESIGN_NUMBERS = 18, /* of a point's two design rows */
-    JC_MOST_LIST = 3072     /* numbers that a seed list can need */
+    JC_MOST_LIST = 3072,    /* numbers that a seed list can need */
+    JC_LINE_LEN = 256       /* bytes that a buffer for a line of the journal needs */
 };
 
 /* How many numbers the seed list of a search needs. */
@@ -281,6 +284,33 @@ typedef struct {
     jc_candidate candidate;
 } jc_result_flat;
 
+/* A line of the journal: an answered candidate's number, the round that it was handed out in, its seed, and what came of it. Where skipped is 0
+ * it was scored, and score, mean error, focal lengths, centre and tangential distortion are those of the scored camera; else skipped is
+ * JC_SKIP_..., and the numbers behind it are not read, and 0 where a line was read. */
+typedef struct {
+    size_t number, round;
+    jc_candidate_seed seed;
+    uint8_t skipped;
+    double score, mean;
+    jc_intrinsics k;
+    double p1, p2;
+} jc_line;
+
+/* 0 and how many bytes were written, or a refusal. */
+typedef struct {
+    uint8_t number;
+    size_t len;
+} jc_write_reply;
+
+/* 0 and a line; 0 and end, 1; or a refusal and the line's number, from 1. The next line is read at next: behind a line that was read, and
+ * else at the place that was asked for. */
+typedef struct {
+    uint8_t number, end;
+    size_t line_number;
+    jc_line line;
+    size_t next;
+} jc_read_reply;
+
 /* ---- root, camera, tilt, distortion ---- */
 
 /* The correctly rounded square root. */
@@ -371,6 +401,17 @@ jc_answer_flat jc_answer(jc_run_record run, uint8_t is_solved, jc_pinhole_camera
 /* The best candidate of a run that is over. 14, 11. */
 jc_result_flat jc_result(jc_run_record run);
 
+/* ---- the journal: a line for each answered candidate ---- */
+
+/* Writes the line to the front of `to`: 124 to 247 bytes, 17 fields with commas between them and a newline at the end: number, round, the
+ * seed's six numbers, S or the skip's letter (H, C, E, N for 1 to 4), score, mean, fx, fy, cx, cy, p1, p2. Number and round are decimal, the
+ * others the 16 hexadecimal digits of their bits, with 7ff8000000000000 for every NaN; behind a skip's letter each field is a minus sign. 28
+ * where `to` has less than JC_LINE_LEN bytes, the number is above 655, the round above 16, skipped above 4, or the score of a scored line NaN. */
+jc_write_reply jc_write_line(jc_line line, uint8_t *to, size_t to_len);
+/* Reads the line at a place of a journal; at its end, and behind it, end is 1. 29 where the bytes there aren't, byte for byte, a line that
+ * jc_write_line writes. */
+jc_read_reply jc_read_line(const uint8_t *bytes, size_t bytes_len, size_t at);
+
 /* ---- for tests only: each struct as it came, to see that both sides lay it out alike ---- */
 
 jc_pt2 jc_echo_pt2(jc_pt2 x);
@@ -401,6 +442,9 @@ jc_start_flat jc_echo_start_flat(jc_start_flat x);
 jc_next_flat jc_echo_next_flat(jc_next_flat x);
 jc_answer_flat jc_echo_answer_flat(jc_answer_flat x);
 jc_result_flat jc_echo_result_flat(jc_result_flat x);
+jc_line jc_echo_line(jc_line x);
+jc_write_reply jc_echo_write_reply(jc_write_reply x);
+jc_read_reply jc_echo_read_reply(jc_read_reply x);
 
 #ifdef __cplusplus
 }
@@ -509,6 +553,22 @@ JC_ASSERT(offsetof(jc_answer_flat, score) == 8);
 JC_ASSERT(offsetof(jc_answer_flat, run) == 16);
 JC_ASSERT(sizeof(jc_result_flat) == 120);
 JC_ASSERT(offsetof(jc_result_flat, candidate) == 8);
+JC_ASSERT(sizeof(jc_line) == 136);
+JC_ASSERT(offsetof(jc_line, round) == 8);
+JC_ASSERT(offsetof(jc_line, seed) == 16);
+JC_ASSERT(offsetof(jc_line, skipped) == 64);
+JC_ASSERT(offsetof(jc_line, score) == 72);
+JC_ASSERT(offsetof(jc_line, mean) == 80);
+JC_ASSERT(offsetof(jc_line, k) == 88);
+JC_ASSERT(offsetof(jc_line, p1) == 120);
+JC_ASSERT(offsetof(jc_line, p2) == 128);
+JC_ASSERT(sizeof(jc_write_reply) == 16);
+JC_ASSERT(offsetof(jc_write_reply, len) == 8);
+JC_ASSERT(sizeof(jc_read_reply) == 160);
+JC_ASSERT(offsetof(jc_read_reply, end) == 1);
+JC_ASSERT(offsetof(jc_read_reply, line_number) == 8);
+JC_ASSERT(offsetof(jc_read_reply, line) == 16);
+JC_ASSERT(offsetof(jc_read_reply, next) == 152);
 
 #undef JC_ASSERT
 

@@ -10,6 +10,9 @@ use capi_records::camera::CameraReply;
 use capi_records::camera::InverseReply;
 use capi_records::camera::Matrix3;
 use capi_records::camera::SumReply;
+use capi_records::journal::LineRecord;
+use capi_records::journal::ReadReply;
+use capi_records::journal::WriteReply;
 use capi_records::lists::CenterReply;
 use capi_records::lists::LineReply;
 use capi_records::lists::NormalizeReply;
@@ -220,6 +223,27 @@ pub extern "C" fn jc_echo_answer_flat(x: AnswerFlat) -> AnswerFlat
 
 #[no_mangle]
 pub extern "C" fn jc_echo_result_flat(x: ResultFlat) -> ResultFlat
+    ensures { λ r. ⌜ r ≡ x ⌝ }
+{
+    x
+}
+
+#[no_mangle]
+pub extern "C" fn jc_echo_line(x: LineRecord) -> LineRecord
+    ensures { λ r. ⌜ r ≡ x ⌝ }
+{
+    x
+}
+
+#[no_mangle]
+pub extern "C" fn jc_echo_write_reply(x: WriteReply) -> WriteReply
+    ensures { λ r. ⌜ r ≡ x ⌝ }
+{
+    x
+}
+
+#[no_mangle]
+pub extern "C" fn jc_echo_read_reply(x: ReadReply) -> ReadReply
     ensures { λ r. ⌜ r ≡ x ⌝ }
 {
     x

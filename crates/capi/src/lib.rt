@@ -3,6 +3,7 @@
 // value that a refusal leaves out is 0. A flag is a byte, 0 or not 0. include/jinnychair.h declares them.
 pub mod camera;
 pub mod echo;
+pub mod journal;
 pub mod lists;
 pub mod plate;
 pub mod run;

@@ -1,4 +1,5 @@
 pub mod Camera
+pub mod Journal
 pub mod Lists
 pub mod Plate
 pub mod Record

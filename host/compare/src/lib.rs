@@ -1,7 +1,8 @@
 //! The proved library beside the oracle, which is the published Rust text, for each operation and for searches in order, and beside
-//! the plain loop in C, for the rows that the library takes in blocks. The crate `beside` has the lists of calls that it and the plain
+//! the plain loop in C, for the rows that the library takes in blocks. For the benchmark, the journal in plain Rust. The crate `beside` has the lists of calls that it and the plain
 //! book are given.
 
 pub mod blocks;
+pub mod journal;
 pub mod library;
 pub mod plain;

@@ -32,6 +32,8 @@ macro_rules! refusal {
     (24 $part:ident) => { part!($part "the source points lie on a line", "Use dots from more than one row of the plate.") };
     (25 $part:ident) => { part!($part "the destination points lie on a line", "The plate was seen edge on: drop the view.") };
     (27 $part:ident) => { part!($part "`max_abs_tilt` is above 0.5 radians, which is 28.6 degrees, or a tilt is NaN or beyond that", "Were degrees typed for radians? 3 degrees are 0.052. From Answer: the list was changed between the calls; Failed moves the run on.") };
+    (28 $part:ident) => { part!($part "a line's buffer is below 256 bytes, its number above 655, its round above 16, its reason none of 1 to 4, or its score not a number under S", "Lend 256 bytes, and write the fields that the run gives.") };
+    (29 $part:ident) => { part!($part "the bytes aren't those of a line", "The journal was changed or cut off. The line's number says where; keep the lines before it.") };
     (34 $part:ident) => { part!($part "no power of two from 1 to 256 makes whole numbers in their ranges of all four", "Choose fx, fy, cx, cy as whole numbers times 1, 2, 4 .. or 256: 1 to 256 of them for fx and fy, −256 to 256 for cx and cy. For example 800, 808, 640, −480.") };
 }
 
@@ -194,6 +196,20 @@ refusals! {
     /// Why a camera has no plate with a known answer.
     PlateError {
         NoSharedPower = 34;
+    }
+}
+
+refusals! {
+    /// Why a line isn't written. The buffer is unchanged.
+    WriteError {
+        CannotWrite = 28;
+    }
+}
+
+refusals! {
+    /// Why no line is read.
+    LineError {
+        BadLine = 29;
     }
 }
 

@@ -2,7 +2,7 @@
 //!
 //! [`Search`] runs a search one seed at a time: the host solves for a camera at each tilt that it is handed, and the search
 //! scores, compares and refines. [`geometry`] has the operations that a host needs beside it. [`record`] has the same search for a
-//! host that keeps the run's record itself.
+//! host that keeps the run's record itself, and [`journal`] the text form of what a run has tried.
 //!
 //! What these functions compute is proved: each equals a definition that is written down in the repository's `specs/`
 //! folders, for all inputs. What stands in this crate is not proved: it passes numbers on, and names them.
@@ -46,6 +46,7 @@ compile_error!("the static library is for x86-64");
 
 mod error;
 pub mod geometry;
+pub mod journal;
 mod known_plate;
 mod raw;
 pub mod record;
@@ -54,8 +55,8 @@ mod types;
 mod version;
 
 pub use error::{
-    AnswerError, ConicError, NextError, NormalizeError, PlateError, PointMapError, ResultError,
-    RowsError, RunError, StartError, TiltError, TrigError,
+    AnswerError, ConicError, LineError, NextError, NormalizeError, PlateError, PointMapError,
+    ResultError, RowsError, RunError, StartError, TiltError, TrigError, WriteError,
 };
 pub use search::{
     Finding, Handed, Inputs, Options, Outcome, Rows, Search, SkipReason, Solution, Tried,

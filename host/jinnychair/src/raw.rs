@@ -115,6 +115,38 @@ pub(crate) struct ResultReply {
     pub candidate: Winner,
 }
 
+/// A line of the journal. `skipped` is 0 for a scored candidate, and else the reason; the numbers behind it aren't read then.
+#[derive(Clone, Copy, Debug, PartialEq)]
+#[repr(C)]
+pub(crate) struct JournalLine {
+    pub number: usize,
+    pub round: usize,
+    pub seed: Seed,
+    pub skipped: u8,
+    pub score: f64,
+    pub mean: f64,
+    pub k: FxFyCxCy,
+    pub p1: f64,
+    pub p2: f64,
+}
+
+#[derive(Clone, Copy, Debug, PartialEq)]
+#[repr(C)]
+pub(crate) struct WriteReply {
+    pub number: u8,
+    pub len: usize,
+}
+
+#[derive(Clone, Copy, Debug, PartialEq)]
+#[repr(C)]
+pub(crate) struct ReadReply {
+    pub number: u8,
+    pub end: u8,
+    pub line_number: usize,
+    pub line: JournalLine,
+    pub next: usize,
+}
+
 /// Stops the build where a struct isn't laid out as the header says.
 macro_rules! laid_out {
     ($($name:ident: $size:literal { $($field:ident: $offset:literal),+ $(,)? })+) => {
@@ -154,6 +186,9 @@ laid_out! {
     NextReply: 408 { number: 0, over: 1, candidate: 8, run: 16 }
     AnswerReply: 408 { number: 0, skipped: 1, score: 8, run: 16 }
     ResultReply: 120 { number: 0, candidate: 8 }
+    JournalLine: 136 { number: 0, round: 8, seed: 16, skipped: 64, score: 72, mean: 80, k: 88, p1: 120, p2: 128 }
+    WriteReply: 16 { number: 0, len: 8 }
+    ReadReply: 160 { number: 0, end: 1, line_number: 8, line: 16, next: 152 }
 }
 
 unsafe extern "C" {
@@ -248,6 +283,9 @@ unsafe extern "C" {
         list_len: usize,
     ) -> AnswerReply;
     safe fn jc_result(run: Run) -> ResultReply;
+
+    fn jc_write_line(line: JournalLine, to: *mut u8, to_len: usize) -> WriteReply;
+    fn jc_read_line(bytes: *const u8, bytes_len: usize, at: usize) -> ReadReply;
 }
 
 #[inline]
@@ -374,14 +412,27 @@ pub(crate) fn answer(run: Run, finding: &Finding, list: &mut [f64]) -> AnswerRep
     }
 }
 
+/// Zeros, where no camera is asked for.
+pub(crate) const NO_CAMERA: FxFyCxCy = FxFyCxCy { fx: 0.0, fy: 0.0, cx: 0.0, cy: 0.0 };
+
 /// What is passed beside Failed; it isn't read.
 const NOT_SOLVED: PinholeCamera = PinholeCamera {
-    k: FxFyCxCy { fx: 0.0, fy: 0.0, cx: 0.0, cy: 0.0 },
+    k: NO_CAMERA,
     dist: BrownConrady5 { k1: 0.0, k2: 0.0, k3: 0.0, p1: 0.0, p2: 0.0 },
 };
 
 pub(crate) fn result(run: Run) -> ResultReply {
     jc_result(run)
+}
+
+pub(crate) fn write_line(line: JournalLine, to: &mut [u8]) -> WriteReply {
+    // SAFETY: the slice is valid for its length.
+    unsafe { jc_write_line(line, to.as_mut_ptr(), to.len()) }
+}
+
+pub(crate) fn read_line(bytes: &[u8], at: usize) -> ReadReply {
+    // SAFETY: the slice is valid for its length.
+    unsafe { jc_read_line(bytes.as_ptr(), bytes.len(), at) }
 }
 
 #[cfg(test)]
@@ -417,6 +468,9 @@ mod tests {
         safe fn jc_echo_next_flat(x: NextReply) -> NextReply;
         safe fn jc_echo_answer_flat(x: AnswerReply) -> AnswerReply;
         safe fn jc_echo_result_flat(x: ResultReply) -> ResultReply;
+        safe fn jc_echo_line(x: JournalLine) -> JournalLine;
+        safe fn jc_echo_write_reply(x: WriteReply) -> WriteReply;
+        safe fn jc_echo_read_reply(x: ReadReply) -> ReadReply;
     }
 
     /// Distinct numbers: no field can stand for another.
@@ -515,6 +569,20 @@ mod tests {
             Best { found: self.byte(), candidate: self.winner() }
         }
 
+        fn line(&mut self) -> JournalLine {
+            JournalLine {
+                number: self.whole(),
+                round: self.whole(),
+                seed: Seed { reference_k: self.k(), sensor: self.sensor() },
+                skipped: self.byte(),
+                score: self.float(),
+                mean: self.float(),
+                k: self.k(),
+                p1: self.float(),
+                p2: self.float(),
+            }
+        }
+
         fn run(&mut self) -> Run {
             Run {
                 options: self.options(),
@@ -600,5 +668,13 @@ mod tests {
         let (number, skipped) = (n.byte(), n.byte());
         let x = AnswerReply { number, skipped, score: n.float(), run: n.run() };
         assert_eq!(jc_echo_answer_flat(x), x);
+        let n = &mut Count(0);
+        let x = n.line();
+        assert_eq!(jc_echo_line(x), x);
+        let x = WriteReply { number: n.byte(), len: n.whole() };
+        assert_eq!(jc_echo_write_reply(x), x);
+        let (number, end, line_number) = (n.byte(), n.byte(), n.whole());
+        let x = ReadReply { number, end, line_number, line: n.line(), next: n.whole() };
+        assert_eq!(jc_echo_read_reply(x), x);
     }
 }
