@@ -41,29 +41,31 @@ pub struct ReadReply {
     pub next: usize,
 }
 
-fn recorded_of(l: LineRecord) -> Recorded
-    ensures { λ r. ⌜ r ≡ recordedFrom l ⌝ }
+fn recorded_of(r: LineRecord) -> Recorded
+    ensures { λ o. ⌜ o ≡ recordedFrom r ⌝ }
 {
-    if l.skipped != 0 {
-        return Recorded::Skipped(l.skipped);
+    if r.skipped != 0 {
+        return Recorded::Skipped(r.skipped);
     }
+    let k = r.k;
     Recorded::Scored(ScoredFields {
-        score: l.score,
-        mean: l.mean,
-        k: l.k,
-        p1: l.p1,
-        p2: l.p2,
+        score: r.score,
+        mean: r.mean,
+        k,
+        p1: r.p1,
+        p2: r.p2,
     })
 }
 
-pub fn line_of(l: LineRecord) -> Line
-    ensures { λ r. ⌜ r ≡ lineFrom l ⌝ }
+pub fn line_of(r: LineRecord) -> Line
+    ensures { λ l. ⌜ l ≡ lineFrom r ⌝ }
 {
-    let outcome = recorded_of(l);
+    let outcome = recorded_of(r);
+    let seed = r.seed;
     Line {
-        number: l.number,
-        round: l.round,
-        seed: l.seed,
+        number: r.number,
+        round: r.round,
+        seed,
         outcome,
     }
 }
@@ -105,23 +107,27 @@ pub fn no_line() -> LineRecord
 pub fn line_record(l: Line) -> LineRecord
     ensures { λ r. ⌜ r ≡ flatLine l ⌝ }
 {
+    let seed = l.seed;
     let outcome = l.outcome;
     match outcome {
-        Recorded::Scored(s) => LineRecord {
-            number: l.number,
-            round: l.round,
-            seed: l.seed,
-            skipped: 0,
-            score: s.score,
-            mean: s.mean,
-            k: s.k,
-            p1: s.p1,
-            p2: s.p2,
-        },
+        Recorded::Scored(s) => {
+            let k = s.k;
+            LineRecord {
+                number: l.number,
+                round: l.round,
+                seed,
+                skipped: 0,
+                score: s.score,
+                mean: s.mean,
+                k,
+                p1: s.p1,
+                p2: s.p2,
+            }
+        }
         Recorded::Skipped(reason) => LineRecord {
             number: l.number,
             round: l.round,
-            seed: l.seed,
+            seed,
             skipped: reason,
             score: 0.0,
             mean: 0.0,
