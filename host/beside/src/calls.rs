@@ -2,6 +2,7 @@
 
 use crate::findings::Sent;
 use crate::inputs::{for_library, on_one_axis};
+use crate::lines::{self, LineTally};
 use crate::record_words::*;
 use crate::unsound;
 use book::{Book, Inputs};
@@ -31,6 +32,8 @@ pub struct Tally {
     pub later_totals: [usize; 10],
     /// After how many calls nothing was left, nothing was scored, the round could gain, and it couldn't.
     pub stops: [usize; 4],
+    /// Journals that were read again.
+    pub lines: LineTally,
 }
 
 impl Default for Tally {
@@ -45,6 +48,7 @@ impl Default for Tally {
             errors: [0; 2],
             later_totals: [0; 10],
             stops: [0; 4],
+            lines: LineTally::default(),
         }
     }
 }
@@ -57,6 +61,8 @@ struct Pair {
     list: Vec<f64>,
     book: Book,
     book_list: Vec<f64>,
+    /// The lines of all answers so far.
+    journal: Vec<u8>,
 }
 
 /// Plays a list of calls drawn from `random` on Start's inputs.
@@ -88,7 +94,7 @@ pub fn play(mut inputs: Inputs, random: &mut Random, tally: &mut Tally) -> Resul
     if pair.book.is_over() {
         tally.results[usize::from(pair.book.run_best().is_none())] += 1;
     }
-    Ok(())
+    lines::reread(&pair.journal, random, &mut tally.lines)
 }
 
 /// Inputs that Start may refuse.
@@ -176,7 +182,8 @@ impl Pair {
                 return Ok(None);
             }
         };
-        let pair = Self { ties: random.once_in(3), run, list, book, book_list };
+        let ties = random.once_in(3);
+        let pair = Self { ties, run, list, book, book_list, journal: vec![] };
         pair.compare()?;
         Ok(Some(pair))
     }
@@ -208,6 +215,7 @@ impl Pair {
 
     /// One call: mostly the one that is due, with the whole list lent.
     fn call(&mut self, random: &mut Random, tally: &mut Tally) -> Result<(), String> {
+        let before = self.book.entries().len();
         let due = if self.book.waiting().is_some() { 1 } else { 0 };
         let which = if random.once_in(4) { random.below(5) } else { due };
         let len = self.list.len();
@@ -234,7 +242,11 @@ impl Pair {
         }
         let names = ["Next", "Answer", "the seed call", "Result", "the stop call"];
         differ(names[which], library, book)?;
-        self.compare()
+        self.compare()?;
+        if self.book.entries().len() > before {
+            lines::add(&self.run, &self.book, &mut self.journal)?;
+        }
+        Ok(())
     }
 
     /// The host writes to the list, with the numbers that may stand there in a run, and others.

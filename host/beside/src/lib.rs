@@ -4,5 +4,6 @@
 pub mod calls;
 pub mod findings;
 pub mod inputs;
+pub mod lines;
 pub mod record_words;
 pub mod unsound;

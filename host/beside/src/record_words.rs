@@ -1,9 +1,12 @@
 //! A run's record as words, from the library and as the book says that it must be.
 
-use book::{Book, Seed as BookSeed, Winner as BookWinner};
-use jinnychair::record::{Best, Progress, Run};
+use book::{Book, Entry, Outcome, Seed as BookSeed, Winner as BookWinner};
+use jinnychair::record::{Best, FlatLine, Progress, Run};
 use jinnychair::{Stopped, Winner};
 use words::{float_words, word};
+
+/// How many words a line has.
+pub const LINE_WORDS: usize = 17;
 
 /// Every number of a record.
 pub fn of_run(run: &Run) -> Vec<u64> {
@@ -16,6 +19,33 @@ pub fn of_run(run: &Run) -> Vec<u64> {
     words.extend(float_words(&w.seed.numbers()));
     words.extend(of_best(&run.round_best));
     words.extend(of_best(&run.run_best));
+    words.push(run.last.found.into());
+    words.extend(of_line(&run.last.line));
+    words
+}
+
+/// Every number of a line; zeros stand for what a skipped candidate hasn't.
+pub fn of_line(line: &FlatLine) -> Vec<u64> {
+    let k = line.k;
+    let mut words = vec![line.number as u64, line.round as u64];
+    words.extend(float_words(&line.seed.numbers()));
+    words.push(line.skipped.into());
+    words.extend(float_words(&[line.score, line.mean, k.fx, k.fy, k.cx, k.cy, line.p1, line.p2]));
+    words
+}
+
+/// The same of an entry.
+pub fn of_entry(entry: &Entry) -> Vec<u64> {
+    let mut words = vec![entry.number as u64, entry.round as u64];
+    words.extend(float_words(&entry.seed.numbers()));
+    match entry.outcome {
+        Outcome::Skipped(reason) => words.extend([u64::from(reason), 0, 0, 0, 0, 0, 0, 0, 0]),
+        Outcome::Scored(scored) => {
+            words.extend([0, word(scored.score), word(scored.mean)]);
+            words.extend(float_words(&scored.camera.k));
+            words.extend(float_words(&scored.camera.tangential));
+        }
+    }
     words
 }
 
@@ -52,6 +82,8 @@ pub fn of_book(book: &Book) -> Vec<u64> {
     words.extend(book.waiting().map_or(vec![0; 6], |seed: BookSeed| float_words(&seed.numbers())));
     words.extend(of_winner(book.round_best()));
     words.extend(of_winner(book.run_best()));
+    words.push(u64::from(!book.entries().is_empty()));
+    words.extend(book.entries().last().map_or(vec![0; LINE_WORDS], of_entry));
     words
 }
 

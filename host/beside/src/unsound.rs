@@ -3,7 +3,7 @@
 use crate::calls::{Reply, differ, handed_words};
 use crate::record_words::{of_progress, of_run, of_stopped};
 use jinnychair::Finding;
-use jinnychair::record::{Run, answer, next, progress, result, seed, stop};
+use jinnychair::record::{Run, answer, last_line, next, progress, result, seed, stop};
 use random::Random;
 use words::float_words;
 
@@ -25,9 +25,10 @@ pub fn compare(sound: &Run, sound_list: &[f64], random: &mut Random) -> Result<u
         result(&run).map_or_else(|e| number(e.number()), |_| vec![0]),
         of_progress(progress(&run)),
         stop(&run, &list).map_or_else(|e| number(e.number()), |stopped| of_stopped(&stopped)),
+        last_line(&run).map_or(vec![], |_| vec![1]),
     ];
     // The progress and the stop call give zeros.
-    let expected = [vec![2, 11], vec![], vec![2, 12], vec![2, 11], vec![0; 5], vec![0; 18]];
+    let expected = [vec![2, 11], vec![], vec![2, 12], vec![2, 11], vec![0; 5], vec![0; 18], vec![]];
     if replies != expected {
         return Err(format!("an unsound record {run:?} gets {replies:?}"));
     }
@@ -58,10 +59,10 @@ fn damaged(mut run: Run, random: &mut Random) -> Run {
 
 /// A flag is read as 0 or not 0, and comes back as 0 or 1.
 fn with_plain_flags(mut run: Run) -> Run {
-    let Run { options, place, waiting, round_best, run_best, .. } = &mut run;
-    let bests = [&mut round_best.found, &mut run_best.found];
+    let Run { options, place, waiting, round_best, run_best, last, .. } = &mut run;
+    let found = [&mut round_best.found, &mut run_best.found, &mut last.found];
     let others = [&mut options.one_axis, &mut place.over, &mut waiting.is_waiting];
-    for flag in others.into_iter().chain(bests) {
+    for flag in others.into_iter().chain(found) {
         *flag = (*flag).min(1);
     }
     run

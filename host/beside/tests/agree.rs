@@ -24,5 +24,7 @@ fn every_reply_every_list_and_every_record_are_the_books() {
     // Counted errors; and rows that were counted, but too few of them.
     assert!(tally.errors[0] > 10_000 && tally.errors[1] > 200, "{tally:?}");
     assert!(tally.entered.iter().all(|&times| times > 100), "{tally:?}");
+    // Lines of runs, whole and damaged.
+    assert!(tally.lines.read.iter().all(|&times| times > 1000), "{tally:?}");
     assert!((1..15).chain([27, 31, 32, 33]).all(|number| tally.refused[number] > 0), "{tally:?}");
 }

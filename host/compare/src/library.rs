@@ -2,7 +2,8 @@
 
 use jinnychair::geometry::{self, Conic, Matrix3};
 use jinnychair::record::{
-    Best, Inputs, Options, Place, Run, Waiting, answer, next, result, seed, start,
+    Best, FlatLine, Inputs, LastLine, Options, Place, Run, Waiting, answer, next, result, seed,
+    start,
 };
 use jinnychair::{
     BrownConrady5, Finding, FxFyCxCy, Handed, Outcome, PinholeCamera, Pt2, Rows, ScheimpflugParams,
@@ -293,6 +294,25 @@ fn list_words(seeds: usize, list: &[f64]) -> Words {
     [vec![seeds as u64], float_words(&list[..6 * seeds])].concat()
 }
 
+/// That of a run without an answer.
+const NO_LINE: LastLine = LastLine {
+    found: 0,
+    line: FlatLine {
+        number: 0,
+        round: 0,
+        seed: Seed {
+            reference_k: FxFyCxCy { fx: 0.0, fy: 0.0, cx: 0.0, cy: 0.0 },
+            sensor: ScheimpflugParams { tilt_x: 0.0, tilt_y: 0.0 },
+        },
+        skipped: 0,
+        score: 0.0,
+        mean: 0.0,
+        k: FxFyCxCy { fx: 0.0, fy: 0.0, cx: 0.0, cy: 0.0 },
+        p1: 0.0,
+        p2: 0.0,
+    },
+};
+
 /// The next list is made by the answer to a round's last seed; here by a run whose round has its best already.
 fn local_seed_grid(r: &mut Reader) -> Result<Words, String> {
     let (k, sensor) = (intrinsics(r)?, sensor(r)?);
@@ -319,6 +339,7 @@ fn local_seed_grid(r: &mut Reader) -> Result<Words, String> {
         waiting: Waiting { is_waiting: 1, seed: Seed { reference_k: k, sensor } },
         round_best: best,
         run_best: best,
+        last: NO_LINE,
     };
     let mut list = [UNTOUCHED; 54];
     answer(&mut run, &Finding::Failed, &mut list).map_err(|e| e.to_string())?;

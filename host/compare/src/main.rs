@@ -4,6 +4,7 @@
 
 use beside::calls::{Tally, play};
 use beside::inputs::{on_one_axis, share};
+use beside::lines::{LineTally, write_and_read};
 use compare::blocks;
 use compare::library::answer_words;
 use oracle::generate::{Endless, endless};
@@ -48,6 +49,7 @@ fn main() -> ExitCode {
     }
     compare_blocks(each, seed, &mut differences);
     compare_with_book(searches, seed, &mut differences);
+    compare_lines(each, seed, &mut differences);
     println!("{} differences", differences.count);
     if differences.count == 0 { ExitCode::SUCCESS } else { ExitCode::FAILURE }
 }
@@ -142,7 +144,27 @@ fn print_tally(tally: &Tally) {
         tally.later_totals
     );
     let [nothing_left, unscored, gain, no_gain] = tally.stops;
-    println!("  stopped with nothing left after {nothing_left} calls, with nothing scored {unscored},");
+    println!(
+        "  stopped with nothing left after {nothing_left} calls, with nothing scored {unscored},"
+    );
     println!("    with something to gain {gain}, with nothing to gain {no_gain}");
     println!("  {} calls on records that no search can have made", tally.unsound);
+    let [lines, ends, refused] = tally.lines.read;
+    println!("  {lines} lines, {ends} ends and {refused} refusals read from their journals");
+}
+
+/// Lines with any numbers.
+fn compare_lines(count: usize, seed: &str, differences: &mut Differences) {
+    let mut random = Random::named(&format!("lines, {seed}"));
+    let mut tally = LineTally::default();
+    for _ in 0..count {
+        if let Err(fault) = write_and_read(&mut random, &mut tally) {
+            differences.add(&fault);
+        }
+    }
+    let ([written, refused], [lines, ends, not_lines]) = (tally.written, tally.read);
+    println!("{:28}{written} written, {refused} refused", "lines of a journal");
+    println!(
+        "  {lines} lines, {ends} ends and {not_lines} refusals read again, most of them damaged"
+    );
 }

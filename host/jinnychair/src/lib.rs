@@ -1,8 +1,8 @@
 //! The proved sensor-tilt search, as safe Rust over its static library (x86-64 Linux).
 //!
 //! [`Search`] runs a search one seed at a time: the host solves for a camera at each tilt that it is handed, and the search
-//! scores, compares and refines. [`geometry`] has the operations that a host needs beside it. [`record`] has the same search for a
-//! host that keeps the run's record itself.
+//! scores, compares and refines. [`geometry`] has the operations that a host needs beside it, [`journal`] keeps every answer in a
+//! file. [`record`] has the same search for a host that keeps the run's record itself.
 //!
 //! What these functions compute is proved: each equals a definition that is written down in the repository's `specs/`
 //! folders, for all inputs. What stands in this crate is not proved: it passes numbers on, and names them.
@@ -47,6 +47,7 @@ compile_error!("the static library is for x86-64");
 
 mod error;
 pub mod geometry;
+pub mod journal;
 mod known_plate;
 mod raw;
 pub mod record;
@@ -55,8 +56,9 @@ mod types;
 mod version;
 
 pub use error::{
-    AnswerError, ConicError, CountError, NextError, NormalizeError, PlateError, PointMapError,
-    ResultError, RowsError, RunError, StartError, StopError, TiltError, TrigError,
+    AnswerError, ConicError, CountError, LineRefusal, NextError, NormalizeError, PlateError,
+    PointMapError, ResultError, RowsError, RunError, StartError, StopError, TiltError, TrigError,
+    WriteError,
 };
 pub use record::Progress;
 pub use search::{

@@ -1,12 +1,14 @@
-//! The static library's functions. This is the only module with unsafe code: the declarations, which nothing compares with the
-//! library but the tests below and `tests/interface.rs`, and the calls that pass slices.
+//! The static library's functions. This module and its parts are the only ones with unsafe code: the declarations, which nothing
+//! compares with the library but the tests below and `tests/interface.rs`, and the calls that pass slices.
 //!
 //! Every function takes any numbers whatsoever. Those without a pointer are therefore safe to call; those with one get it from a
 //! slice, which is valid for its length, and a `&mut` slice overlaps no other.
 #![allow(unsafe_code)]
 
+pub(crate) mod journal;
+
 use crate::geometry::{Conic, DistortedPoint, Jacobian};
-use crate::record::{Best, Inputs, Options, Place, Progress, Run, Waiting};
+use crate::record::{Best, FlatLine, Inputs, LastLine, Options, Place, Progress, Run, Waiting};
 use crate::{
     BrownConrady5, Finding, FxFyCxCy, PinholeCamera, Pt2, Rows, ScheimpflugParams, Seed, TiltTrig,
     Winner,
@@ -143,6 +145,7 @@ macro_rules! laid_out {
         };)+
     };
 }
+use laid_out;
 
 laid_out! {
     Pt2: 16 { x: 0, y: 8 }
@@ -169,10 +172,12 @@ laid_out! {
     Place: 56 { demand: 0, round: 8, step: 16, len: 24, at: 32, number: 40, over: 48 }
     Waiting: 56 { is_waiting: 0, seed: 8 }
     Best: 120 { found: 0, candidate: 8 }
-    Run: 408 { options: 0, center: 40, place: 56, waiting: 112, round_best: 168, run_best: 288 }
-    StartReply: 416 { number: 0, run: 8 }
-    NextReply: 424 { number: 0, over: 1, candidate: 8, run: 16 }
-    AnswerReply: 424 { number: 0, skipped: 1, score: 8, run: 16 }
+    FlatLine: 136 { number: 0, round: 8, seed: 16, skipped: 64, score: 72, mean: 80, k: 88, p1: 120, p2: 128 }
+    LastLine: 144 { found: 0, line: 8 }
+    Run: 552 { options: 0, center: 40, place: 56, waiting: 112, round_best: 168, run_best: 288, last: 408 }
+    StartReply: 560 { number: 0, run: 8 }
+    NextReply: 568 { number: 0, over: 1, candidate: 8, run: 16 }
+    AnswerReply: 568 { number: 0, skipped: 1, score: 8, run: 16 }
     ResultReply: 120 { number: 0, candidate: 8 }
     Progress: 40 { round: 0, rounds: 8, answered: 16, total: 24, answered_in_run: 32 }
     StopReply: 128 { number: 0, has_best: 1, has_floor: 2, no_gain: 3, best: 8, floor: 120 }
@@ -469,6 +474,8 @@ mod tests {
         safe fn jc_echo_place_record(x: Place) -> Place;
         safe fn jc_echo_waiting_record(x: Waiting) -> Waiting;
         safe fn jc_echo_best_record(x: Best) -> Best;
+        safe fn jc_echo_line(x: FlatLine) -> FlatLine;
+        safe fn jc_echo_last_line_record(x: LastLine) -> LastLine;
         safe fn jc_echo_run_record(x: Run) -> Run;
         safe fn jc_echo_start_flat(x: StartReply) -> StartReply;
         safe fn jc_echo_next_flat(x: NextReply) -> NextReply;
@@ -479,10 +486,10 @@ mod tests {
     }
 
     /// Distinct numbers: no field can stand for another.
-    struct Count(u8);
+    pub(super) struct Count(pub u8);
 
     impl Count {
-        fn byte(&mut self) -> u8 {
+        pub(super) fn byte(&mut self) -> u8 {
             self.0 += 1;
             self.0
         }
@@ -491,7 +498,7 @@ mod tests {
             f64::from(self.byte()) + 0.5
         }
 
-        fn whole(&mut self) -> usize {
+        pub(super) fn whole(&mut self) -> usize {
             // Above 32 bits, so that a cut shows.
             usize::from(self.byte()) << 40 | 1
         }
@@ -576,6 +583,24 @@ mod tests {
             Best { found: self.byte(), candidate: self.winner() }
         }
 
+        pub(super) fn line(&mut self) -> FlatLine {
+            FlatLine {
+                number: self.whole(),
+                round: self.whole(),
+                seed: self.waiting().seed,
+                skipped: self.byte(),
+                score: self.float(),
+                mean: self.float(),
+                k: self.k(),
+                p1: self.float(),
+                p2: self.float(),
+            }
+        }
+
+        fn last(&mut self) -> LastLine {
+            LastLine { found: self.byte(), line: self.line() }
+        }
+
         fn run(&mut self) -> Run {
             Run {
                 options: self.options(),
@@ -584,6 +609,7 @@ mod tests {
                 waiting: self.waiting(),
                 round_best: self.best(),
                 run_best: self.best(),
+                last: self.last(),
             }
         }
     }
@@ -628,6 +654,10 @@ mod tests {
         assert_eq!(jc_echo_waiting_record(x), x);
         let x = n.best();
         assert_eq!(jc_echo_best_record(x), x);
+        let x = n.line();
+        assert_eq!(jc_echo_line(x), x);
+        let x = n.last();
+        assert_eq!(jc_echo_last_line_record(x), x);
         let x = n.run();
         assert_eq!(jc_echo_run_record(x), x);
     }

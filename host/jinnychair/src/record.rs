@@ -4,6 +4,7 @@
 //! scored. But the theorem about whole runs speaks of a record and a list that are handed on as the calls before left them.
 //! [`crate::Search`] keeps both where nothing else reaches them.
 
+use crate::journal::Line;
 use crate::{
     AnswerError, Finding, FxFyCxCy, Handed, NextError, Outcome, Pt2, ResultError, Seed, SkipReason,
     StartError, StopError, Stopped, Winner, check_version, raw,
@@ -65,6 +66,40 @@ pub struct Best {
     pub candidate: Winner,
 }
 
+/// The fields of a journal's line as numbers.
+#[derive(Clone, Copy, Debug, PartialEq)]
+#[repr(C)]
+pub struct FlatLine {
+    /// The candidate's number.
+    pub number: usize,
+    /// The round that it was handed out in.
+    pub round: usize,
+    /// Its seed.
+    pub seed: Seed,
+    /// 0 where it was scored, else the reason; the numbers below are then 0.
+    pub skipped: u8,
+    /// Its score.
+    pub score: f64,
+    /// Its mean error, in pixels.
+    pub mean: f64,
+    /// Its camera.
+    pub k: FxFyCxCy,
+    /// Its camera's tangential distortion, damped.
+    pub p1: f64,
+    /// The same.
+    pub p2: f64,
+}
+
+/// The journal's line of the last answered candidate.
+#[derive(Clone, Copy, Debug, PartialEq)]
+#[repr(C)]
+pub struct LastLine {
+    /// Not 0 once there is one.
+    pub found: u8,
+    /// The line.
+    pub line: FlatLine,
+}
+
 /// A run.
 #[derive(Clone, Copy, Debug, PartialEq)]
 #[repr(C)]
@@ -81,6 +116,8 @@ pub struct Run {
     pub round_best: Best,
     /// The run's best.
     pub run_best: Best,
+    /// The last answered line.
+    pub last: LastLine,
 }
 
 /// How far a search has come, in numbers for a progress bar. The answer to a round's last seed opens the next round, so that
@@ -204,4 +241,11 @@ pub fn stop(run: &Run, list: &[f64]) -> Result<Stopped, StopError> {
         floor: (reply.has_floor != 0).then_some(reply.floor),
         no_gain: reply.no_gain != 0,
     })
+}
+
+/// The journal's line of the last answered candidate; nothing before the first answer.
+#[must_use]
+pub fn last_line(run: &Run) -> Option<Line> {
+    let reply = raw::journal::jc_last_line(*run);
+    (reply.found != 0).then(|| reply.line.into())
 }

@@ -1,6 +1,7 @@
 //! A search that keeps its record and its list to itself.
 
 use crate::error::{numbered, part};
+use crate::journal::Line;
 use crate::record::{self, Progress, Run};
 use crate::{
     AnswerError, FxFyCxCy, NextError, PinholeCamera, Pt2, ResultError, RunError, Seed, StartError,
@@ -213,6 +214,8 @@ pub struct Tried<'a> {
     pub outcome: Outcome,
     /// How far the search had come when the seed was handed out; its own answer isn't counted.
     pub progress: Progress,
+    /// Its line of the journal.
+    pub line: Line,
 }
 
 /// How a search stands when it is stopped between two answers. It speaks of the current round: later rounds can score below
@@ -360,7 +363,8 @@ impl Search {
             let outcome =
                 self.answer(&solution.as_ref().map_or(Finding::Failed, Solution::finding))?;
             let (round, solution) = (progress.round, solution.as_ref());
-            let flow = watch(&Tried { number, round, seed, solution, outcome, progress });
+            let line = self.last_line().expect("an answered candidate has a line");
+            let flow = watch(&Tried { number, round, seed, solution, outcome, progress, line });
             if flow.is_continue() {
                 continue;
             }
@@ -394,6 +398,12 @@ impl Search {
     /// The finding isn't taken, and the seed goes on waiting.
     pub fn answer(&mut self, finding: &Finding) -> Result<Outcome, AnswerError> {
         record::answer(&mut self.run, finding, &mut self.list)
+    }
+
+    /// The journal's line of the last answered candidate; nothing before the first answer.
+    #[must_use]
+    pub fn last_line(&self) -> Option<Line> {
+        record::last_line(&self.run)
     }
 
     /// The best candidate, once the run is over.

@@ -57,6 +57,7 @@ fn of_rust(text: &str, marker: &str) -> Signatures {
             "&[f64]" => "*const f64",
             "&mut [f64]" => "*mut f64",
             "&[u8]" => "*const u8",
+            "&mut [u8]" => "*mut u8",
             plain => return vec![(name.to_owned(), plain.to_owned())],
         };
         vec![(name.to_owned(), pointer.to_owned()), (format!("{name}_len"), "usize".to_owned())]
@@ -79,6 +80,7 @@ fn of_header() -> Signatures {
         "const double *" => "*const f64".to_owned(),
         "double *" => "*mut f64".to_owned(),
         "const uint8_t *" => "*const u8".to_owned(),
+        "uint8_t *" => "*mut u8".to_owned(),
         name => name.to_owned(),
     };
     let parameter = |text: &str| {
@@ -133,7 +135,7 @@ fn names_and_signatures_agree() {
     assert!(header.len() > 50, "{} functions were found in the header", header.len());
     assert!(header.contains_key("jc_version") && header.contains_key("jc_answer"));
     for (name, other) in [
-        ("the crate", of_rust(&read("src/raw.rs"), "fn jc_")),
+        ("the crate", of_rust(&(read("src/raw.rs") + &read("src/raw/journal.rs")), "fn jc_")),
         ("the proved sources", of_proved_sources()),
     ] {
         for (function, signature) in &header {
@@ -171,7 +173,7 @@ fn numbered() -> Vec<(String, u8, &'static str, &'static str)> {
             })+
         };
     }
-    add!("JC": StartError NextError AnswerError ResultError StopError PointMapError TrigError CountError TiltError ConicError PlateError NormalizeError RowsError);
+    add!("JC": StartError NextError AnswerError ResultError StopError WriteError LineRefusal PointMapError TrigError CountError TiltError ConicError PlateError NormalizeError RowsError);
     add!("JC_SKIP": SkipReason);
     all
 }
