@@ -99,7 +99,8 @@ fn heading(svg: &mut Svg, record: &Record, winner: Option<&Tried>) {
     let won = winner.map_or("No winner.".into(), |winner| {
         let [x, y] = degrees(winner).map(|tilt| signed(tilt, 3));
         let errors = winner.scored.map_or(String::new(), |scored| {
-            format!(", mean error {:.3} px, RMS {:.3} px", scored.mean, scored.rms)
+            let rms = scored.rms.map_or(String::new(), |rms| format!(", RMS {rms:.3} px"));
+            format!(", mean error {:.3} px{rms}", scored.mean)
         });
         let y = if record.is_one_axis() { "held at 0".into() } else { format!("{y}°") };
         format!("Winner: no. {}, tilt x {x}°, tilt y {y}{errors}.", winner.number)

@@ -194,6 +194,20 @@ impl Choices {
         options
     }
 
+    /// The choices that the host needs again when a search goes on, as lines of a file. Start's own are kept bit by bit
+    /// elsewhere.
+    #[must_use]
+    pub fn host_lines(&self) -> Vec<String> {
+        let lines = [
+            self.centre.map(|[x, y]| format!("centre {x} {y}")),
+            self.guess_centre.map(|()| "guess-centre".into()),
+            self.centre_within.map(|pixels| format!("centre-within {pixels}")),
+            self.max_tilt.map(|tilt| format!("max-tilt {tilt}rad")),
+            self.max_mean.map(|pixels| format!("max-mean {pixels}")),
+        ];
+        lines.into_iter().flatten().collect()
+    }
+
     /// Service's limits.
     #[must_use]
     pub fn limits(&self) -> Limits {
@@ -317,6 +331,16 @@ mod tests {
         assert_eq!(file.seeds, Some("my seeds.txt".into()));
         let typed = Choices { rounds: Some(2), ..Choices::default() };
         assert_eq!(typed.or(file).options().refine_rounds, 2);
+    }
+
+    #[test]
+    fn what_the_host_needs_again_is_read_back() {
+        let text = "centre 655.1 -0.5\ncentre-within 2\nmax-tilt 1.5deg\nmax-mean 0.1\nrounds 3\n";
+        let choices = Choices::parse(text).unwrap();
+        let again = Choices::parse(&choices.host_lines().join("\n")).unwrap();
+        assert_eq!(again, Choices { rounds: None, ..choices });
+        let guessed = Choices::parse("guess-centre").unwrap();
+        assert_eq!(Choices::parse(&guessed.host_lines().join("\n")), Ok(guessed));
     }
 
     #[test]

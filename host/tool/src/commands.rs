@@ -3,11 +3,13 @@
 mod chart;
 mod known_camera;
 mod search;
+mod show;
 
 use crate::screen::{Screen, aside};
 use std::collections::VecDeque;
 use std::ffi::OsString;
 use std::os::unix::ffi::{OsStrExt, OsStringExt};
+use std::path::PathBuf;
 use std::process::ExitCode;
 
 /// How a command ends when it does its work.
@@ -43,7 +45,8 @@ struct Command {
     run: fn(Words, &mut Screen) -> Result<End, Fault>,
 }
 
-const COMMANDS: &[Command] = &[search::COMMAND, chart::COMMAND, known_camera::COMMAND];
+const COMMANDS: &[Command] =
+    &[search::COMMAND, show::COMMAND, chart::COMMAND, known_camera::COMMAND];
 
 const EXIT_CODES: &str = "Exit codes: 0 good, 1 failed, 2 wrong words, 3 doubtful: a result, with a reason why it may \
                           be wrong.";
@@ -103,6 +106,19 @@ impl Words {
 fn utf8(word: OsString) -> Result<String, Fault> {
     word.into_string()
         .map_err(|word| Fault::Usage(format!("`{}` isn't text in UTF-8", word.display())))
+}
+
+/// The only word, which names a file.
+fn only_file(mut words: Words, what: &str) -> Result<PathBuf, Fault> {
+    let mut file = None;
+    while let Some(word) = words.next()? {
+        match word {
+            Word::File(path) if file.is_none() => file = Some(PathBuf::from(path)),
+            Word::File(path) => return Err(unknown(&path.display().to_string())),
+            Word::Option(option) => return Err(unknown(&option)),
+        }
+    }
+    file.ok_or(Fault::Usage(format!("no {what} is named")))
 }
 
 /// A word that no option and no file is.

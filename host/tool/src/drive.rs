@@ -2,6 +2,7 @@
 
 use crate::residuals::{rms, row_errors};
 use jinnychair::geometry::ErrorCount;
+use jinnychair::journal::{Line, Recorded};
 use jinnychair::{
     Ended, Inputs, Options, Outcome, PinholeCamera, Progress, ResultError, RunError, Search, Seed,
     Solution, Stopped, Winner, geometry,
@@ -47,8 +48,8 @@ pub struct Scored {
     pub camera: PinholeCamera,
     /// The mean error of its counted rows, in pixels.
     pub mean: f64,
-    /// The root of their mean square, in pixels.
-    pub rms: f64,
+    /// The root of their mean square, in pixels; a journal doesn't have it.
+    pub rms: Option<f64>,
 }
 
 /// Counted dots.
@@ -97,18 +98,49 @@ pub fn run(
     inputs: &Inputs,
     sources: &[Source],
     solve: impl FnMut(&Seed) -> Option<Solution>,
+    watch: impl FnMut(&Tried, &Progress) -> ControlFlow<String>,
+) -> Result<Finished, String> {
+    let search = start(inputs)?;
+    go_on(search, (inputs.decomposition, sources), solve, |_| Ok(()), watch)
+}
+
+/// Starts a search.
+///
+/// # Errors
+///
+/// Says why it can't start.
+pub fn start(inputs: &Inputs) -> Result<Search, String> {
+    Search::start(inputs).map_err(|error| format!("the search can't start: {error}"))
+}
+
+/// Runs a search that is started. `given` are the decomposition seeds, and where each comes from; `keep` is given the
+/// journal's line of each tried tilt before the next seed is asked for.
+///
+/// # Errors
+///
+/// What `keep` says; the search then stops.
+pub fn go_on(
+    mut search: Search,
+    given: (&[Seed], &[Source]),
+    solve: impl FnMut(&Seed) -> Option<Solution>,
+    mut keep: impl FnMut(&Line) -> Result<(), String>,
     mut watch: impl FnMut(&Tried, &Progress) -> ControlFlow<String>,
 ) -> Result<Finished, String> {
-    let mut search = Search::start(inputs).map_err(|e| format!("the search can't start: {e}"))?;
     let mut tried: Vec<Tried> = Vec::new();
-    let mut why = String::new();
+    let (mut why, mut not_kept) = (String::new(), None);
     let ended = search.run_until(solve, |one| {
-        let source = source(&tried, one.round, &one.seed, inputs.decomposition, sources);
-        let new = kept(one, source);
+        if let Err(fault) = keep(&one.line) {
+            not_kept = Some(fault);
+            return ControlFlow::Break(());
+        }
+        let new = kept(one, source(&tried, one.round, &one.seed, given));
         let flow = watch(&new, &one.progress);
         tried.push(new);
         flow.map_break(|reason| why = reason)
     });
+    if let Some(fault) = not_kept {
+        return Err(fault);
+    }
     let (winner, stop) = match ended {
         Ok(Ended::Over(winner)) => (Ok(winner), None),
         Ok(Ended::Stopped(stopped)) => {
@@ -131,13 +163,31 @@ fn kept(one: &jinnychair::Tried, source: Source) -> Tried {
     Tried { number, round, source, seed, outcome, scored, dots }
 }
 
+/// The tried tilts of a journal's lines. `given` are the decomposition seeds, and where each comes from.
+#[must_use]
+pub fn of_lines(lines: &[Line], given: (&[Seed], &[Source])) -> Vec<Tried> {
+    let mut tried: Vec<Tried> = Vec::new();
+    for line in lines {
+        let Line { number, round, seed, .. } = *line;
+        let source = source(&tried, round, &seed, given);
+        let scored = match line.outcome {
+            Recorded::Skipped(_) => None,
+            Recorded::Scored(fields) => {
+                Some(Scored { camera: fields.camera(), mean: fields.mean_reproj_error, rms: None })
+            }
+        };
+        let outcome = line.outcome();
+        tried.push(Tried { number, round, source, seed, outcome, scored, dots: None });
+    }
+    tried
+}
+
 /// Where a seed comes from: a later round lies around the best of the round before, or where that has none, of all.
 fn source(
     tried: &[Tried],
     round: usize,
     seed: &Seed,
-    given: &[Seed],
-    sources: &[Source],
+    (given, sources): (&[Seed], &[Source]),
 ) -> Source {
     if round > 0 {
         let before = tried.iter().filter(|one| one.round + 1 == round);
@@ -158,7 +208,7 @@ fn fit_of(seed: &Seed, solution: &Solution, errors: ErrorCount) -> Scored {
     let camera = PinholeCamera { dist: solution.camera.dist.damped(), ..solution.camera };
     let mean = errors.sum / errors.counted as f64;
     let errors = row_errors(camera, seed.sensor, solution.rows());
-    Scored { camera, mean, rms: rms(errors.iter().flatten()) }
+    Scored { camera, mean, rms: Some(rms(errors.iter().flatten())) }
 }
 
 /// The earliest of the lowest-scored ones, as the search chooses it.

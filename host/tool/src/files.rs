@@ -1,5 +1,6 @@
 //! Files that are read with their faults named, and written whole or not at all.
 
+use jinnychair::journal::sha256;
 use std::ffi::OsString;
 use std::fs;
 use std::io;
@@ -12,12 +13,22 @@ use std::path::{Path, PathBuf};
 ///
 /// Names the file, why it can't be read, and what to do.
 pub fn read(path: &Path) -> Result<String, String> {
+    read_with_checksum(path).map(|(text, _)| text)
+}
+
+/// The same, with the checksum of the file's bytes.
+///
+/// # Errors
+///
+/// As [`read`].
+pub fn read_with_checksum(path: &Path) -> Result<(String, String), String> {
     let fault = |cause: &str| format!("{}: {cause}", path.display());
     let bytes = fs::read(path)
         .map_err(|error| fault(&format!("can't be read: {error}. Check the name")))?;
     if bytes.starts_with(&[0xff, 0xfe]) || bytes.starts_with(&[0xfe, 0xff]) {
         return Err(fault("the text is UTF-16. Save it as UTF-8"));
     }
+    let checksum = sha256(&bytes);
     let text = String::from_utf8(bytes).map_err(|error| {
         let before = &error.as_bytes()[..error.utf8_error().valid_up_to()];
         let line = 1 + before.iter().filter(|byte| **byte == b'\n').count();
@@ -25,7 +36,7 @@ pub fn read(path: &Path) -> Result<String, String> {
             "line {line}: a byte that isn't UTF-8. Save the file as plain text in UTF-8"
         ))
     })?;
-    Ok(text.strip_prefix('\u{feff}').unwrap_or(&text).to_owned())
+    Ok((text.strip_prefix('\u{feff}').unwrap_or(&text).to_owned(), checksum))
 }
 
 /// A name with an ending; neither a dot in it nor an ending of another kind is cut off.

@@ -15,6 +15,7 @@
 //! | [`drive`] | runs the search and keeps every tried tilt |
 //! | [`progress`] | how far the search has come, and the time left |
 //! | [`stop`] | stops it after some minutes, or by Enter |
+//! | [`journal`] | reads a journal, and what stands beside it |
 //! | [`residuals`] | the errors, dot by dot and view by view |
 //! | [`open`] | how far the winner's tilts are left open |
 //! | [`verdict`] | what speaks against the winner, and what to do |
@@ -30,6 +31,7 @@ pub mod date;
 pub mod drive;
 pub mod files;
 pub mod homography;
+pub mod journal;
 pub mod linear;
 pub mod open;
 pub mod plan;

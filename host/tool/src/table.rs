@@ -128,7 +128,8 @@ fn fields(one: &Tried) -> Vec<String> {
     fields.push(letter(&one.outcome).into());
     let or_minus = |value: Option<f64>| value.map_or("-".into(), |value| value.to_string());
     let of_scored = |of: fn(&Scored) -> f64| or_minus(one.scored.as_ref().map(of));
-    fields.extend([or_minus(one.outcome.score()), of_scored(|s| s.mean), of_scored(|s| s.rms)]);
+    let rms = or_minus(one.scored.and_then(|scored| scored.rms));
+    fields.extend([or_minus(one.outcome.score()), of_scored(|s| s.mean), rms]);
     let dots =
         |of: fn(&Dots) -> usize| one.dots.as_ref().map_or("-".into(), |dots| of(dots).to_string());
     fields.extend([dots(|dots| dots.counted), dots(|dots| dots.all)]);
@@ -149,7 +150,8 @@ fn parse_line(line: &str) -> Result<Tried, String> {
     let [x, y] = numbers(&fields[17..19])?;
     let (outcome, scored) = match fields[5] {
         "S" => {
-            let [score, mean, rms] = numbers(&fields[6..9])?;
+            let [score, mean] = numbers(&fields[6..8])?;
+            let rms = if fields[8] == "-" { None } else { Some(numbers::<1>(&fields[8..9])?[0]) };
             let [fx, fy, cx, cy, p1, p2] = numbers(&fields[11..17])?;
             let dist = BrownConrady5 { p1, p2, ..BrownConrady5::default() };
             let camera = PinholeCamera { k: FxFyCxCy { fx, fy, cx, cy }, dist };

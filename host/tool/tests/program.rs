@@ -1,68 +1,17 @@
 //! The program as a user meets it: its words, its exit codes, and what is in its files.
 #![allow(missing_docs)]
 
+mod common;
+
+use common::{assert_said, file, folder, names, program, said, small};
 use jinnychair::ScheimpflugParams;
-use std::ffi::{OsStr, OsString};
+use std::ffi::OsString;
 use std::fs::{self, File};
 use std::os::unix::ffi::OsStringExt;
-use std::path::{Path, PathBuf};
-use std::process::{Command, Stdio};
+use std::process::Stdio;
 use tool::choices::MIN_COUNTED;
 use tool::synthetic::{BUILT_IN, Truth};
 use tool::views::Plate;
-
-/// An empty folder of a test's own, below the one that cargo gives to tests.
-fn folder(name: &str) -> PathBuf {
-    let folder = Path::new(env!("CARGO_TARGET_TMPDIR")).join("program").join(name);
-    let _ = fs::remove_dir_all(&folder);
-    fs::create_dir_all(&folder).unwrap();
-    folder
-}
-
-fn program(folder: &Path, words: &[impl AsRef<OsStr>]) -> Command {
-    let mut command = Command::new(env!("CARGO_BIN_EXE_jinnychair"));
-    command.args(words).current_dir(folder).stdin(Stdio::null());
-    command
-}
-
-/// What the program says, on standard output and then beside it; it must end with this code.
-#[track_caller]
-fn said(folder: &Path, words: &[impl AsRef<OsStr>], code: i32) -> String {
-    let output = program(folder, words).output().unwrap();
-    let text = [output.stdout, output.stderr].map(|text| String::from_utf8(text).unwrap()).concat();
-    assert_eq!(output.status.code(), Some(code), "{text}");
-    assert!(!text.contains("panicked"), "{text}");
-    text
-}
-
-#[track_caller]
-fn assert_said(folder: &Path, words: &[impl AsRef<OsStr>], code: i32, expected: &[&str]) {
-    let text = said(folder, words, code);
-    for part in expected {
-        assert!(text.contains(part), "`{part}` isn't in:\n{text}");
-    }
-}
-
-fn file(path: impl AsRef<Path>) -> String {
-    fs::read_to_string(path).unwrap()
-}
-
-fn names(folder: &Path) -> Vec<String> {
-    let mut names: Vec<_> = fs::read_dir(folder)
-        .unwrap()
-        .map(|entry| entry.unwrap().file_name().into_string().unwrap())
-        .collect();
-    names.sort();
-    names
-}
-
-/// A grid that is small, so that a search takes little time.
-const SMALL: [&str; 4] =
-    ["--tilts-x=-2deg,-1deg,0", "--tilts-y=-1deg,0", "--rounds=5", "--step=0.5deg"];
-
-fn small<'a>(words: &[&'a str]) -> Vec<&'a str> {
-    [&["search"], words, &SMALL].concat()
-}
 
 #[test]
 fn words_are_explained() {

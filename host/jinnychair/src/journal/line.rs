@@ -1,7 +1,9 @@
 //! A journal's lines: written, and read back.
 
 use crate::record::FlatLine;
-use crate::{FxFyCxCy, LineRefusal, Outcome, Seed, SkipReason, WriteError, raw};
+use crate::{
+    BrownConrady5, FxFyCxCy, LineRefusal, Outcome, PinholeCamera, Seed, SkipReason, WriteError, raw,
+};
 use std::error::Error;
 use std::fmt::{Display, Formatter, Result as FmtResult};
 
@@ -18,6 +20,15 @@ pub struct ScoredFields {
     pub p1: f64,
     /// The second.
     pub p2: f64,
+}
+
+impl ScoredFields {
+    /// The camera; its radial distortion is 0, as damping leaves it.
+    #[must_use]
+    pub fn camera(&self) -> PinholeCamera {
+        let dist = BrownConrady5 { p1: self.p1, p2: self.p2, ..BrownConrady5::default() };
+        PinholeCamera { k: self.k, dist }
+    }
 }
 
 /// The outcome that a line records.

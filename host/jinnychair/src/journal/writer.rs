@@ -5,7 +5,7 @@ use super::line::{LEAST_ROOM, Line, write_line};
 use crate::{Ended, RunError, Search, Seed, Solution, Tried, WriteError};
 use std::error::Error;
 use std::fmt::{Display, Formatter, Result as FmtResult};
-use std::fs::{File, OpenOptions, TryLockError};
+use std::fs::{self, File, OpenOptions, TryLockError};
 use std::io::{self, Write};
 use std::ops::ControlFlow;
 use std::path::{Path, PathBuf};
@@ -31,12 +31,18 @@ impl JournalWriter {
         if is_there(&beside) && !is_there(path) {
             return Err(JournalFileError::InputsExist(beside));
         }
+        let is_new = !is_there(path);
         let file = OpenOptions::new().read(true).append(true).create(true).open(path);
         let writer = Self::locked(file, path)?;
         if writer.len > 0 || is_there(&beside) {
             return Err(JournalFileError::Exists(path.into()));
         }
-        inputs.save(path).map_err(|error| JournalFileError::Io(beside, error))?;
+        if let Err(error) = inputs.save(path) {
+            if is_new {
+                let _ = fs::remove_file(path);
+            }
+            return Err(JournalFileError::Io(beside, error));
+        }
         Ok(writer)
     }
 

@@ -150,7 +150,8 @@ pub fn told(one: &Tried) -> String {
     let source = source_text(one.source);
     let found = match (one.outcome.score(), one.scored) {
         (Some(score), Some(scored)) => {
-            format!("score {score:.5}, mean {:.5} px, RMS {:.5} px", scored.mean, scored.rms)
+            let rms = scored.rms.map_or(String::new(), |rms| format!(", RMS {rms:.5} px"));
+            format!("score {score:.5}, mean {:.5} px{rms}", scored.mean)
         }
         _ => {
             let reason =

@@ -7,7 +7,8 @@ use crate::chart::{self, chart};
 use crate::choices::{Choices, parse_seeds};
 use crate::date::now;
 use crate::drive::{self, Finished, Source, Tried};
-use crate::files::{check_free, read, with_ending, write};
+use crate::files::{check_free, read, read_with_checksum, with_ending, write};
+use crate::journal;
 use crate::open::Open;
 use crate::plan::Plan;
 use crate::progress::Bar;
@@ -19,6 +20,7 @@ use crate::synthetic::BUILT_IN;
 use crate::table::{self, Record};
 use crate::verdict::{self, Point};
 use crate::views::{self, Plate};
+use jinnychair::journal::{JournalWriter, Line, StoredInputs, Views};
 use jinnychair::{FxFyCxCy, Inputs, Options, Progress, RunError, Seed, Winner};
 use std::io::IsTerminal;
 use std::ops::ControlFlow;
@@ -37,6 +39,7 @@ struct Asked {
     views: Option<PathBuf>,
     out: Option<PathBuf>,
     write_views: Option<PathBuf>,
+    journal: Option<PathBuf>,
     choices: Choices,
     choices_file: Option<PathBuf>,
 }
@@ -65,6 +68,7 @@ impl Asked {
         let place = match option {
             "--out" => &mut self.out,
             "--write-views" => &mut self.write_views,
+            "--journal" => &mut self.journal,
             "--options" => &mut self.choices_file,
             _ => {
                 let name = option.strip_prefix("--").ok_or_else(|| unknown(option))?;
@@ -111,13 +115,30 @@ fn run(words: Words, screen: &mut Screen) -> Result<End, Fault> {
     let [csv, svg] = asked.outputs();
     check_free(&csv, &asked.inputs(), table::HEAD)?;
     check_free(&svg, &asked.inputs(), chart::HEAD)?;
+    let journal = asked.journal.as_deref();
+    journal.map_or(Ok(()), |path| check_journal(path, [&csv, &svg]))?;
     let case = Case::new(&asked, screen)?;
     screen.say(case.plan.text());
-    let finished = case.search()?;
+    let finished = case.search(journal)?;
+    if let Some(path) = journal {
+        screen.say(format!("journal         {}, {} lines", path.display(), finished.tried.len()));
+    }
     let (record, against) = case.judged(finished, screen);
     save(&record, &csv, &svg, screen)?;
     let against = against?;
     Ok(if against.is_empty() { End::Good } else { End::Doubtful })
+}
+
+/// Table and chart would be written over a journal of the same name.
+fn check_journal(journal: &Path, outputs: [&Path; 2]) -> Result<(), Fault> {
+    let full = |path: &Path| std::path::absolute(path).unwrap_or(path.into());
+    if outputs.iter().any(|output| full(output) == full(journal)) {
+        let name = journal.display();
+        return Err(Fault::Usage(format!(
+            "--journal: {name} is the table's or the chart's name. Name another"
+        )));
+    }
+    Ok(())
 }
 
 /// Writes what can be written, and then says what couldn't.
@@ -135,6 +156,7 @@ fn save(record: &Record, csv: &Path, svg: &Path, screen: &mut Screen) -> Result<
 /// A search with all that it starts from.
 struct Case {
     input: String,
+    views: Views,
     host: Host,
     is_guessed: bool,
     base: FxFyCxCy,
@@ -147,7 +169,7 @@ struct Case {
 impl Case {
     fn new(asked: &Asked, screen: &mut Screen) -> Result<Self, Fault> {
         let choices = asked.choices.clone();
-        let (plate, input) = plate(asked)?;
+        let (plate, views, input) = plate(asked)?;
         let is_guessed = plate.centre.is_none();
         screen.say(format!(
             "read            {input}: {} views, {} dots",
@@ -165,18 +187,36 @@ impl Case {
         let options = choices.options();
         let seeds = seeds(&host, &choices, base, &options, screen)?;
         let plan = Plan::new(&options, &seeds);
-        Ok(Self { input, host, is_guessed, base, choices, options, seeds, plan })
+        Ok(Self { input, views, host, is_guessed, base, choices, options, seeds, plan })
     }
 
-    fn search(&self) -> Result<Finished, String> {
-        let (sources, decomposition): (Vec<_>, Vec<_>) = self.seeds.iter().copied().unzip();
+    /// Where the seeds come from, and the seeds.
+    fn sources_and_seeds(&self) -> (Vec<Source>, Vec<Seed>) {
+        self.seeds.iter().copied().unzip()
+    }
+
+    fn inputs<'a>(&'a self, decomposition: &'a [Seed]) -> Inputs<'a> {
         let (views, center) = (self.host.plate().views.len(), self.host.observed_centre());
-        let inputs = Inputs {
-            views,
-            options: &self.options,
-            decomposition: &decomposition,
-            base: self.base,
-            center,
+        Inputs { views, options: &self.options, decomposition, base: self.base, center }
+    }
+
+    /// Begins a journal, with what the search starts from beside it.
+    fn begin_journal(&self, path: &Path) -> Result<JournalWriter, String> {
+        let (sources, decomposition) = self.sources_and_seeds();
+        let inputs = self.inputs(&decomposition);
+        let mut stored = StoredInputs::new(&inputs, self.views.clone(), &now());
+        journal::add_notes(&mut stored, &self.about(), &sources, &self.choices);
+        JournalWriter::create(path, &stored).map_err(|error| error.to_string())
+    }
+
+    /// Searches; a journal is begun once it is known that the search can start.
+    fn search(&self, journal: Option<&Path>) -> Result<Finished, String> {
+        let (sources, decomposition) = self.sources_and_seeds();
+        let search = drive::start(&self.inputs(&decomposition))?;
+        let mut journal = journal.map(|path| self.begin_journal(path)).transpose()?;
+        let keep = |line: &Line| match &mut journal {
+            Some(journal) => journal.write(line).map_err(|error| error.to_string()),
+            None => Ok(()),
         };
         let mut bar = Bar::new(&self.options, std::io::stderr().is_terminal());
         let mut stopper = Stopper::new(self.choices.minutes);
@@ -187,7 +227,8 @@ impl Case {
             bar.show(one, before);
             stopper.asks().map_or(ControlFlow::Continue(()), ControlFlow::Break)
         };
-        let finished = drive::run(&inputs, &sources, |seed| self.host.solve(seed), watch)?;
+        let given = (&decomposition[..], &sources[..]);
+        let finished = drive::go_on(search, given, |seed| self.host.solve(seed), keep, watch)?;
         bar.end(finished.tried.len());
         Ok(finished)
     }
@@ -305,12 +346,15 @@ impl Case {
     }
 }
 
-fn plate(asked: &Asked) -> Result<(Plate, String), Fault> {
-    let (mut plate, input) = match &asked.views {
-        None => (BUILT_IN.plate(), built_in()),
+fn plate(asked: &Asked) -> Result<(Plate, Views, String), Fault> {
+    let (mut plate, from, input) = match &asked.views {
+        None => (BUILT_IN.plate(), Views::BuiltIn, built_in()),
         Some(path) => {
             let fault = |fault: views::ViewsError| format!("{}: {fault}", path.display());
-            (Plate::parse(&read(path)?).map_err(fault)?, path.display().to_string())
+            let (text, sha256) = read_with_checksum(path)?;
+            let name = path.display().to_string();
+            let from = Views::File { name: name.clone(), sha256 };
+            (Plate::parse(&text).map_err(fault)?, from, name)
         }
     };
     plate.centre = asked.choices.centre.or(plate.centre);
@@ -323,7 +367,7 @@ fn plate(asked: &Asked) -> Result<(Plate, String), Fault> {
         (Some(_), Some(())) => {
             Err(Fault::Usage(format!("{input}: a centre is stated, so leave --guess-centre out")))
         }
-        _ => Ok((plate, input)),
+        _ => Ok((plate, from, input)),
     }
 }
 
