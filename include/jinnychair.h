@@ -43,8 +43,8 @@ extern "C" {
 
 /* ---- version ---- */
 
-/* The version that this header is for: 65,536 times the major, 256 times the minor, and the patch number, here 0.7.0. */
-#define JC_VERSION 0x0700u
+/* The version that this header is for: 65,536 times the major, 256 times the minor, and the patch number, here 0.8.0. */
+#define JC_VERSION 0x0800u
 
 /* That of the linked archive. */
 uint32_t jc_version(void);
