@@ -170,6 +170,7 @@ stop-agrees i b l n f =
     case (ltb n (demand (b .inputs)))
     (λ s. simp (stop-is i b l n f, s) (unmoved b l (f .there) (refused 10)))
     (λ s. simp (stop-is i b l n f, s, outlook-read) (unmoved b l (f .there) (stopped (runBest b) (restOf (leftIn b) (runBest b)))))
+
 -- ---- the last answered candidate's line
 abbrev OnLast : (Entry → Type 0) → Option Entry → Type 0
 OnLast P none = Unit {0}

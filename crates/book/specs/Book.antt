@@ -244,6 +244,7 @@ restOf (s ∷ ss) best = floor (floorOf (s ∷ ss)) (noGain (floorOf (s ∷ ss))
 -- 10 the list is too short; else the run's best, if any, and what is left
 unfoldable pub bookStop : Book → ℕ → Kept
 bookStop b n = unless (firstRefusal ((10 when ltb n (demand (b .inputs))) ∷ [])) b (kept (stopped (runBest b) (restOf (leftIn b) (runBest b))) b)
+
 -- 02, E2: the last answered candidate's line, or nothing before the first answer. The round is the one that it was handed out in, the camera the one that
 -- was scored.
 abbrev pub lineOf : Entry → Line

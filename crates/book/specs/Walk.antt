@@ -50,6 +50,7 @@ chosenOf b = cond (b .found) (chosen (b .candidate)) nothing
 abbrev pub stoppedReply : Stopped → Reply
 stoppedReply (stopped-as.Standing o) = stopped (chosenOf (o .best)) (cond (o .«has_floor») (floor (o .floor) (o .«no_gain»)) nothing-left)
 stoppedReply (stopped-as.Refused n) = refused n
+
 abbrev pub lastReply : LastLine → Reply
 lastReply (lastline.Answered l) = line l
 lastReply lastline.Nothing = noLine

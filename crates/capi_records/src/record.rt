@@ -1,9 +1,9 @@
 // The run's record with its flags as bytes, and the ways there and back.
 ghost use mathlib.Core.Path.{_≡_};
 ghost use Rattle.capi_records.specs.Record.{flagOf, optionsFrom, flatOptions, placeFrom, flatPlace, waitingFrom, flatWaiting, bestFrom, flatBest, lastFrom, flatLast, runFrom, flatRun, noRun};
-use camera_models::math::Pt2;
 use crate::journal::LineRecord;
 use crate::journal::no_line;
+use camera_models::math::Pt2;
 use journal_line::ScoredFields;
 use score_best::Best;
 use score_best::Candidate;

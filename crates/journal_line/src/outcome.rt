@@ -2,9 +2,9 @@
 
 ghost use mathlib.Core.Path.{_≡_};
 ghost use Rattle.journal_line.specs.Outcome.{recordedAs, scoringIn, outcomeIn};
-use camera_models::distortion::BrownConrady5;
 use crate::Recorded;
 use crate::ScoredFields;
+use camera_models::distortion::BrownConrady5;
 use score_camera::pinhole::PinholeCamera;
 use score_outcome::Outcome;
 use score_outcome::Scoring;
