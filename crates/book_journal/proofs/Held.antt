@@ -31,6 +31,7 @@ use Rattle.score_rows.specs.Rows.{meanOf}
 use Rattle.score_outcome.specs.declared.SolvedCamera.{SolvedCamera}
 use Rattle.score_outcome.specs.declared.Finding.{Finding}
 use Rattle.score_outcome.specs.declared.Finding.the-variants.{Failed, Solved}
+use Rattle.score_outcome.specs.declared.Scoring.{Scoring}
 use Rattle.score_outcome.specs.declared.Outcome.{Outcome}
 use Rattle.score_outcome.specs.declared.Outcome.the-variants.{Skipped, Scored}
 use Rattle.score_outcome.specs.Evaluation.{solvedAt, meanWith, scoringOf, evaluated, outcomeOf, findingRefusal}

@@ -1,14 +1,18 @@
 -- The lines written along a walk are the journal of the book. Assumes nothing.
 use Prim.Native.Nat.{ℕ}
-use mathlib.Core.Path.{_≡_, refl, sym, ap, _∙_}
-use mathlib.Core.Bool.{true}
+use native.Mathlib.Omega.{arith}
+use mathlib.Core.Path.{_≡_, sym, ap, subst, _∙_}
+use mathlib.Core.Bool.{true, false}
 use mathlib.Core.List.{List, [], _∷_, _++_, append-assoc, append-nil}
 use mathlib.Core.Option.{some}
+use borrow.Author.Tests.{le-ltb}
+use lib.Dec.{ltb}
 use lib.ListN.{length, take, drop, length-replicate}
 use lib.Seq.{take-append-seam}
 use lib.Ieee.{Float}
 use Rattle.score_outcome.specs.declared.Outcome.{Outcome}
 use Rattle.journal_line.specs.declared.Line.{Line}
+use Rattle.journal_line.specs.declared.Written.the-variants as written
 use Rattle.journal_line.specs.Line.{lineBytes, Writable, journalBytes}
 use Rattle.journal_line.specs.Writing.{refusesLine, writeReply, writeInto}
 use Rattle.journal_line.specs.Fronts.{journal-append}
@@ -33,9 +37,21 @@ unfolding journalBytes
 one-line m = append-nil (lineBytes m)
 
 -- ---- the writer takes a line that can be written, and puts its bytes in front
-writes : (m : Line) → Writable m → front m (writeReply m buffer) ≡ lineBytes m
-unfolding writeReply writeInto refusesLine
-writes m w = rw (w, length-replicate {A = ℕ} 256 0) (take-append-seam (lineBytes m) (drop (length (lineBytes m)) buffer))
+module _ (m : Line) (w : Writable m) where
+  not-refused : refusesLine m buffer ≡ false
+  unfolding refusesLine
+  not-refused = let n : ltb (length buffer) 256 ≡ false = le-ltb (length buffer) 256 (omega (arith, length-replicate {A = ℕ} 256 0)) in rw (n, w)
+
+  replies-length : writeReply m buffer ≡ written.Length (length (lineBytes m))
+  unfolding writeReply
+  replies-length = rw not-refused
+
+  writes-front : writeInto m buffer ≡ lineBytes m ++ drop (length (lineBytes m)) buffer
+  unfolding writeInto
+  writes-front = rw not-refused
+
+  writes : front m (writeReply m buffer) ≡ lineBytes m
+  writes = ap (front m) replies-length ∙ ap (take (length (lineBytes m))) writes-front ∙ take-append-seam (lineBytes m) (drop (length (lineBytes m)) buffer)
 
 -- ---- an answer's line is written, and no other call's
 module _ (i : Inputs) (b : Book) (l : List Float) (o : Outcome) (t : State i b l) (w : b .waits ≡ true) (g : Good i (bookEnter b o)) where
@@ -43,7 +59,7 @@ module _ (i : Inputs) (b : Book) (l : List Float) (o : Outcome) (t : State i b l
   last-entry = ap lastOf (enter-holds b o .0) ∙ last-snoc (entries b) (entry b o)
 
   stands : Stands (b .inputs) (current b .sensor) o
-  stands = last-proper i (bookEnter b o) (entry b o) g last-entry .stands
+  stands = subst (λ (j : Inputs). Stands j (current b .sensor) o) (g .inputs-are ∙ sym (t .good .inputs-are)) (last-proper i (bookEnter b o) (entry b o) g last-entry .stands)
 
   answer-bytes : bytesOf (lastDef (runOf (bookEnter b o))) ≡ lineBytes (lineOf (entry b o))
   answer-bytes = ap bytesOf (last-line-is i (bookEnter b o) (entry b o) g last-entry) ∙ writes (lineOf (entry b o)) (entry-taken i b o (t .good) (waits-going i b (t .good) w) stands)
@@ -74,5 +90,5 @@ along i b l (c ∷ cs) t =
     ∙ ih)
 
 pub written-is-journal : (i : Inputs) (l : List Float) (r : Run) (cs : List Call) → WrittenIsJournal i l r cs
-unfolding opened
+unfolding opened journalBytes
 written-is-journal i l r cs h = let o = opens i l r h in rw (o .run-is) (along i (opened i) (startedList i l) cs (o .state))
