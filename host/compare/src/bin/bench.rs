@@ -321,8 +321,13 @@ fn lines(random: &mut Random) -> Vec<Line> {
     let cameras: Vec<[FxFyCxCy; 2]> = (0..656).map(|_| [camera(), camera()]).collect();
     let line = |(number, [reference_k, k]): (usize, [FxFyCxCy; 2])| {
         let sensor = ScheimpflugParams { tilt_x: random.within(0.25), tilt_y: random.within(0.25) };
-        let fields =
-            ScoredFields { score: random.unit(), mean: random.unit(), k, p1: random.within(0.05), p2: 0.0 };
+        let fields = ScoredFields {
+            score: random.unit(),
+            mean: random.unit(),
+            k,
+            p1: random.within(0.05),
+            p2: 0.0,
+        };
         let outcome = match number % 9 {
             8 => Recorded::Skipped(SkipReason::ALL[number % 4]),
             _ => Recorded::Scored(fields),
@@ -346,7 +351,11 @@ fn journals(random: &mut Random) {
     let times = medians(
         lines.len(),
         || lines.iter().for_each(|line| keep(journal::write_line(black_box(line), &mut buffer))),
-        || lines.iter().for_each(|line| keep(plain_journal::write_line(black_box(line), &mut other))),
+        || {
+            lines
+                .iter()
+                .for_each(|line| keep(plain_journal::write_line(black_box(line), &mut other)))
+        },
     );
     report("writing a line of a journal of 656 (plain Rust)", times, None);
     let library = || {
@@ -440,8 +449,7 @@ fn whole_run(name: &str, rows: &[Row]) {
     let shared = Rc::new(dataset_of_rows(rows));
     let rust = || {
         let shared = shared.clone();
-        let host =
-            move |_: &SeedNumbers| Finding::Shared { camera: CAMERA, rows: shared.clone() };
+        let host = move |_: &SeedNumbers| Finding::Shared { camera: CAMERA, rows: shared.clone() };
         black_box(run(&inputs, host)).expect("a winner");
     };
     report(name, medians(1, library, rust), None);
