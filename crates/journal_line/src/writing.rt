@@ -13,32 +13,12 @@ use crate::ScoredFields;
 use crate::Written;
 use seed_rules::CandidateSeed;
 
-// 0 to 9, then a to f.
-const DIGITS: [u8; 16] = [
-    48,
-    49,
-    50,
-    51,
-    52,
-    53,
-    54,
-    55,
-    56,
-    57,
-    97,
-    98,
-    99,
-    100,
-    101,
-    102,
-];
-
-// The byte of a digit.
+// The byte of a digit, without a branch.
 fn digit_byte(d: u64) -> u8
     requires { ⌜ d < 16 ⌝ }
     ensures { λ r. ⌜ r ≡ digitByte d ⌝ }
 {
-    DIGITS[d as usize]
+    (48 + d + 39 * ((d + 6) / 16)) as u8
 }
 
 // The last w digits of n to a base, from the highest down: stored from the lowest up.
