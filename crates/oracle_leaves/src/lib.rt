@@ -1,6 +1,4 @@
 // The operations that begin no search, from a case's input to the crates that answer them.
-mod damage;
-pub mod journal;
 pub mod leaves;
 pub mod listed_seeds;
 pub mod lists;
