@@ -21,12 +21,22 @@ struct Damage {
     before: usize,
 }
 
+// The byte at a place, 0 behind the end.
+fn byte_of(bytes: &[u8], i: usize) -> u8 {
+    if i < bytes.len() {
+        return bytes[i];
+    }
+    0
+}
+
 // Stores a byte, where there is room.
 fn put(to: &mut [u8], at: usize, byte: u8) -> usize {
+    let next = plus(at, 1);
     if at < to.len() {
         to[at] = byte;
+        return next;
     }
-    plus(at, 1)
+    next
 }
 
 // Stores bytes, as far as there is room, and gives the place behind them.
@@ -42,7 +52,8 @@ fn append(to: &mut [u8], at: usize, bytes: &[u8]) -> usize {
 
 // Stores what stands in a byte's place.
 fn put_damaged(to: &mut [u8], at: usize, damage: Damage, byte: u8) -> usize {
-    match damage.how {
+    let how = damage.how;
+    match how {
         0 => put(to, at, damage.byte),
         1 => at,
         2 => {
@@ -58,10 +69,8 @@ fn put_damaged(to: &mut [u8], at: usize, damage: Damage, byte: u8) -> usize {
 
 // Stores the line with the byte at a place damaged.
 fn append_damaged(to: &mut [u8], at: usize, line: &[u8], place: usize, damage: Damage) -> usize {
-    let mut next = append(to, at, front(line, place));
-    if place < line.len() {
-        next = put_damaged(to, next, damage, line[place]);
-    }
+    let damaged = append(to, at, front(line, place));
+    let next = put_damaged(to, damaged, damage, byte_of(line, place));
     append(to, next, tail(line, plus(place, 1)))
 }
 

@@ -106,12 +106,17 @@ pub fn met_writing(x: &[f64], at: usize, written: Written, buffer: &[u8]) -> usi
     }
 }
 
+// The line in a buffer of this length.
+fn met_in(x: &[f64], n: usize, buffer: &mut [u8]) -> usize {
+    let written = write_line(line_of(x), buffer);
+    met_writing(x, n, written, buffer)
+}
+
 // line, n(buffer) = 0, n(length), bytes; or 28
 fn met_written(x: &[f64], n: usize) -> usize {
     let mut buffer = [FRESH; 512];
     let len = at_most(whole_at(x, 17), 512);
-    let written = write_line(line_of(x), &mut buffer[0..len]);
-    met_writing(x, n, written, &buffer)
+    met_in(x, n, &mut buffer[0..len])
 }
 
 fn met_recorded(x: &[f64], at: usize, recorded: Recorded) -> usize {
@@ -151,9 +156,8 @@ fn fill(x: &[f64], from: usize, bytes: &mut [u8]) {
 // n(place), n(bytes), bytes = 0, line, n(next place); or 1 for the end; or 29, n(line's number)
 fn met_read(x: &[f64], n: usize) -> usize {
     let mut bytes = [0u8; 2048];
-    let len = at_most(whole_at(x, 1), 2048);
-    fill(x, 2, &mut bytes[0..len]);
-    match read_at(&bytes[0..len], whole_at(x, 0)) {
+    fill(x, 2, &mut bytes);
+    match read_at(front(&bytes, whole_at(x, 1)), whole_at(x, 0)) {
         Read::Got(line, next) => met_whole(x, met_line(x, met_whole(x, n, 0), line), next as u64),
         Read::End => met_whole(x, n, 1),
         Read::Refused(number, line) => { met_whole(x, met_whole(x, n, wide(number)), line as u64) }
