@@ -1,6 +1,7 @@
 // The operations that a stored file can name: the number of each is its line in the list of names, in names.rt. Those up to
 // `MEAN_REPROJ_ERROR` answer a number, those from there up to `UNDISTORT` a point. Those from `UNTILT_POINTS` on write lists, those from
-// `UNTILT_POINTS_INTO` up to `DESIGN_ROWS_INTO` to a destination which the case lends, and those from `SEED_LISTS` up to `CALLS_ONE_AXIS` begin a search.
+// `UNTILT_POINTS_INTO` up to `DESIGN_ROWS_INTO` to a destination which the case lends, and those from `SEED_LISTS` up to `CALLS_ONE_AXIS` begin a search;
+// those from `WRITE_LINE` on are the journal's.
 pub const SQRT: usize = 0;
 
 pub const SQRT_FROM: usize = 1;
@@ -71,5 +72,11 @@ pub const CALLS_ONE_AXIS: usize = 33;
 
 pub const KNOWN_PLATE: usize = 34;
 
+pub const WRITE_LINE: usize = 35;
+
+pub const READ_LINE: usize = 36;
+
+pub const DAMAGED_LINE: usize = 37;
+
 // No crate answers it.
-pub const UNKNOWN: usize = 35;
+pub const UNKNOWN: usize = 38;

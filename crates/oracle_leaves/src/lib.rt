@@ -1,4 +1,6 @@
 // The operations that begin no search, from a case's input to the crates that answer them.
+mod damage;
+pub mod journal;
 pub mod leaves;
 pub mod listed_seeds;
 pub mod lists;
