@@ -3,5 +3,6 @@
 //! book are given.
 
 pub mod blocks;
+pub mod journal;
 pub mod library;
 pub mod plain;

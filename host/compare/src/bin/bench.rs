@@ -1,13 +1,15 @@
 //! Times the library beside the published Rust (the oracle's build of it) and, for scoring, beside plain C (`plain.c`): same inputs,
 //! same process, release builds. Prints a table of medians of many short turns, which the sides take in turn. No buffer is cleared
 //! between two turns; all sides run on warm memory, and none copies rows. Linux only, for its clock of a thread's time.
-//! An argument asks for one part: roots, sines, distortions, scorings, lists or runs.
+//! An argument asks for one part: roots, sines, distortions, scorings, lists, journal or runs.
 
+use compare::journal as plain_journal;
 use compare::plain::plain_c;
+use jinnychair::journal::{self, Line, Recorded, ScoredFields};
 use jinnychair::record::{self, answer, next, seed, start};
 use jinnychair::{
     BrownConrady5, Finding as LibraryFinding, FxFyCxCy, Handed, PinholeCamera, Pt2, Rows,
-    ScheimpflugParams, TiltTrig, geometry,
+    ScheimpflugParams, Seed, SkipReason, TiltTrig, geometry,
 };
 use oracle::operations::search::{Inputs, run};
 use random::Random;
@@ -138,6 +140,9 @@ fn main() {
     if goes("lists") {
         first_list("building a round-0 list of 512 seeds", &most_seeds(), 512);
         first_list("the same of 256 seeds near their predecessors", &close_seeds(), 65);
+    }
+    if goes("journal") {
+        journals(&mut random);
     }
     if goes("runs") {
         whole_run("a whole run of 656 answers with 900 rows", &rows);
@@ -379,9 +384,73 @@ fn whole_run(name: &str, rows: &[Row]) {
     let shared = Rc::new(dataset_of_rows(rows));
     let rust = || {
         let shared = shared.clone();
-        let host =
-            move |_: &SeedNumbers| Finding::Shared { camera: CAMERA, rows: shared.clone() };
+        let host = move |_: &SeedNumbers| Finding::Shared { camera: CAMERA, rows: shared.clone() };
         black_box(run(&inputs, host)).expect("a winner");
     };
     report(name, medians(1, library, rust), None);
+}
+
+/// A journal of 656 lines, one in nine of a skipped candidate.
+fn lines(random: &mut Random) -> Vec<Line> {
+    let mut camera = || {
+        let [fx, fy] = [800.0 + random.within(9.0), 790.0 + random.within(9.0)];
+        FxFyCxCy { fx, fy, cx: 320.0 + random.within(3.0), cy: 240.0 + random.within(3.0) }
+    };
+    let cameras: Vec<[FxFyCxCy; 2]> = (0..656).map(|_| [camera(), camera()]).collect();
+    let line = |(number, [reference_k, k]): (usize, [FxFyCxCy; 2])| {
+        let sensor = ScheimpflugParams { tilt_x: random.within(0.25), tilt_y: random.within(0.25) };
+        let fields = ScoredFields {
+            score: random.unit(),
+            mean_reproj_error: random.unit(),
+            k,
+            p1: random.within(0.05),
+            p2: 0.0,
+        };
+        let outcome = match number % 9 {
+            8 => Recorded::Skipped(SkipReason::ALL[number % 4]),
+            _ => Recorded::Scored(fields),
+        };
+        Line { number, round: number / 40, seed: Seed { reference_k, sensor }, outcome }
+    };
+    cameras.into_iter().enumerate().map(line).collect()
+}
+
+/// Writes and reads a journal; plain Rust stands in the column of the Rust.
+fn journals(random: &mut Random) {
+    let lines = lines(random);
+    let mut text = vec![];
+    let (mut buffer, mut other) = ([0; plain_journal::LINE_LEN], [0; plain_journal::LINE_LEN]);
+    for line in &lines {
+        let n = journal::write_line(line, &mut buffer).expect("the journal has such a line");
+        assert_eq!(plain_journal::write_line(line, &mut other), Some(n));
+        assert_eq!(buffer[..n], other[..n]);
+        text.extend_from_slice(&buffer[..n]);
+    }
+    let times = medians(
+        lines.len(),
+        || lines.iter().for_each(|line| keep(journal::write_line(black_box(line), &mut buffer))),
+        || {
+            lines
+                .iter()
+                .for_each(|line| keep(plain_journal::write_line(black_box(line), &mut other)))
+        },
+    );
+    report("writing a line of a journal of 656 (plain Rust)", times, None);
+    let library = || {
+        let mut at = 0;
+        while let Ok(Some((line, next))) = journal::read_line(black_box(&text), at) {
+            keep(line);
+            at = next;
+        }
+        assert_eq!(at, text.len());
+    };
+    let plain = || {
+        let mut at = 0;
+        while let Some((line, length)) = plain_journal::read_line(black_box(&text[at..])) {
+            keep(line);
+            at += length;
+        }
+        assert_eq!(at, text.len());
+    };
+    report("reading one (plain Rust)", medians(lines.len(), library, plain), None);
 }
