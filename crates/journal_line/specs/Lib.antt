@@ -1,3 +1,5 @@
+pub mod CountLaws
+pub mod Counts
 pub mod DigitLaws
 pub mod Examples
 pub mod FieldLaws

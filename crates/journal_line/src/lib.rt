@@ -29,6 +29,16 @@ pub struct Line {
     pub outcome: Recorded,
 }
 
+// How many candidates were scored, and how many skipped for each reason, 1 to 4.
+#[repr(C)]
+pub struct Counts {
+    pub scored: usize,
+    pub host_failed: usize,
+    pub bad_camera: usize,
+    pub no_mean: usize,
+    pub no_number: usize,
+}
+
 // What the writer gives: how many bytes the line has, or number 28.
 pub enum Written {
     Length(usize),
