@@ -16,7 +16,7 @@ use Rattle.book_journal.specs.Replay.{walked, winner, replayOf}
 use Rattle.book_journal.specs.History.{openedBy, History, bookAt, listAt, InputsFit, CallFits}
 use Rattle.book_journal.specs.ReplayLaw.{StartNumber, LinesOfRun, RunAgain, BufferOf, Accepted, SameAsReader, Declines, StartRefuses, FrontAlone}
 use Rattle.book_journal.specs.Resume.{Report, resumed, resumeOf, ResumeRefuses, ResumeAccepts, GivesBack, CutAt, cutRun, uncut, GoesOn, GoesOnSomewhere, EntersOn, JournalGrows}
-use Rattle.book_journal.specs.Counts.{CountsAgree, InJournal}
+use Rattle.book_journal.specs.Counts.{CountsAgree, InJournal, KeptCounts}
 use Rattle.book_journal.specs.Stretches.{Groups, StretchesRight, LineStretchesRight}
 use Rattle.book_journal.specs.Live.{LiveBuffer, Continues}
 use Rattle.book_journal.specs.Written.{WrittenIsJournal}
@@ -59,6 +59,7 @@ pub record JournalsRight : Type 0 where
   -- ---- E6
   pub counts-agree : (i : Inputs) (h : History i) → CountsAgree i h
   pub in-journal : (i : Inputs) (h : History i) → Fitting i h → InJournal h
+  pub kept-counts : (i : Inputs) (l : List Float) (r : Run) (cs : List Call) → InputsFit i → All CallFits cs → KeptCounts i l r cs
   -- ---- E14
   pub groups : Groups
   pub stretches-right : (b : Book) → StretchesRight b
