@@ -17,9 +17,10 @@ use Rattle.score_outcome.specs.declared.Finding.{Finding}
 use Rattle.score_outcome.specs.declared.Outcome.{Outcome}
 use Rattle.score_outcome.specs.Evaluation.{outcomeOf, findingRefusal}
 use Rattle.score_best.specs.declared.Candidate.{Candidate}
-use Rattle.journal_line.specs.Counts.{kindOf, total}
+use Rattle.journal_line.specs.Counts.{kindOf}
 use Rattle.journal_line.specs.CountLaws.{total-with}
 use Rattle.journal_line.specs.Outcome.{recordedAs}
+use Rattle.journal_line.specs.Report.{total}
 use Rattle.search_record.specs.declared.run.Options.{Options}
 use Rattle.search_record.specs.declared.run.Place.{Place}
 use Rattle.search_record.specs.declared.run.Run.{Run}

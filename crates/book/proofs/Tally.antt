@@ -13,9 +13,10 @@ use Rattle.score_outcome.specs.declared.Outcome.{Outcome}
 use Rattle.score_outcome.specs.declared.Outcome.the-variants.{Skipped, Scored}
 use Rattle.score_outcome.specs.Evaluation.{outcomeOf}
 use Rattle.score_outcome.specs.Facts.{skipped-reason}
-use Rattle.journal_line.specs.Counts.{kindOf, countIn, countsIn, total, withCount}
+use Rattle.journal_line.specs.Counts.{kindOf, countIn, countsIn, withCount}
 use Rattle.journal_line.specs.CountLaws.{counts-snoc, five-kinds}
 use Rattle.journal_line.specs.Outcome.{recordedAs}
+use Rattle.journal_line.specs.Report.{total}
 use Rattle.book.specs.Book.{Inputs, Entry, lineOf, tally}
 use Rattle.book.proofs.Cases.{case-outcome}
 use Rattle.book.proofs.Moves.{Stands}
@@ -38,7 +39,7 @@ unfolding tally
 tally-snoc es e = ap countsIn (map-append lineOf es (e ∷ [])) ∙ counts-snoc (map lineOf es) (lineOf e)
 
 pub tally-total : (i : Inputs) (es : List Entry) → All (Proper i) es → total (tally es) ≡ length es
-unfolding tally countIn
+unfolding tally countIn total
 tally-total i [] p = refl
 tally-total i (e ∷ es) p =
     let x = five-kinds (kindOf (recordedAs (e .outcome))) (kind-most i (e .seed .sensor) (e .outcome) (p .0 .stands)) in

@@ -12,10 +12,11 @@ use Rattle.common.specs.Each.{All}
 use Rattle.score_outcome.specs.declared.Outcome.{Outcome}
 use Rattle.score_outcome.specs.declared.Outcome.the-variants.{Skipped, Scored}
 use Rattle.score_outcome.specs.Evaluation.{findingRefusal, outcomeOf}
-use Rattle.journal_line.specs.Counts.{kindOf, one, countIn, countsIn, total}
+use Rattle.journal_line.specs.Counts.{kindOf, one, countIn, countsIn}
 use Rattle.journal_line.specs.CountLaws.{count-snoc}
 use Rattle.journal_line.specs.Reading.{Lines}
 use Rattle.journal_line.specs.Outcome.{recordedAs}
+use Rattle.journal_line.specs.Report.{total}
 use Rattle.book.specs.Calls.{Call, next, seed, answer, ask, Reply, candidate, over, refused, progress, stop, last, counts, counted}
 use Rattle.book.specs.Book.{Inputs, demand, Book, entries, number, current, runBest, opened, withWaiting, bookEnter, Kept as Answer, bookNext, bookSeed, bookAnswer, bookResult, bookProgress, bookStop, bookLast, lastOf, tally, bookCounts, bookCall, replyTo, replies, after, lineOf}
 use Rattle.book.proofs.Cases.{case-chosen, case-option}

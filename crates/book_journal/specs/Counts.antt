@@ -5,8 +5,9 @@ use mathlib.Core.Path.{_≡_}
 use mathlib.Core.Bool.{cond}
 use mathlib.Core.List.{List, [], _∷_}
 use lib.Ieee.{Float}
-use Rattle.journal_line.specs.Counts.{one, countIn, countsIn, total}
+use Rattle.journal_line.specs.Counts.{one, countIn, countsIn}
 use Rattle.journal_line.specs.Reading.{readJournal}
+use Rattle.journal_line.specs.Report.{total}
 use Rattle.search_record.specs.declared.run.Run.{Run}
 use Rattle.search_start.specs.declared.Started.the-variants.{Accepted}
 use Rattle.search_calls.specs.Counts.{countsDef}

@@ -6,7 +6,8 @@ use mathlib.Core.List.{List, [], _∷_, _++_}
 use Rattle.journal_line.specs.declared.Counts.{Counts}
 use Rattle.journal_line.specs.declared.Line.{Line}
 use Rattle.journal_line.specs.declared.Recorded.{Recorded}
-use Rattle.journal_line.specs.Counts.{kindOf, one, countIn, countsIn, total, withCount}
+use Rattle.journal_line.specs.Counts.{kindOf, one, countIn, countsIn, withCount}
+use Rattle.journal_line.specs.Report.{total}
 
 pub count-append : (k : ℕ) (ls ms : List Line) → countIn k (ls ++ ms) ≡ countIn k ls + countIn k ms
 unfolding countIn
@@ -30,4 +31,5 @@ five-kinds (suc (suc (suc (suc zero)))) h = refl
 five-kinds (suc (suc (suc (suc (suc k))))) h = absurd (omega arith)
 
 pub total-with : (c : Counts) (o : Recorded) → kindOf o ≤ 4 → total (withCount c o) ≡ total c + 1
+unfolding total
 total-with c o h = omega (arith, five-kinds (kindOf o) h)

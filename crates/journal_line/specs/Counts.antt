@@ -26,10 +26,6 @@ countIn k (l ∷ ls) = one k (kindOf (l .outcome)) + countIn k ls
 abbrev pub countsIn : List Line → Counts
 countsIn ls = record { scored = countIn 0 ls; «host_failed» = countIn 1 ls; «bad_camera» = countIn 2 ls; «no_mean» = countIn 3 ls; «no_number» = countIn 4 ls }
 
--- their sum
-abbrev pub total : Counts → ℕ
-total c = c .scored + c .«host_failed» + c .«bad_camera» + c .«no_mean» + c .«no_number»
-
 abbrev pub noCounts : Counts
 noCounts = record { scored = 0; «host_failed» = 0; «bad_camera» = 0; «no_mean» = 0; «no_number» = 0 }
 

@@ -1,6 +1,7 @@
-// The journal: one line for each answered candidate, written to a lent buffer and read back.
+// The journal: one line for each answered candidate, written to a lent buffer and read back. The report: one line of counts.
 pub mod outcome;
 pub mod reading;
+pub mod report;
 pub mod writing;
 
 use camera_models::intrinsics::FxFyCxCy;
@@ -39,7 +40,7 @@ pub struct Counts {
     pub no_number: usize,
 }
 
-// What the writer gives: how many bytes the line has, or number 28.
+// What a writer gives: how many bytes the line has, or number 28.
 pub enum Written {
     Length(usize),
     Refused(u8),

@@ -3,40 +3,17 @@ use Prim.Native.Nat.{ℕ, _+_, _*_, _≤_, _<_}
 use mathlib.Core.Path.{_≡_, refl, sym, _∙_}
 use mathlib.Core.Bool.{Bool, true, false, _&&_, true≢false}
 use native.Mathlib.Omega.{arith}
-use borrow.Author.Tests.{leb-true, ltb-true, eqb-true, le-leb, eq-eqb}
-use lib.Dec.{leb, eqb}
+use borrow.Author.Tests.{leb-true, ltb-true, ltb-false, eqb-true, le-leb, eq-eqb, ne-eqb}
+use lib.Dec.{leb, ltb, eqb}
 use Rattle.common.specs.Tests.{case, both-true}
 use Rattle.journal_line.specs.declared.Counts.{Counts}
-use Rattle.journal_line.specs.Counts.{total}
+use Rattle.journal_line.specs.Report.{total}
 use Rattle.search_record.specs.Record.{sound, hasPlace, addUp}
 use Rattle.search_record.specs.declared.run.Run.{Run}
 use Rattle.search_record.specs.declared.run.Place.{Place}
 use Rattle.search_record.specs.declared.run.Waiting.{Waiting}
 
--- ---- the five counts add up to a number of at most 656: then none of them is above it, and their sum can be taken
-abbrev few : Counts → ℕ → Bool
-few c n = leb n 656 && leb (c .scored) 656 && leb (c .«host_failed») 656 && leb (c .«bad_camera») 656 && leb (c .«no_mean») 656 && leb (c .«no_number») 656
-
-abbrev pub EachFew : Counts → Type 0
-EachFew c = (c .scored ≤ 656) × (c .«host_failed» ≤ 656) × (c .«bad_camera» ≤ 656) × (c .«no_mean» ≤ 656) × (c .«no_number» ≤ 656)
-
-pub few-each : (c : Counts) (n : ℕ) → few c n ≡ true → (n ≤ 656) × EachFew c
-few-each c n h =
-    let a = leb n 656 && leb (c .scored) 656 in
-    let b = a && leb (c .«host_failed») 656 in
-    let d = b && leb (c .«bad_camera») 656 in
-    let e = d && leb (c .«no_mean») 656 in
-    let h1 = both-true e (leb (c .«no_number») 656) h in
-    let h2 = both-true d (leb (c .«no_mean») 656) (h1 .0) in
-    let h3 = both-true b (leb (c .«bad_camera») 656) (h2 .0) in
-    let h4 = both-true a (leb (c .«host_failed») 656) (h3 .0) in
-    let h5 = both-true (leb n 656) (leb (c .scored) 656) (h4 .0) in
-    (leb-true _ _ (h5 .0), (leb-true _ _ (h5 .1), leb-true _ _ (h4 .1), leb-true _ _ (h3 .1), leb-true _ _ (h2 .1), leb-true _ _ (h1 .1)))
-
-pub add-up-few : (c : Counts) (n : ℕ) → few c n ≡ true → addUp c n ≡ eqb (total c) n
-unfolding addUp
-add-up-few c n h = simp (le-leb n 656 (few-each c n h .0))
-
+-- ---- the five counts add up to a number of at most 656
 adds-up : (c : Counts) (n : ℕ) → addUp c n ≡ true → (n ≤ 656) × (total c ≡ n)
 unfolding addUp
 adds-up c n h = let k = both-true (leb n 656) (eqb (total c) n) h in (leb-true _ _ (k .0), eqb-true _ _ (k .1))
@@ -45,20 +22,16 @@ pub add-up-true : (c : Counts) (n : ℕ) → n ≤ 656 → total c ≡ n → add
 unfolding addUp
 add-up-true c n h e = simp (le-leb n 656 h, eq-eqb (total c) n e)
 
-pub not-few : (c : Counts) (n : ℕ) → few c n ≡ false → addUp c n ≡ false
-not-few c n h = case (addUp c n) (λ t. absurd (true≢false (sym (each t) ∙ h))) (λ f. f)
-  where
-    each : addUp c n ≡ true → few c n ≡ true
-    each t =
-        let k = adds-up c n t in
-        simp (
-          le-leb n 656 (k .0),
-          le-leb (c .scored) 656 (omega arith),
-          le-leb (c .«host_failed») 656 (omega arith),
-          le-leb (c .«bad_camera») 656 (omega arith),
-          le-leb (c .«no_mean») 656 (omega arith),
-          le-leb (c .«no_number») 656 (omega arith),
-        )
+-- a sum that is theirs where either is at most 656
+pub add-up-by : (c : Counts) (n sum : ℕ) → ltb 656 sum ≡ ltb 656 (total c) → (sum ≤ 656 → sum ≡ total c) → (leb n 656 && eqb sum n) ≡ addUp c n
+unfolding addUp
+add-up-by c n sum e f =
+    case (ltb 656 sum)
+    (λ t.
+    let p = ltb-true 656 sum t in
+    let q = ltb-true 656 (total c) (sym e ∙ t) in
+    case (leb n 656) (λ u. let k = leb-true n 656 u in simp (u, ne-eqb sum n (λ z. omega arith), ne-eqb (total c) n (λ z. omega arith))) (λ u. simp u))
+    (λ t. rw (f (ltb-false 656 sum t)))
 
 -- ---- what a sound record's numbers are
 pub record Bounds (r : Run) : Type 0 where

@@ -15,7 +15,8 @@ use Rattle.journal_line.specs.declared.ScoredFields.{ScoredFields}
 use Rattle.journal_line.specs.declared.Recorded.{Recorded}
 use Rattle.journal_line.specs.declared.Recorded.the-variants as recorded
 use Rattle.journal_line.specs.declared.Counts.{Counts}
-use Rattle.journal_line.specs.Counts.{total, withCount}
+use Rattle.journal_line.specs.Counts.{withCount}
+use Rattle.journal_line.specs.Report.{total}
 use Rattle.journal_line.specs.Outcome.{recordedAs}
 use Rattle.search_record.specs.declared.run.LastAnswer.{LastAnswer}
 use Rattle.search_record.specs.declared.run.Place.{Place}

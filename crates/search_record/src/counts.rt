@@ -2,11 +2,12 @@
 
 ghost use mathlib.Core.Path.{_≡_};
 ghost use Prim.Native.Nat.{_+_, _≤_};
-ghost use Rattle.journal_line.specs.Counts.{kindOf, one, total, noCounts, withCount};
+ghost use Rattle.journal_line.specs.Counts.{kindOf, one, noCounts, withCount};
+ghost use Rattle.journal_line.specs.Report.{total};
 ghost use Rattle.search_record.specs.Record.{addUp};
-ghost use Rattle.search_record.specs.Laws.{EachFew};
 use journal_line::Counts;
 use journal_line::Recorded;
+use journal_line::report::total_if_small;
 
 // Nothing is counted.
 pub fn no_counts() -> Counts
@@ -57,25 +58,9 @@ pub fn with_count(counts: Counts, recorded: Recorded) -> Counts
     }
 }
 
-fn total_of(counts: Counts) -> usize
-    requires { ⌜ EachFew counts ⌝ }
-    ensures { λ r. ⌜ r ≡ total counts ⌝ }
-{
-    counts.scored + counts.host_failed + counts.bad_camera + counts.no_mean + counts.no_number
-}
-
-// Whether the counts add up to the number of answers, of which a run has at most 656. Each is held to that first, so that no sum can wrap.
+// Whether the counts add up to the number of answers, of which a run has at most 656.
 pub fn add_up(counts: Counts, number: usize) -> bool
     ensures { λ r. ⌜ r ≡ addUp counts number ⌝ }
 {
-    let few = (number <= 656)
-        & (counts.scored <= 656)
-        & (counts.host_failed <= 656)
-        & (counts.bad_camera <= 656)
-        & (counts.no_mean <= 656)
-        & (counts.no_number <= 656);
-    if !few {
-        return false;
-    }
-    total_of(counts) == number
+    (number <= 656) & (total_if_small(counts) == number)
 }

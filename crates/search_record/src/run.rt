@@ -2,7 +2,7 @@
 
 ghost use mathlib.Core.Path.{_≡_};
 ghost use Prim.Native.Nat.{_<_, _≤_};
-ghost use Rattle.journal_line.specs.Counts.{total};
+ghost use Rattle.journal_line.specs.Report.{total};
 ghost use Rattle.search_record.specs.Record.{sound, hasPlace, noSeed, noFields, noAnswer, lastAnswer, nextStep};
 use crate::counts::add_up;
 use crate::counts::with_count;

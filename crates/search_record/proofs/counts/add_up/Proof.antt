@@ -1,18 +1,14 @@
--- `search_record::counts::add_up` meets its contract: counts that add up to at most 656 are at most 656 each. Assumes nothing.
-use mathlib.Core.Path.{sym}
-use borrow.Author.Tests.{not-true, not-false}
-use Rattle.search_record.specs.Laws.{few-each, not-few, add-up-few}
+-- `search_record::counts::add_up` meets its contract: the sum that it compares is the total, or both are above 656. Assumes nothing.
+use borrow.Author.Needs.{needs}
+use Rattle.search_record.specs.Laws.{add-up-by}
 use Rattle.search_record.proofs.counts.add_up.Statement.{statement}
 use Rattle.search_record.proofs.counts.add_up.Tie as tie
 
+total-if-small-requires : tie.Need-total-if-small-requires
+total-if-small-requires c κs = search needs
+
 returns : tie.Need-returns
-returns c = sym (not-few _ _ (not-true _ (c .if1 .taken)))
-
-total-of-requires : tie.Need-total-of-requires
-total-of-requires c κs = few-each _ (c .before .before .before .before .before .before .args .number) (not-false _ (c .if1 .left)) .1
-
-returns-2 : tie.Need-returns-2
-returns-2 c = rw (c .total-of .ensures) (sym (add-up-few _ _ (not-false _ (c .before .if1 .left))))
+returns c = add-up-by _ _ _ (c .total-if-small .ensures .0) (c .total-if-small .ensures .1)
 
 pub add-up-spec : {M : Type 1} → statement M
-add-up-spec = tie.close (tie.spec returns total-of-requires returns-2)
+add-up-spec = tie.close (tie.spec total-if-small-requires returns)
