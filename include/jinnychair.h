@@ -472,6 +472,9 @@ jc_last_line_record jc_last_line(jc_run_record run);
  * others the 16 hexadecimal digits of their bits, with 7ff8000000000000 for every NaN; behind a skip's letter each field is a minus sign. 28
  * where `to` has less than JC_LINE_LEN bytes, the number is above 655, the round above 16, skipped above 4, or the score of a scored line NaN. */
 jc_write_flat jc_write_line(jc_line line, uint8_t *to, size_t to_len);
+/* Writes a report to the front of `to`: 12 to 24 bytes, six decimal numbers with commas between them and a newline at the end: scored, the
+ * skipped for reasons 1 to 4, and the total. 28 where `to` has less than JC_REPORT_LEN bytes or the total is above JC_MOST_ANSWERS. */
+jc_write_flat jc_write_report(jc_count_record counts, uint8_t *to, size_t to_len);
 /* Reads the line at a place of a journal; at its end, and behind it, end is 1. 29 where the bytes there aren't, byte for byte, a line that
  * jc_write_line writes. */
 jc_read_flat jc_read_line(const uint8_t *bytes, size_t bytes_len, size_t at);

@@ -39,7 +39,7 @@ use Rattle.search_calls.specs.Progress.{progressDef}
 use Rattle.search_calls.specs.declared.stop.Stopped.the-variants.{Standing, Refused}
 use Rattle.score_floor.specs.Floor.{seedsBetween}
 use Rattle.search_calls.specs.Stop.{leftSeeds, bestSoFar, outlookOf, stopDef}
-use Rattle.book.specs.Calls.{Call, next, seed, answer, ask, progress, stop, Reply, over, part, result, bar, stopped, refused, last, line, counts, counted}
+use Rattle.book.specs.Calls.{Call, next, seed, answer, ask, progress, stop, Reply, over, part, result, bar, stopped, refused, last, counts, counted}
 use Rattle.book.specs.Book.{Inputs, demand, Entry, Book, entries, number, noSeed, current, scoredOf, roundBest, runBest, orElse, stepOf, listAround, withWaiting, withEntry, withRound, withEnd, closeRound, bookEnter, Kept, kept, bookNext, bookSeed, replyTo, bookAnswer, bookResult, bookProgress, leftIn, restOf, bookStop, bookCall, lineOf, lastOf, bookLast, tally, bookCounts}
 use Rattle.book.specs.Walk.{Step, runCall, answeredReply, stoppedReply, lastReply}
 use Rattle.book.proofs.Cases.{case-chosen, case-list, case-outcome, case-option}

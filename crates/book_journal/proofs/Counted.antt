@@ -6,7 +6,7 @@ use mathlib.Core.Path.{_≡_, refl, sym, ap, _∙_}
 use mathlib.Core.Bool.{true, false, cond}
 use mathlib.Core.List.{List, [], _∷_, _++_, map, map-append}
 use lib.Dec.{ltb, eqb}
-use lib.ListN.{length, length-append}
+use lib.ListN.{length-append}
 use Rattle.common.specs.Tests.{case}
 use Rattle.common.specs.Each.{All}
 use Rattle.score_outcome.specs.declared.Outcome.{Outcome}

@@ -8,14 +8,14 @@ use mathlib.Core.List.{List, [], _∷_, _++_, append-nil, List·Memᴰ, List·Me
 use lib.Dec.{ltb, eqb}
 use lib.IntN.{pos}
 use lib.ListN.{length, getD, drop}
-use lib.Ieee.{Float, nan, binary64, ofBits, lt, neg, ofInt, isNan}
+use lib.Ieee.{Float, nan, binary64, ofBits, lt, neg, ofInt}
 use lib.Ieee.Bits.{ofBits-fits}
 use lib.Ieee.Fits.{add-fits, div-fits, neg-fits, nan-fits, cond-fits}
 use Rattle.common.specs.Tests.{case}
 use Rattle.common.specs.All.{all-append, all-left, all-right}
 use Rattle.common.specs.Each.{All}
 use Rattle.float.specs.Binary64.{_+₆₄_, _/₆₄_}
-use Rattle.float.specs.Float.{isFinite, clampOf}
+use Rattle.float.specs.Float.{clampOf}
 use Rattle.float.specs.Literals.{infinity}
 use Rattle.camera_models.specs.declared.math.Pt2.{Pt2}
 use Rattle.camera_models.specs.declared.intrinsics.FxFyCxCy.{FxFyCxCy}

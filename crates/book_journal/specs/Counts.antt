@@ -4,17 +4,11 @@ use Prim.Native.Nat.{ℕ, _+_, _≤_}
 use mathlib.Core.Path.{_≡_}
 use mathlib.Core.Bool.{cond}
 use mathlib.Core.List.{List, [], _∷_}
-use lib.Ieee.{Float}
 use Rattle.journal_line.specs.Counts.{one, countIn, countsIn}
 use Rattle.journal_line.specs.Reading.{readJournal}
 use Rattle.journal_line.specs.Report.{total}
-use Rattle.search_record.specs.declared.run.Run.{Run}
-use Rattle.search_start.specs.declared.Started.the-variants.{Accepted}
-use Rattle.search_calls.specs.Counts.{countsDef}
 use Rattle.book.specs.Calls.{Call, Reply, candidate, over, part, scored, skipped, result, bar, stopped, line, noLine, refused, counts, counted}
-use Rattle.book.specs.Book.{Inputs, number, opened, bookCall, replies, after}
-use Rattle.book.specs.Trace.{runAfter}
-use Rattle.book.specs.Theorem.{startOf, startedList}
+use Rattle.book.specs.Book.{Inputs, number, bookCall, replies}
 use Rattle.book_journal.specs.Lines.{linesOf, journalOf}
 use Rattle.book_journal.specs.History.{openedBy, History, bookAt}
 
@@ -91,7 +85,3 @@ pub record CountsAgree (i : Inputs) (h : History i) : Type 0 where
 -- and they are those of the run's journal, line for line
 abbrev pub InJournal : {i : Inputs} → History i → Type 0
 InJournal h = (k : ℕ) → countIn k (linesOf (bookAt h)) ≡ countIn k (readJournal (journalOf (bookAt h)) .lines)
-
--- ---- what the run's record keeps after any calls: the counts of the journal's lines
-abbrev pub KeptCounts : Inputs → List Float → Run → List Call → Type 0
-KeptCounts i l r cs = startOf i l ≡ Accepted r → countsDef (runAfter r (startedList i l) cs) ≡ countsIn (readJournal (journalOf (after (opened i) cs)) .lines)

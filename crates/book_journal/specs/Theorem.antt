@@ -7,19 +7,22 @@ use lib.Ieee.{Float}
 use Rattle.common.specs.Each.{All}
 use Rattle.search_record.specs.declared.run.Run.{Run}
 use Rattle.journal_line.specs.Line.{Writable}
+use Rattle.search_start.specs.declared.Started.the-variants.{Accepted}
 use Rattle.book.specs.Calls.{Call}
-use Rattle.book.specs.Book.{Inputs, Book, number}
+use Rattle.book.specs.Book.{Inputs, Book, number, opened, after}
 use Rattle.book.specs.Conditions.{NoneHolds, conditions}
+use Rattle.book.specs.Theorem.{startOf, startedList}
 use Rattle.book.proofs.RunOf.{runOf}
 use Rattle.book_journal.specs.Lines.{linesOf}
 use Rattle.book_journal.specs.Replay.{walked, winner, replayOf}
 use Rattle.book_journal.specs.History.{openedBy, History, bookAt, listAt, InputsFit, CallFits}
 use Rattle.book_journal.specs.ReplayLaw.{StartNumber, LinesOfRun, RunAgain, BufferOf, Accepted, SameAsReader, Declines, StartRefuses, FrontAlone}
 use Rattle.book_journal.specs.Resume.{Report, resumed, resumeOf, ResumeRefuses, ResumeAccepts, GivesBack, CutAt, cutRun, uncut, GoesOn, GoesOnSomewhere, EntersOn, JournalGrows}
-use Rattle.book_journal.specs.Counts.{CountsAgree, InJournal, KeptCounts}
+use Rattle.book_journal.specs.Counts.{CountsAgree, InJournal}
 use Rattle.book_journal.specs.Stretches.{Groups, StretchesRight, LineStretchesRight}
 use Rattle.book_journal.specs.Live.{LiveBuffer, Continues}
 use Rattle.book_journal.specs.Written.{WrittenIsJournal}
+use Rattle.book_journal.specs.Reported.{ReportRight}
 
 -- a history whose numbers are binary64's, as all of a program are
 pub record Fitting (i : Inputs) (h : History i) : Type 0 where
@@ -59,7 +62,11 @@ pub record JournalsRight : Type 0 where
   -- ---- E6
   pub counts-agree : (i : Inputs) (h : History i) → CountsAgree i h
   pub in-journal : (i : Inputs) (h : History i) → Fitting i h → InJournal h
-  pub kept-counts : (i : Inputs) (l : List Float) (r : Run) (cs : List Call) → InputsFit i → All CallFits cs → KeptCounts i l r cs
+  -- after any calls of a run that Start opened, and of one that Resume gave back
+  pub written-report : (i : Inputs) (l : List Float) (r : Run) (cs : List Call) → InputsFit i → All CallFits cs → startOf i l ≡ Accepted r
+      → ReportRight r (startedList i l) cs (after (opened i) cs)
+  pub resumed-report : (i : Inputs) (l : List Float) (bs : List ℕ) (cs : List Call) → InputsFit i → All CallFits cs → NoneHolds (conditions i (length l))
+      → ReportRight (runOf (walked i l bs .book)) (walked i l bs .list) cs (after (walked i l bs .book) cs)
   -- ---- E14
   pub groups : Groups
   pub stretches-right : (b : Book) → StretchesRight b
