@@ -17,13 +17,11 @@ use Rattle.journal_line.specs.Counts.{countsIn}
 use Rattle.journal_line.specs.Reading.{readJournal, Lines}
 use Rattle.journal_line.specs.Report.{total, reportBytes, refusesReport, reportReply, reportInto}
 use Rattle.search_record.specs.declared.run.Run.{Run}
-use Rattle.search_start.specs.declared.Started.the-variants.{Accepted}
 use Rattle.search_calls.specs.Counts.{countsDef}
 use Rattle.book.specs.Calls.{Call}
 use Rattle.book.specs.Book.{Inputs, Book, entries, opened, tally, after}
-use Rattle.book.specs.Conditions.{NoneHolds, conditions}
 use Rattle.book.specs.Trace.{runAfter}
-use Rattle.book.specs.Theorem.{startOf, startedList}
+use Rattle.book.specs.Theorem.{startedList}
 use Rattle.book.proofs.Opening.{opens}
 use Rattle.book.proofs.RunOf.{runOf, State, count-bound}
 use Rattle.book.proofs.Simulation.{counts-is}
@@ -32,7 +30,7 @@ use Rattle.book.proofs.Walks.{walks}
 use Rattle.book_journal.specs.Lines.{linesOf, journalOf}
 use Rattle.book_journal.specs.Replay.{walked}
 use Rattle.book_journal.specs.History.{fresh, from, History, InputsFit, CallFits}
-use Rattle.book_journal.specs.Reported.{smallBuffer, reportOf, ReportRight}
+use Rattle.book_journal.specs.Reported.{smallBuffer, reportOf, ReportRight, WrittenReport, ResumedReport}
 use Rattle.book_journal.proofs.Again.{Sound, sound-at, lines-right}
 use Rattle.book_journal.proofs.Walk.{any-buffer}
 use Rattle.book_journal.proofs.Live.{start-accepts, walked-state}
@@ -72,15 +70,13 @@ report-right i b l cs t s =
     record { kept = k ∙ e; is-written = ap (λ (c : Counts). reportOf c (reportReply c smallBuffer)) k ∙ writes-report (tally (entries d)) n ∙ ap reportBytes e }
 
 -- ---- a run that Start opened, and one that Resume gave back
-pub written-report : (i : Inputs) (l : List Float) (r : Run) (cs : List Call) → InputsFit i → All CallFits cs → startOf i l ≡ Accepted r
-    → ReportRight r (startedList i l) cs (after (opened i) cs)
+pub written-report : (i : Inputs) (l : List Float) (r : Run) (cs : List Call) → InputsFit i → All CallFits cs → WrittenReport i l r cs
 written-report i l r cs f k h =
     let o = opens i l r h in
     let past : History i = record { room = length l; accepted = start-accepts i l r h; opening = fresh; calls = cs } in
     rw (o .run-is) (report-right i (opened i) (startedList i l) cs (o .state) (sound-at i past f k))
 
-pub resumed-report : (i : Inputs) (l : List Float) (bs : List ℕ) (cs : List Call) → InputsFit i → All CallFits cs → NoneHolds (conditions i (length l))
-    → ReportRight (runOf (walked i l bs .book)) (walked i l bs .list) cs (after (walked i l bs .book) cs)
+pub resumed-report : (i : Inputs) (l : List Float) (bs : List ℕ) (cs : List Call) → InputsFit i → All CallFits cs → ResumedReport i l bs cs
 resumed-report i l bs cs f k a =
     let past : History i = record { room = length l; accepted = a; opening = from bs; calls = cs } in
     report-right i (walked i l bs .book) (walked i l bs .list) cs (walked-state i l bs a)

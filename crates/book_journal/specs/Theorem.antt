@@ -7,11 +7,9 @@ use lib.Ieee.{Float}
 use Rattle.common.specs.Each.{All}
 use Rattle.search_record.specs.declared.run.Run.{Run}
 use Rattle.journal_line.specs.Line.{Writable}
-use Rattle.search_start.specs.declared.Started.the-variants.{Accepted}
 use Rattle.book.specs.Calls.{Call}
-use Rattle.book.specs.Book.{Inputs, Book, number, opened, after}
+use Rattle.book.specs.Book.{Inputs, Book, number}
 use Rattle.book.specs.Conditions.{NoneHolds, conditions}
-use Rattle.book.specs.Theorem.{startOf, startedList}
 use Rattle.book.proofs.RunOf.{runOf}
 use Rattle.book_journal.specs.Lines.{linesOf}
 use Rattle.book_journal.specs.Replay.{walked, winner, replayOf}
@@ -22,7 +20,7 @@ use Rattle.book_journal.specs.Counts.{CountsAgree, InJournal}
 use Rattle.book_journal.specs.Stretches.{Groups, StretchesRight, LineStretchesRight}
 use Rattle.book_journal.specs.Live.{LiveBuffer, Continues}
 use Rattle.book_journal.specs.Written.{WrittenIsJournal}
-use Rattle.book_journal.specs.Reported.{ReportRight}
+use Rattle.book_journal.specs.Reported.{WrittenReport, ResumedReport}
 
 -- a history whose numbers are binary64's, as all of a program are
 pub record Fitting (i : Inputs) (h : History i) : Type 0 where
@@ -63,10 +61,8 @@ pub record JournalsRight : Type 0 where
   pub counts-agree : (i : Inputs) (h : History i) → CountsAgree i h
   pub in-journal : (i : Inputs) (h : History i) → Fitting i h → InJournal h
   -- after any calls of a run that Start opened, and of one that Resume gave back
-  pub written-report : (i : Inputs) (l : List Float) (r : Run) (cs : List Call) → InputsFit i → All CallFits cs → startOf i l ≡ Accepted r
-      → ReportRight r (startedList i l) cs (after (opened i) cs)
-  pub resumed-report : (i : Inputs) (l : List Float) (bs : List ℕ) (cs : List Call) → InputsFit i → All CallFits cs → NoneHolds (conditions i (length l))
-      → ReportRight (runOf (walked i l bs .book)) (walked i l bs .list) cs (after (walked i l bs .book) cs)
+  pub written-report : (i : Inputs) (l : List Float) (r : Run) (cs : List Call) → InputsFit i → All CallFits cs → WrittenReport i l r cs
+  pub resumed-report : (i : Inputs) (l : List Float) (bs : List ℕ) (cs : List Call) → InputsFit i → All CallFits cs → ResumedReport i l bs cs
   -- ---- E14
   pub groups : Groups
   pub stretches-right : (b : Book) → StretchesRight b
