@@ -17,7 +17,7 @@ same-length c = search needs
 returns : tie.Need-returns
 returns c =
     let e = c .before .before .before .write-report .ensures in
-    (c .write-reply .ensures ∙ ap flatWritten (e .0), e .1 .0)
+    (c .write-reply .ensures ∙ ap flatWritten (e .0), e .1)
 
 pub jc-write-report-spec : {M : Type 1} → statement M
 jc-write-report-spec = tie.close (tie.spec write-report-requires write-reply-requires same-length returns)
