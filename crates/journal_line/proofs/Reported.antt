@@ -15,7 +15,7 @@ use Rattle.journal_line.specs.Line.{decimalWidth, decimal}
 use Rattle.journal_line.specs.Steps.{commaFields, Stored}
 use Rattle.journal_line.specs.Report.{five, total, reportBytes, refusesReport, reportReply, reportInto}
 use Rattle.journal_line.specs.DigitLaws.{decimal-length}
-use Rattle.journal_line.specs.ReportLaws.{others, all-small, reportFront, report-is, report-bounds}
+use Rattle.journal_line.specs.ReportLaws.{others, Small, all-small, reportFront, report-is, report-bounds}
 use Rattle.journal_line.proofs.Stores.{stored-then, stored-as, stored-front}
 
 -- ---- the total
@@ -32,7 +32,7 @@ module _ (c : Counts) where
   pub large-total : someLarge c ≡ true → true ≡ ltb 656 (total c)
   large-total h = case (ltb 656 (total c)) sym (λ e. absurd (true≢false (sym h ∙ none-large (ltb-false 656 (total c) e))))
 
-  pub each-small : someLarge c ≡ false → All (λ (n : ℕ). n ≤ 656) (five c)
+  pub each-small : someLarge c ≡ false → All Small (five c)
   each-small h =
       let p₄ = both-false (ltb 656 (c .scored) || ltb 656 (c .«host_failed») || ltb 656 (c .«bad_camera») || ltb 656 (c .«no_mean»)) (ltb 656 (c .«no_number»)) h in
       let p₃ = both-false (ltb 656 (c .scored) || ltb 656 (c .«host_failed») || ltb 656 (c .«bad_camera»)) (ltb 656 (c .«no_mean»)) (p₄ .0) in

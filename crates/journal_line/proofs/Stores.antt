@@ -86,13 +86,13 @@ unfolding commaFields
 no-reals l whole p i xs h w = rw (drop-of-length-le xs h) at w
 
 -- a turn of the loop that stores decimals
-module _ (l whole : List ℕ) (place next i : ℕ) (ns : List ℕ) (z : ℕ) (h : i < length ns) (e : next ≡ place + 1 + decimalWidth (getD ns i z)) where
+module _ (place next i : ℕ) (ns : List ℕ) (z : ℕ) (h : i < length ns) (e : next ≡ place + 1 + decimalWidth (getD ns i z)) where
   drop-one : drop i ns ≡ getD ns i z ∷ drop (i + 1) ns
   drop-one = rw add-one (drop-cons ns i z h)
 
-  pub decimals-turn : sets l place (commaFields (map decimal (drop i ns))) ≡ whole → (m : List ℕ) → m ≡ sets (set l place 44) (place + 1) (decimal (getD ns i z))
+  pub decimals-turn : (l whole : List ℕ) → sets l place (commaFields (map decimal (drop i ns))) ≡ whole → (m : List ℕ) → m ≡ sets (set l place 44) (place + 1) (decimal (getD ns i z))
       → sets m next (commaFields (map decimal (drop (i + 1) ns))) ≡ whole
-  decimals-turn w m s =
+  decimals-turn l whole w m s =
       let n = getD ns i z in
       rw s (field-then (decimal n) (map decimal (drop (i + 1) ns)) l place next (omega (arith, decimal-length n))
       ∙ ap (λ (ks : List ℕ). sets l place (commaFields (map decimal ks))) (sym drop-one) ∙ w)

@@ -1,7 +1,7 @@
 -- Some fields, and some reports, as they are written, by computation. Assumes nothing.
 use mathlib.Core.Path.{_≡_, refl}
 use Prim.Native.Nat.{ℕ}
-use mathlib.Core.List.{List, [], _∷_, map}
+use mathlib.Core.List.{[], _∷_, map}
 use lib.ListN.{length, replicate}
 use lib.Ieee.{nan, binary64, ofBits, toBits, isNan}
 use Rattle.float.specs.Float.{bitsOf}
@@ -49,14 +49,15 @@ longest : length (reportBytes (of 100 100 100 100 100)) ≡ 24
 unfolding reportBytes total restOfLine decimal decimalWidth digits digitByte
 longest = refl
 
--- a total of 656 is written; 657 isn't, nor is 2^64, which doesn't wrap round to 0
-module _ where
-  abbrev buffer : List ℕ
-  buffer = replicate 24 0
+-- a total of 656 is written, 657 isn't
+totals : map (λ (c : Counts). reportReply c (replicate 24 0)) (of 656 0 0 0 0 ∷ of 600 20 20 10 6 ∷ of 656 1 0 0 0 ∷ of 0 0 0 0 657 ∷ []) ≡ Length 16 ∷ Length 19 ∷ Refused 28 ∷ Refused 28 ∷ []
+unfolding reportReply refusesReport reportBytes total restOfLine decimal decimalWidth digits digitByte
+totals = refl
 
-  totals : map (λ (c : Counts). reportReply c buffer) (of 656 0 0 0 0 ∷ of 600 20 20 10 6 ∷ of 656 1 0 0 0 ∷ of 18446744073709551615 0 0 0 1 ∷ []) ≡ Length 16 ∷ Length 19 ∷ Refused 28 ∷ Refused 28 ∷ []
-  unfolding reportReply refusesReport reportBytes total restOfLine decimal decimalWidth digits digitByte
-  totals = refl
+-- nor is 2^64, which doesn't wrap round to 0
+no-wrap : reportReply (of 18446744073709551615 0 0 0 1) (replicate 24 0) ≡ Refused 28
+unfolding reportReply refusesReport total
+no-wrap = refl
 
 -- a buffer of 23 bytes is refused and left as it was, though this report has 12
 small-buffer : (reportReply (of 0 0 0 0 0) (replicate 23 7) ≡ Refused 28) × (reportInto (of 0 0 0 0 0) (replicate 23 7) ≡ replicate 23 7)

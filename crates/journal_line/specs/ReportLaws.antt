@@ -20,10 +20,10 @@ use Rattle.journal_line.specs.Numbers.{NoNewline, decimal-no-newline, fi
 abbrev pub others : Counts → ℕ → List ℕ
 others c sum = c .«host_failed» ∷ c .«bad_camera» ∷ c .«no_mean» ∷ c .«no_number» ∷ sum ∷ []
 
-abbrev pub AllSmall : Counts → Type 0
-AllSmall c = All (λ (n : ℕ). n ≤ 656) (five c ++ total c ∷ [])
+abbrev pub Small : ℕ → Type 0
+Small n = n ≤ 656
 
-pub all-small : (c : Counts) → total c ≤ 656 → AllSmall c
+pub all-small : (c : Counts) → Small (total c) → All Small (five c ++ total c ∷ [])
 unfolding total
 all-small c h = (omega arith, (omega arith, (omega arith, (omega arith, (omega arith, (h, tt))))))
 
@@ -45,7 +45,7 @@ unfolding reportFront
 no-newline-before c = fields-no-newline (decimal (c .scored)) (map decimal (others c (total c))) (decimal-no-newline (c .scored)) (decimals-no-newline (others c (total c)))
 
 -- two bytes to four for each number, of which one parts it from the next or ends the line
-decimals-wide : (ns : List ℕ) → All (λ (n : ℕ). n ≤ 656) ns → (1 + 2 * length ns ≤ wide (map decimal ns)) × (wide (map decimal ns) ≤ 1 + 4 * length ns)
+decimals-wide : (ns : List ℕ) → All Small ns → (1 + 2 * length ns ≤ wide (map decimal ns)) × (wide (map decimal ns) ≤ 1 + 4 * length ns)
 unfolding wide
 decimals-wide [] h = (omega arith, omega arith)
 decimals-wide (n ∷ ns) h =

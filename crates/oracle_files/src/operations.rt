@@ -1,7 +1,7 @@
 // The operations that a stored file can name: the number of each is its line in the list of names, in names.rt. Those up to
 // `MEAN_REPROJ_ERROR` answer a number, those from there up to `UNDISTORT` a point. Those from `UNTILT_POINTS` on write lists, those from
 // `UNTILT_POINTS_INTO` up to `DESIGN_ROWS_INTO` to a destination which the case lends, and those from `SEED_LISTS` up to `CALLS_ONE_AXIS` begin a search;
-// those from `WRITE_LINE` on are the journal's.
+// those from `WRITE_LINE` on are the journal's, the last of them the report's.
 pub const SQRT: usize = 0;
 
 pub const SQRT_FROM: usize = 1;
@@ -78,5 +78,7 @@ pub const READ_LINE: usize = 36;
 
 pub const DAMAGED_LINE: usize = 37;
 
+pub const WRITE_REPORT: usize = 38;
+
 // No crate answers it.
-pub const UNKNOWN: usize = 38;
+pub const UNKNOWN: usize = 39;

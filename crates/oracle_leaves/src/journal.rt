@@ -23,7 +23,7 @@ use oracle_files::words::wide;
 use seed_rules::CandidateSeed;
 
 // What a lent buffer holds before the call.
-const FRESH: u8 = b'#';
+pub const FRESH: u8 = b'#';
 
 pub fn byte_at(x: &[f64], i: usize) -> u8 {
     (whole_at(x, i) % 256) as u8
@@ -164,7 +164,7 @@ fn met_read(x: &[f64], n: usize) -> usize {
     }
 }
 
-// How far an operation of the journal meets what is expected of its n inputs.
+// How far an operation of the journal, or the report, meets what is expected of its n inputs.
 pub fn met(operation: usize, x: &[f64], n: usize) -> usize {
     match operation {
         operations::WRITE_LINE => {
@@ -178,6 +178,12 @@ pub fn met(operation: usize, x: &[f64], n: usize) -> usize {
                 return MALFORMED;
             }
             met_read(x, n)
+        }
+        operations::WRITE_REPORT => {
+            if n != 6 {
+                return MALFORMED;
+            }
+            crate::reports::met(x, n)
         }
         _ => {
             if n != 20 {

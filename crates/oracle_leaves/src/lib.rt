@@ -8,6 +8,7 @@ mod number_leaves;
 mod other_leaves;
 pub mod plates;
 mod point_leaves;
+mod reports;
 pub mod rows;
 pub mod start;
 pub mod structs;

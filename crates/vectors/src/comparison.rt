@@ -32,7 +32,7 @@ fn met(operation: usize, guess: u64, x: &[f64], n: usize) -> usize {
     if operation == operations::KNOWN_PLATE {
         return oracle_leaves::plates::met(x, n);
     }
-    if operation <= operations::DAMAGED_LINE {
+    if operation <= operations::WRITE_REPORT {
         return oracle_leaves::journal::met(operation, x, n);
     }
     MISSED

@@ -1,10 +1,11 @@
-//! Writes the stored cases of the journal: `journal [FOLDER]`, by default the data folder of the crate `vectors`. What a line's
-//! text is, and whether bytes are one, is worked out in `form.rs` from 02's words; no published file is needed. Each run writes
-//! the same bytes.
+//! Writes the stored cases of the journal and of the report: `journal [FOLDER]`, by default the data folder of the crate
+//! `vectors`. What a line's text is, and whether bytes are one, is worked out in `form.rs` from 02's words, what a report's text
+//! is in `report.rs`; no published file is needed. Each run writes the same bytes.
 
 mod damage;
 mod form;
 mod reading;
+mod report;
 mod writing;
 
 use form::Line;
@@ -21,8 +22,10 @@ fn main() -> Result<(), String> {
         ("write_line", "write_line", writing::cases()),
         ("read_line", "read_line", reading::cases()),
         ("damaged_line", "damaged_line", damage::cases()),
+        ("write_report", "write_report", report::cases()),
         ("wrong_line", "write_line", writing::wrong()),
         ("wrong_damage", "damaged_line", damage::wrong()),
+        ("wrong_report", "write_report", report::wrong()),
     ] {
         let path = folder.join(format!("{name}.txt"));
         let text = file(operation, made_by, &cases);

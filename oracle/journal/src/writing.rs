@@ -8,16 +8,21 @@ use words::case;
 /// The buffer that every line needs.
 pub const LEAST_BUFFER: u64 = 256;
 
+/// An input = 0, the length of the text that is written and its bytes; or 28.
+pub fn answer(input: &[u64], text: Option<String>) -> String {
+    match text {
+        Some(text) => {
+            let head = vec![0, text.len() as u64];
+            case(input, &[head, bytes_of(text.as_bytes())].concat())
+        }
+        None => case(input, &[28]),
+    }
+}
+
 /// A line and a buffer's length = 0, the text's length and its bytes; or 28.
 fn written(line: &Line, buffer: u64) -> String {
     let input = [line.words(), vec![buffer]].concat();
-    match line.text() {
-        Some(text) if buffer >= LEAST_BUFFER => {
-            let head = vec![0, text.len() as u64];
-            case(&input, &[head, bytes_of(text.as_bytes())].concat())
-        }
-        _ => case(&input, &[28]),
-    }
+    answer(&input, line.text().filter(|_| buffer >= LEAST_BUFFER))
 }
 
 /// A line, and one whose text is stored with another last digit: the program that compares must see it.

@@ -53,8 +53,8 @@ loop-again c =
       search needs,
       p .ensures .1 .same-long ∙ simp length-set (l .inv .1),
       search needs,
-      decimals-end (l .out) (l .out) (l .place) (p .result) (l .i) (a .ns .now) _ (search needs) (p .ensures .0) _ (l .inv .3),
-      decimals-turn (l .out) _ (l .place) (p .result) (l .i) (a .ns .now) _ (search needs) (p .ensures .0) (l .inv .4) _ (p .ensures .1 .now-is),
+      decimals-end (l .place) (p .result) (l .i) (a .ns .now) _ (search needs) (p .ensures .0) _ (l .inv .3),
+      decimals-turn (l .place) (p .result) (l .i) (a .ns .now) _ (search needs) (p .ensures .0) (l .out) _ (l .inv .4) _ (p .ensures .1 .now-is),
     )
 
 same-length : tie.Need-same-length Inv-loop μ-loop
