@@ -14,11 +14,10 @@ use Rattle.score_outcome.specs.Evaluation.{outcomeOf, findingRefusal}
 use Rattle.search_calls.specs.Next.{nextDef, seedLent, seedPart}
 use Rattle.book.specs.Calls.{Call, next, seed, answer, ask, progress, stop, over, part, last}
 use Rattle.book.specs.Book.{Inputs, demand, Book, entries, number, current, runBest, withWaiting, bookEnter, bookNext, bookSeed, bookAnswer, bookResult, bookProgress, bookStop, bookCall, bookLast}
-use Rattle.book.specs.Trace.{Handing, handedBy, answeredBy}
+use Rattle.book.specs.Trace.{Handing, handedBy, answeredBy, handingOf}
 use Rattle.book.proofs.Cases.{case-chosen}
 use Rattle.book.proofs.Lists.{lend, short}
 use Rattle.book.proofs.Moves.{entry, enter-holds, enteredBy}
-use Rattle.book.proofs.Planned.{handingOf}
 use Rattle.book.proofs.Good.{waits-going, steps}
 use Rattle.book.proofs.RunOf.{runOf, State, run-fields, run-bests, sound-run}
 use Rattle.book.proofs.Simulation.{await-run, await-there, in-list, in-part}
