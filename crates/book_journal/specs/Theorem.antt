@@ -54,7 +54,7 @@ pub record JournalsRight : Type 0 where
   pub goes-on : (i : Inputs) (h : History i) → Fitting i h → (at : ℕ) (cs ds : List Call) → h .calls ≡ cs ++ ds → number (uncut i h at cs ds) ≡ number (cutRun i h at) → GoesOn i h at cs ds
   pub goes-on-somewhere : (i : Inputs) (h : History i) → Fitting i h → (at : ℕ) → number (openedBy i (h .opening)) ≤ number (cutRun i h at) → GoesOnSomewhere i h at
   pub enters-on : (i : Inputs) (h : History i) → Fitting i h → (at : ℕ) → EntersOn i h at
-  -- the run that goes with that book, and the buffer, answer every list of calls as demand 3 says
+  -- the run that goes with that book, and the buffer, answer every list of calls as demand 3 says, and the run comes to its end whatever lists are lent
   pub continues : (i : Inputs) (l : List Float) (bs : List ℕ) → NoneHolds (conditions i (length l)) → (cs : List Call) → Continues i (walked i l bs .book) (runOf (walked i l bs .book)) (walked i l bs .list) cs
   pub continues-to-end : (i : Inputs) (l : List Float) (bs : List ℕ) → NoneHolds (conditions i (length l)) → (cs : List Lent) → ContinuesToEnd i (walked i l bs .book) (runOf (walked i l bs .book)) cs
   pub journal-grows : (i : Inputs) (h : History i) → JournalGrows h
