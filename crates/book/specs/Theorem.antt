@@ -140,7 +140,8 @@ pub record ByBook (i : Inputs) (b : Book) (kept : List Entry) (r : Run) (l : Lis
 abbrev pub Follows : Inputs → Run → List Float → List Call → Type 0
 Follows i r l cs = ByBook i (opened i) [] r l cs
 
--- ---- the end of a run, whatever list each call is lent and whatever is answered: s is the run after the calls cs, and so many answers were accepted before them
+-- ---- the end of a run, whatever list each call is lent and whatever is answered: s is the run after the calls cs; before counts the answers
+-- accepted before these calls, 0 where Start opened the run
 pub record Ends (i : Inputs) (before : ℕ) (r : Run) (cs : List Lent) (s : Run) : Type 0 where
   -- it is sound; its number counts the accepted answers; with the seeds left and nine for each round left that is at most 656
   pub is-sound : sound s ≡ true
