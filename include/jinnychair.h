@@ -82,7 +82,8 @@ enum {
     JC_SOURCE_COLLINEAR = 24,      /* the source points lie on a line */
     JC_DESTINATION_COLLINEAR = 25, /* the destination points lie on a line */
     JC_TILT_TOO_LARGE = 27,        /* max_abs_tilt is above 0.5 radians (28.6 degrees), or a tilt is NaN or beyond that */
-    JC_NOT_WRITABLE = 28,          /* a line's buffer is below JC_LINE_LEN bytes, or the line isn't one that a journal has */
+    JC_NOT_WRITABLE = 28,          /* a line's buffer is below JC_LINE_LEN bytes, or the line isn't one that a journal has; or a report's is below
+                                      JC_REPORT_LEN bytes, or its total above JC_MOST_ANSWERS */
     JC_NOT_A_LINE = 29,            /* the bytes at the place aren't those of a line */
     JC_TILTS_OFF_AXIS = 31,        /* a one-axis run's y tilts aren't the single value 0, of either sign */
     JC_SEED_OFF_AXIS = 32,         /* a decomposition seed of a one-axis run has a tilt y other than 0 */
@@ -110,7 +111,8 @@ enum {
     JC_ROW_NUMBERS = 4,     /* of an answer's row */
     JC_DESIGN_NUMBERS = 18, /* of a point's two design rows */
     JC_MOST_LIST = 3072,    /* numbers that a seed list can need */
-    JC_LINE_LEN = 256       /* bytes that a buffer for a line of the journal needs */
+    JC_LINE_LEN = 256,      /* bytes that a buffer for a line of the journal needs */
+    JC_REPORT_LEN = 24      /* bytes that a buffer for a report needs */
 };
 
 /* How many numbers the seed list of a search needs. */
@@ -282,6 +284,11 @@ typedef struct {
     jc_line line;
 } jc_last_line_record;
 
+/* How many candidates were scored, and how many skipped for each reason, JC_SKIP_... in their order. */
+typedef struct {
+    size_t scored, host_failed, bad_camera, no_mean, no_number;
+} jc_count_record;
+
 /* A run. The caller keeps it and hands it on unchanged from call to call; it may be copied and stored. Nothing in it is a pointer. */
 typedef struct {
     jc_options options;
@@ -290,6 +297,7 @@ typedef struct {
     jc_waiting_record waiting;
     jc_best_record round_best, run_best;
     jc_last_line_record last;
+    jc_count_record counts;
 } jc_run_record;
 
 /* 0 and the run, or a refusal. */
@@ -451,6 +459,9 @@ jc_progress_reply jc_progress(jc_run_record run);
  * host finds. Later rounds aren't covered. May be called at any time, also while a seed waits and after the end; the run goes on unchanged. The
  * waiting seed counts as the run keeps it, the others as they stand in the list now, a penalty that isn't a number as infinity. 10. */
 jc_stop_flat jc_stop(jc_run_record run, const double *list, size_t list_len);
+/* How many candidates were scored so far, and how many skipped for each reason: as many as the run's journal has lines with S, H, C, E and N.
+ * The waiting seed counts nowhere, nor does a refused call. Refuses nothing; of a record that no call returned all numbers are 0. */
+jc_count_record jc_counts(jc_run_record run);
 
 /* ---- the journal: a line for each answered candidate ---- */
 
@@ -461,6 +472,9 @@ jc_last_line_record jc_last_line(jc_run_record run);
  * others the 16 hexadecimal digits of their bits, with 7ff8000000000000 for every NaN; behind a skip's letter each field is a minus sign. 28
  * where `to` has less than JC_LINE_LEN bytes, the number is above 655, the round above 16, skipped above 4, or the score of a scored line NaN. */
 jc_write_flat jc_write_line(jc_line line, uint8_t *to, size_t to_len);
+/* Writes a report to the front of `to`: 12 to 24 bytes, six decimal numbers with commas between them and a newline at the end: scored, the
+ * skipped for reasons 1 to 4, and the total. 28 where `to` has less than JC_REPORT_LEN bytes or the total is above JC_MOST_ANSWERS. */
+jc_write_flat jc_write_report(jc_count_record counts, uint8_t *to, size_t to_len);
 /* Reads the line at a place of a journal; at its end, and behind it, end is 1. 29 where the bytes there aren't, byte for byte, a line that
  * jc_write_line writes. */
 jc_read_flat jc_read_line(const uint8_t *bytes, size_t bytes_len, size_t at);
@@ -495,6 +509,7 @@ jc_line jc_echo_line(jc_line x);
 jc_last_line_record jc_echo_last_line_record(jc_last_line_record x);
 jc_write_flat jc_echo_write_flat(jc_write_flat x);
 jc_read_flat jc_echo_read_flat(jc_read_flat x);
+jc_count_record jc_echo_counts(jc_count_record x);
 jc_run_record jc_echo_run_record(jc_run_record x);
 jc_start_flat jc_echo_start_flat(jc_start_flat x);
 jc_next_flat jc_echo_next_flat(jc_next_flat x);
@@ -615,20 +630,26 @@ JC_ASSERT(offsetof(jc_read_flat, end) == 1);
 JC_ASSERT(offsetof(jc_read_flat, line_number) == 8);
 JC_ASSERT(offsetof(jc_read_flat, line) == 16);
 JC_ASSERT(offsetof(jc_read_flat, next) == 152);
-JC_ASSERT(sizeof(jc_run_record) == 552);
+JC_ASSERT(sizeof(jc_count_record) == 40);
+JC_ASSERT(offsetof(jc_count_record, host_failed) == 8);
+JC_ASSERT(offsetof(jc_count_record, bad_camera) == 16);
+JC_ASSERT(offsetof(jc_count_record, no_mean) == 24);
+JC_ASSERT(offsetof(jc_count_record, no_number) == 32);
+JC_ASSERT(sizeof(jc_run_record) == 592);
 JC_ASSERT(offsetof(jc_run_record, center) == 40);
 JC_ASSERT(offsetof(jc_run_record, place) == 56);
 JC_ASSERT(offsetof(jc_run_record, waiting) == 112);
 JC_ASSERT(offsetof(jc_run_record, round_best) == 168);
 JC_ASSERT(offsetof(jc_run_record, run_best) == 288);
 JC_ASSERT(offsetof(jc_run_record, last) == 408);
-JC_ASSERT(sizeof(jc_start_flat) == 560);
+JC_ASSERT(offsetof(jc_run_record, counts) == 552);
+JC_ASSERT(sizeof(jc_start_flat) == 600);
 JC_ASSERT(offsetof(jc_start_flat, run) == 8);
-JC_ASSERT(sizeof(jc_next_flat) == 568);
+JC_ASSERT(sizeof(jc_next_flat) == 608);
 JC_ASSERT(offsetof(jc_next_flat, over) == 1);
 JC_ASSERT(offsetof(jc_next_flat, candidate) == 8);
 JC_ASSERT(offsetof(jc_next_flat, run) == 16);
-JC_ASSERT(sizeof(jc_answer_flat) == 568);
+JC_ASSERT(sizeof(jc_answer_flat) == 608);
 JC_ASSERT(offsetof(jc_answer_flat, skipped) == 1);
 JC_ASSERT(offsetof(jc_answer_flat, score) == 8);
 JC_ASSERT(offsetof(jc_answer_flat, run) == 16);

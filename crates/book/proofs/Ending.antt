@@ -17,20 +17,26 @@ use Rattle.score_outcome.specs.declared.Finding.{Finding}
 use Rattle.score_outcome.specs.declared.Outcome.{Outcome}
 use Rattle.score_outcome.specs.Evaluation.{outcomeOf, findingRefusal}
 use Rattle.score_best.specs.declared.Candidate.{Candidate}
+use Rattle.journal_line.specs.Counts.{kindOf}
+use Rattle.journal_line.specs.CountLaws.{total-with}
+use Rattle.journal_line.specs.Outcome.{recordedAs}
+use Rattle.journal_line.specs.Report.{total}
 use Rattle.search_record.specs.declared.run.Options.{Options}
 use Rattle.search_record.specs.declared.run.Place.{Place}
 use Rattle.search_record.specs.declared.run.Run.{Run}
+use Rattle.search_record.specs.Laws.{add-up-true}
 use Rattle.search_record.specs.Record.{sound, hasPlace, awaiting, entered, nextStep, roundOpened, ended}
 use Rattle.search_calls.specs.declared.next.Handed.the-variants as handed-as
 use Rattle.search_calls.specs.Next.{nextRefusal, nextDef}
 use Rattle.search_calls.specs.NextLaws.{next-hands, next-keeps}
 use Rattle.search_answer.specs.Answer as ans
 use Rattle.search_answer.specs.AnswerLaws.{answer-passed}
-use Rattle.book.specs.Book.{Inputs, demand, Book, number}
+use Rattle.book.specs.Book.{Inputs, demand, Book, entries, number}
 use Rattle.book.specs.Lent.{Lent, next-with, answer-with, left, through, counted, accepted, stillLeft, Turn, Taken, AllTaken, turns}
 use Rattle.book.specs.Theorem.{Ends}
 use Rattle.book.proofs.Cases.{case-list}
 use Rattle.book.proofs.Good.{Core, Good, at-most}
+use Rattle.book.proofs.Tally.{outcome-kind, tally-total}
 use Rattle.book.proofs.RunOf.{runOf, run-number}
 
 -- ---- what stays true of the record
@@ -44,6 +50,7 @@ pub record Sizes (i : Inputs) (r : Run) : Type 0 where
   pub most : demand i ≤ 3072
   pub list-fits : 6 * r .place .len ≤ demand i
   pub few : r .place .number + stillLeft r ≤ 656
+  pub adds-up : total (r .counts) ≡ r .place .number
 
 -- a seed is left unless the run is over, and none waits once it is
 pub record Lasts (i : Inputs) (r : Run) : Type 0 where
@@ -64,7 +71,7 @@ lasts-sound i r h =
       le-leb (r .options .«min_counted») 100 (s .small-share),
       le-leb (r .options .«refine_rounds») 16 (s .few-rounds),
       le-leb (r .place .round) (r .options .«refine_rounds») (s .in-rounds),
-      le-leb (r .place .number) 656 (omega arith),
+      add-up-true (r .counts) (r .place .number) (omega arith) (s .adds-up),
       le-leb (r .place .len) 512 (omega arith),
       le-leb (6 * r .place .len) (r .place .demand) (omega arith),
       le-leb 54 (r .place .demand) (omega arith),
@@ -78,7 +85,7 @@ unfolding awaiting
 await-lasts i r s o h = record { sizes = same (h .sizes); room = h .room; calm = λ e. absurd (true≢false (sym e ∙ o)) }
   where
     same : Sizes i r → Sizes i (awaiting r s)
-    same z = unfold awaiting in record { small-share = z .small-share; few-rounds = z .few-rounds; in-rounds = z .in-rounds; demand-is = z .demand-is; least = z .least; most = z .most; list-fits = z .list-fits; few = z .few }
+    same z = unfold awaiting in record { small-share = z .small-share; few-rounds = z .few-rounds; in-rounds = z .in-rounds; demand-is = z .demand-is; least = z .least; most = z .most; list-fits = z .list-fits; few = z .few; adds-up = z .adds-up }
 
 -- Next keeps the run as it is, or has a seed wait
 next-by : (P : Run → Type 0) (r : Run) (l : List Float) → P r → ((s : CandidateSeed) → r .place .over ≡ false → P (awaiting r s)) → P (nextDef r l .run)
@@ -121,7 +128,7 @@ end-follows i r f = record {
 }
   where
     same : Sizes i r → Sizes i (ended r)
-    same z = unfold ended in record { small-share = z .small-share; few-rounds = z .few-rounds; in-rounds = z .in-rounds; demand-is = z .demand-is; least = z .least; most = z .most; list-fits = z .list-fits; few = z .few }
+    same z = unfold ended in record { small-share = z .small-share; few-rounds = z .few-rounds; in-rounds = z .in-rounds; demand-is = z .demand-is; least = z .least; most = z .most; list-fits = z .list-fits; few = z .few; adds-up = z .adds-up }
 
 open-sizes : (i : Inputs) (r : Run) (n : ℕ) → n ≤ 9 → r .place .round < r .options .«refine_rounds» → Full i r → Sizes i (roundOpened r n)
 unfolding roundOpened
@@ -130,7 +137,7 @@ open-sizes i r n h k f =
     let e = f .answered in
     let p = z .few in
     let q = z .least in
-    record { small-share = z .small-share; few-rounds = z .few-rounds; in-rounds = omega arith; demand-is = z .demand-is; least = z .least; most = z .most; list-fits = omega arith; few = omega arith }
+    record { small-share = z .small-share; few-rounds = z .few-rounds; in-rounds = omega arith; demand-is = z .demand-is; least = z .least; most = z .most; list-fits = omega arith; few = omega arith; adds-up = z .adds-up }
 
 open-follows : (i : Inputs) (r : Run) (n : ℕ) → 0 < n → n ≤ 9 → r .place .round < r .options .«refine_rounds» → Full i r → Follows i r (roundOpened r n)
 open-follows i r n p h k f = record { lasts = record { sizes = open-sizes i r n h k f; room = room r n p; calm = calm r n (f .calm) }; same-number = number r n; no-more = less r n h k }
@@ -198,11 +205,15 @@ record Answers (i : Inputs) (r s : Run) : Type 0 where
   counts : s .place .number ≡ r .place .number + 1
   less : stillLeft s < stillLeft r
 
-enter-sizes : (i : Inputs) (r : Run) (o : Outcome) → r .place .at < r .place .len → Sizes i r → Sizes i (entered r o)
+-- what is entered is of one of the five kinds
+abbrev OfKind : Outcome → Type 0
+OfKind o = kindOf (recordedAs o) ≤ 4
+
+enter-sizes : (i : Inputs) (r : Run) (o : Outcome) → OfKind o → r .place .at < r .place .len → Sizes i r → Sizes i (entered r o)
 unfolding entered
-enter-sizes i r o h z =
+enter-sizes i r o k h z =
     let p = z .few in
-    record { small-share = z .small-share; few-rounds = z .few-rounds; in-rounds = z .in-rounds; demand-is = z .demand-is; least = z .least; most = z .most; list-fits = z .list-fits; few = omega arith }
+    record { small-share = z .small-share; few-rounds = z .few-rounds; in-rounds = z .in-rounds; demand-is = z .demand-is; least = z .least; most = z .most; list-fits = z .list-fits; few = omega arith; adds-up = total-with (r .counts) (recordedAs o) k ∙ ap (λ n. n + 1) (z .adds-up) }
 
 module _ (r : Run) (o : Outcome) where
   enter-calm : entered r o .waiting .«is_waiting» ≡ false
@@ -228,12 +239,12 @@ module _ (r : Run) (o : Outcome) where
 closed-answers : (i : Inputs) (r : Run) (o : Outcome) (s : Run) → r .place .at < r .place .len → Follows i (entered r o) s → Answers i r s
 closed-answers i r o s h f = record { lasts = f .lasts; counts = f .same-number ∙ enter-number r o; less = let p = f .no-more in let q = enter-less r o h in omega arith }
 
-enter-answers : (i : Inputs) (r : Run) (l : List Float) (o : Outcome) → Lasts i r → r .place .over ≡ false → Answers i r (ans.enterDef r l o .run)
+enter-answers : (i : Inputs) (r : Run) (l : List Float) (o : Outcome) → OfKind o → Lasts i r → r .place .over ≡ false → Answers i r (ans.enterDef r l o .run)
 unfolding ans.enterDef
-enter-answers i r l o h g =
+enter-answers i r l o k h g =
     let e = entered r o in
     let room = h .room g in
-    let z = enter-sizes i r o room (h .sizes) in
+    let z = enter-sizes i r o k room (h .sizes) in
     case (ltb (e .place .at) (e .place .len))
     (λ t. simp t (record {
       lasts = record { sizes = z; room = λ q. ltb-true (e .place .at) (e .place .len) t; calm = λ q. enter-calm r o };
@@ -257,7 +268,8 @@ module _ (i : Inputs) (r : Run) (h : Lasts i r) (l : List Float) (f : Finding) (
   unfolding ans.answerDef
   answer-counts z =
       let p = answer-passed r (length l) f rows flags z in
-      simp (eq-eqb (ans.answerRefusal r (length l) f rows flags) 0 z) (enter-answers i r l (outcomeOf (r .options .«min_counted») f (r .waiting .seed .sensor) (r .center) rows flags) h (waits-open i r h (p .waits)))
+      let k = outcome-kind (r .options .«min_counted») f (r .waiting .seed .sensor) (r .center) rows flags in
+      simp (eq-eqb (ans.answerRefusal r (length l) f rows flags) 0 z) (enter-answers i r l (outcomeOf (r .options .«min_counted») f (r .waiting .seed .sensor) (r .center) rows flags) k h (waits-open i r h (p .waits)))
 
   answer-stays : eqb (ans.answerRefusal r (length l) f rows flags) 0 ≡ false → ans.answerDef r f rows flags l .reply .run ≡ r
   unfolding ans.answerDef
@@ -355,7 +367,8 @@ run-lasts i b g = record { sizes = subst (λ (j : Inputs). Sizes j (runOf b)) (g
         let r = z .few-rounds in
         let q = h .in-rounds in
         let n = length-append (b .earlier) (b .answered) in
-        record { small-share = z .small-share; few-rounds = z .few-rounds; in-rounds = q; demand-is = refl; least = z .least; most = z .most; list-fits = h .fits; few = omega arith }
+        let t = tally-total (b .inputs) (entries b) (h .proper) in
+        record { small-share = z .small-share; few-rounds = z .few-rounds; in-rounds = q; demand-is = refl; least = z .least; most = z .most; list-fits = h .fits; few = omega arith; adds-up = t }
 
 pub run-ends : (i : Inputs) (b : Book) (cs : List Lent) → Good i b → Ends i (number b) (runOf b) cs (through (runOf b) cs)
 unfolding findingRefusal

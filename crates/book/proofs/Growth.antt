@@ -11,8 +11,8 @@ use Rattle.seed_rules.specs.Layout.{six}
 use Rattle.score_outcome.specs.declared.Outcome.{Outcome}
 use Rattle.score_outcome.specs.Evaluation.{outcomeOf, findingRefusal}
 use Rattle.search_calls.specs.Next.{nextDef, seedLent, seedPart}
-use Rattle.book.specs.Calls.{Call, next, seed, answer, ask, progress, stop, over, part, last}
-use Rattle.book.specs.Book.{Inputs, demand, Book, entries, number, current, runBest, withWaiting, bookEnter, bookNext, bookSeed, bookAnswer, bookResult, bookProgress, bookStop, bookCall, bookLast}
+use Rattle.book.specs.Calls.{Call, next, seed, answer, ask, progress, stop, over, part, last, counts}
+use Rattle.book.specs.Book.{Inputs, demand, Book, entries, number, current, runBest, withWaiting, bookEnter, bookNext, bookSeed, bookAnswer, bookResult, bookProgress, bookStop, bookCall, bookLast, bookCounts}
 use Rattle.book.specs.Trace.{Handing, handedBy, answeredBy, handingOf}
 use Rattle.book.proofs.Cases.{case-chosen}
 use Rattle.book.proofs.Lists.{lend, short}
@@ -40,6 +40,7 @@ answers-agree i b l ask f = refl
 answers-agree i b l progress f = refl
 answers-agree i b l (stop n) f = refl
 answers-agree i b l last f = refl
+answers-agree i b l counts f = refl
 
 -- ---- what was handed out so far: the answered candidates, and the one that waits
 abbrev pub handingNow : Book → Handing
@@ -76,7 +77,7 @@ await-part : (i : Inputs) (b : Book) (l : List Float) → b .over ≡ false → 
 await-part i b l o f = seed-part i (withWaiting b) l (record { good = steps i .awaits b o (f .good); there = await-there b l (f .there) }) (await-round b .0) ∙ ap six (await-current b)
 
 pub hands-agree : (i : Inputs) (b : Book) (l : List Float) (c : Call) → State i b l → handedIn b ++ handedBy (runOf b) l c ≡ handedIn (bookCall b c .book)
-unfolding handedBy bookCall nextDef bookNext bookSeed bookAnswer bookResult bookProgress bookStop bookLast
+unfolding handedBy bookCall nextDef bookNext bookSeed bookAnswer bookResult bookProgress bookStop bookLast bookCounts
 hands-agree i b l (next n) f =
     let d = short (demand (b .inputs)) l n (f .there .long) in
     let t = sound-run i b (f .good) in
@@ -104,3 +105,4 @@ hands-agree i b l ask f = let z = append-nil (handedIn b) in case (b .over) (λ 
 hands-agree i b l progress f = append-nil (handedIn b)
 hands-agree i b l (stop n) f = let z = append-nil (handedIn b) in case (ltb n (demand (b .inputs))) (λ s. simp s z) (λ s. simp s z)
 hands-agree i b l last f = append-nil (handedIn b)
+hands-agree i b l counts f = append-nil (handedIn b)

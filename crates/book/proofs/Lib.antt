@@ -6,6 +6,7 @@ pub mod Seeds
 pub mod PerRound
 pub mod Made
 pub mod Good
+pub mod Tally
 pub mod RunOf
 pub mod Simulation
 pub mod Growth

@@ -18,8 +18,8 @@ use Rattle.score_outcome.specs.Evaluation.{outcomeOf, findingRefusal}
 use Rattle.score_outcome.specs.Facts.{ScoredFacts, scored-facts, skipped-reason}
 use Rattle.score_best.specs.declared.Candidate.{Candidate}
 use Rattle.score_best.specs.Best.{nothing, chosen}
-use Rattle.book.specs.Calls.{Call, next, seed, answer, ask, progress, stop, last}
-use Rattle.book.specs.Book.{Inputs, demand, Entry, Book, entries, number, current, roundBest, runBest, orElse, listAround, withWaiting, withEntry, withRound, withEnd, closeRound, bookEnter, Kept, bookNext, bookSeed, bookAnswer, bookResult, bookProgress, bookStop, bookCall, after, bookLast}
+use Rattle.book.specs.Calls.{Call, next, seed, answer, ask, progress, stop, last, counts}
+use Rattle.book.specs.Book.{Inputs, demand, Entry, Book, entries, number, current, roundBest, runBest, orElse, listAround, withWaiting, withEntry, withRound, withEnd, closeRound, bookEnter, Kept, bookNext, bookSeed, bookAnswer, bookResult, bookProgress, bookStop, bookCall, after, bookLast, bookCounts}
 use Rattle.book.proofs.Cases.{case-chosen, case-list, case-outcome}
 
 -- the waiting candidate's entry
@@ -104,6 +104,7 @@ enteredBy b ask = []
 enteredBy b progress = []
 enteredBy b (stop n) = []
 enteredBy b last = []
+enteredBy b counts = []
 
 pub data Moves (b : Book) (c : Call) (k : Kept) : Type 0 where
   stays : k .book ≡ b → enteredBy b c ≡ [] → Moves b c k
@@ -111,7 +112,7 @@ pub data Moves (b : Book) (c : Call) (k : Kept) : Type 0 where
   enters : (o : Outcome) → b .waits ≡ true → Stands (b .inputs) (current b .sensor) o → k .book ≡ bookEnter b o → enteredBy b c ≡ entry b o ∷ [] → Moves b c k
 
 pub moves : (b : Book) (c : Call) → Moves b c (bookCall b c)
-unfolding bookCall bookNext bookSeed bookAnswer bookResult bookProgress bookStop enteredBy bookLast
+unfolding bookCall bookNext bookSeed bookAnswer bookResult bookProgress bookStop enteredBy bookLast bookCounts
 moves b (next n) =
     case (b .waits) (λ w. simp w (stays refl refl)) (λ w.
     case (ltb n (demand (b .inputs))) (λ s. simp (w, s) (stays refl refl)) (λ s.
@@ -131,6 +132,7 @@ moves b ask = case (b .over) (λ o. case-chosen (runBest b) (λ e. simp (o, e) (
 moves b progress = stays refl refl
 moves b (stop n) = case (ltb n (demand (b .inputs))) (λ s. simp s (stays refl refl)) (λ s. simp s (stays refl refl))
 moves b last = stays refl refl
+moves b counts = stays refl refl
 
 -- so the entries only grow
 pub grows : (b : Book) (c : Call) → entries (bookCall b c .book) ≡ entries b ++ enteredBy b c

@@ -26,7 +26,8 @@ use Rattle.search_record.specs.declared.run.Run.{Run}
 use Rattle.search_start.specs.declared.Started.the-variants.{Accepted}
 use Rattle.search_start.specs.Start.{positive, goodSeed, onlyZero, untiltedSeed, demandOf, openingOf, startChecks}
 use Rattle.search_start.specs.StartLaws.{Passed, start-passed}
-use Rattle.book.specs.Book.{Inputs, demand, scoredOf, roundBest, runBest, stepOf, firstList, isEmpty, opened, lastOf}
+use Rattle.journal_line.specs.Counts.{countIn}
+use Rattle.book.specs.Book.{Inputs, demand, scoredOf, roundBest, runBest, stepOf, firstList, isEmpty, opened, lastOf, tally}
 use Rattle.book.specs.Conditions.{conditions}
 use Rattle.book.specs.Trace.{handedInRound}
 use Rattle.book.specs.Theorem.{optionsOf, startOf, startedList}
@@ -44,7 +45,7 @@ empty-is [] = refl
 empty-is (s ∷ ss) = eqb·suc-zero (length ss)
 
 opening-is : (i : Inputs) → openingOf (optionsOf i) (i .center) (demandOf (length (i .decomposition) / 6) (length (i .xs)) (length (i .ys))) (length (firstList i)) ≡ runOf (opened i)
-unfolding openingOf runOf opened demand demandOf stepOf roundBest runBest scoredOf bestOf firstUnbeaten lastOf
+unfolding openingOf runOf opened demand demandOf stepOf roundBest runBest scoredOf bestOf firstUnbeaten lastOf tally countIn
 opening-is i = rw (empty-is (firstList i))
 
 -- ---- the demand

@@ -16,9 +16,11 @@ use Rattle.search_record.specs.declared.run.Waiting.{Waiting}
 use Rattle.journal_line.specs.Outcome.{recordedAs}
 use Rattle.search_record.specs.declared.run.LastAnswer.{LastAnswer}
 use Rattle.search_record.specs.Record.{nobody, noAnswer, lastAnswer, hasPlace, sound}
-use Rattle.book.specs.Book.{Inputs, demand, Entry, Book, entries, number, current, roundBest, runBest, stepOf, isNothing, lastOf}
+use Rattle.search_record.specs.Laws.{add-up-true}
+use Rattle.book.specs.Book.{Inputs, demand, Entry, Book, entries, number, current, roundBest, runBest, stepOf, isNothing, lastOf, tally}
 use Rattle.book.proofs.Lists.{Front}
 use Rattle.book.proofs.Good.{Good}
+use Rattle.book.proofs.Tally.{tally-total}
 
 -- ---- the run that goes with a book
 abbrev pub waitingOf : Bool → CandidateSeed → Waiting
@@ -40,6 +42,7 @@ runOf b =
       «round_best» = held (roundBest b);
       «run_best» = held (runBest b);
       last = lastIn (lastOf (entries b));
+      counts = tally (entries b);
     }
 
 -- a book between the calls, and the lent list: the round's seeds stand in its front
@@ -97,6 +100,10 @@ module _ (b : Book) where
   unfolding runOf
   run-last = refl
 
+  pub run-counts : runOf b .counts ≡ tally (entries b)
+  unfolding runOf
+  run-counts = refl
+
   pub run-max : runOf b .options .«max_abs_tilt» ≡ b .inputs .max
   unfolding runOf
   run-max = refl
@@ -118,7 +125,7 @@ unfolding noBest
 is-found nothing = refl
 is-found (chosen w) = refl
 
-pub ruleset run-fields = (run-demand, run-over, run-len, run-at, run-number, run-round, run-rounds, run-center, run-waiting, run-max, run-one-axis, run-share, is-waiting)
+pub ruleset run-fields = (run-demand, run-over, run-len, run-at, run-number, run-round, run-rounds, run-center, run-waiting, run-counts, run-max, run-one-axis, run-share, is-waiting)
 
 pub ruleset run-bests = (run-round-best, run-run-best, is-found)
 
@@ -145,7 +152,7 @@ module _ (i : Inputs) (b : Book) (g : Good i b) where
         le-leb (b .inputs .share) 100 (z .small-share),
         le-leb (b .inputs .rounds) 16 (z .few-rounds),
         le-leb (b .round) (b .inputs .rounds) (h .in-rounds),
-        le-leb (number b) 656 count-bound,
+        add-up-true (tally (entries b)) (number b) count-bound (tally-total (b .inputs) (entries b) (h .proper)),
         le-leb (length (b .list)) 512 (omega arith),
         le-leb (6 * length (b .list)) (demand (b .inputs)) q,
         le-leb 54 (demand (b .inputs)) (z .least),

@@ -26,6 +26,8 @@ use Rattle.score_best.specs.declared.Best.{Best}
 use Rattle.score_best.specs.Best.{Chosen, nothing, chosen, bestOf, firstUnbeaten, noBest, held, candidateOf}
 use Rattle.score_best.specs.Order.{best-snoc}
 use Rattle.search_record.specs.declared.run.Run.{Run}
+use Rattle.journal_line.specs.declared.Counts.{Counts}
+use Rattle.journal_line.specs.Counts.{withCount}
 use Rattle.journal_line.specs.Outcome.{recordedAs}
 use Rattle.search_record.specs.declared.run.LastAnswer.{LastAnswer}
 use Rattle.search_record.specs.declared.run.Waiting.{Waiting}
@@ -37,17 +39,19 @@ use Rattle.search_calls.specs.Progress.{progressDef}
 use Rattle.search_calls.specs.declared.stop.Stopped.the-variants.{Standing, Refused}
 use Rattle.score_floor.specs.Floor.{seedsBetween}
 use Rattle.search_calls.specs.Stop.{leftSeeds, bestSoFar, outlookOf, stopDef}
-use Rattle.book.specs.Calls.{Call, next, seed, answer, ask, progress, stop, Reply, over, part, result, bar, stopped, refused, last, line, noLine}
-use Rattle.book.specs.Book.{Inputs, demand, Entry, Book, entries, number, noSeed, current, scoredOf, roundBest, runBest, orElse, stepOf, listAround, withWaiting, withEntry, withRound, withEnd, closeRound, bookEnter, Kept, kept, bookNext, bookSeed, replyTo, bookAnswer, bookResult, bookProgress, leftIn, restOf, bookStop, bookCall, lineOf, lastOf, lineReply, bookLast}
+use Rattle.book.specs.Calls.{Call, next, seed, answer, ask, progress, stop, Reply, over, part, result, bar, stopped, refused, last, counts, counted}
+use Rattle.book.specs.Book.{Inputs, demand, Entry, Book, entries, number, noSeed, current, scoredOf, roundBest, runBest, orElse, stepOf, listAround, withWaiting, withEntry, withRound, withEnd, closeRound, bookEnter, Kept, kept, bookNext, bookSeed, replyTo, bookAnswer, bookResult, bookProgress, leftIn, restOf, bookStop, bookCall, lineOf, lastOf, bookLast, tally, bookCounts}
 use Rattle.book.specs.Walk.{Step, runCall, answeredReply, stoppedReply, lastReply}
 use Rattle.book.proofs.Cases.{case-chosen, case-list, case-outcome, case-option}
 use Rattle.book.proofs.Moves.{entry, Stands}
 use Rattle.book.proofs.Seeds.{nine}
 use Rattle.book.proofs.Good.{Proper, Good, waits-going, at-most}
+use Rattle.book.proofs.Tally.{tally-snoc}
 use Rattle.book.proofs.RunOf.{runOf, State, run-waiting, run-round-best, run-run-best, run-max, run-one-axis, run-fields, run-bests, sound-run, lastIn, run-last}
 use Rattle.book.proofs.Lists.{seed-at, part-at, seeds-there, Front, lend, give-back, write-front, no-front, short}
 use Rattle.search_calls.specs.declared.last.LastLine.the-variants as lastline
 use Rattle.search_calls.specs.Last.{hasLine, recordedIn, lastDef}
+use Rattle.search_calls.specs.Counts.{countsDef}
 
 -- a call's step beside the book's
 pub record Agrees (x : Step) (k : Kept) : Type 0 where
@@ -207,6 +211,15 @@ last-agrees i b l f =
     (λ n. record { reply = simp n (ap lastReply (no-line (runOf b) (run-last b ∙ ap lastIn n))); run = refl; there = f .there })
     (λ e n. record { reply = simp n (ap lastReply (last-line-is i b e (f .good) n)); run = refl; there = f .there })
 
+-- ---- the counts call
+pub counts-is : (i : Inputs) (b : Book) → Good i b → countsDef (runOf b) ≡ tally (entries b)
+unfolding countsDef
+counts-is i b g = simp (run-fields, sound-run i b g)
+
+counts-agrees : (i : Inputs) (b : Book) (l : List Float) → State i b l → Agrees (runCall (runOf b) l counts) (bookCounts b)
+unfolding runCall bookCounts
+counts-agrees i b l f = simp (counts-is i b (f .good)) (unmoved b l (f .there) (counted (tally (entries b))))
+
 -- ---- the end of a round
 -- the run and the list that go with a book
 pub record Ends (x : ans.Left) (b : Book) : Type 0 where
@@ -250,6 +263,7 @@ openedWith r n s q =
       «round_best» = noBest;
       «run_best» = r .«run_best»;
       last = r .last;
+      counts = r .counts;
     }
 
 opened-with : (r : Run) (n : ℕ) (s : Float) (q : Waiting) → rec.nextStep r ≡ s → r .waiting ≡ q → rec.roundOpened r n ≡ openedWith r n s q
@@ -326,8 +340,8 @@ best-entry b (Skipped n) es = simp (scored-append, append-nil)
 best-entry b (Scored s) es = rw (scored-append es (entry b (Scored s) ∷ [])) (sym (best-snoc (scoredOf es) (candidateOf (number b) (current b .sensor) s)))
 
 -- an entered run, its seed's tilts and its bests given by what they equal
-abbrev enteredWith : Run → Best → Best → LastAnswer → Run
-enteredWith r a c d =
+abbrev enteredWith : Run → Best → Best → LastAnswer → Counts → Run
+enteredWith r a c d m =
     let p = r .place in
     record {
       options = r .options;
@@ -337,13 +351,14 @@ enteredWith r a c d =
       «round_best» = a;
       «run_best» = c;
       last = d;
+      counts = m;
     }
 
-entered-with : (r : Run) (o : Outcome) (s : CandidateSeed) (a c : Best) (d : LastAnswer) → r .waiting .seed ≡ s
+entered-with : (r : Run) (o : Outcome) (s : CandidateSeed) (a c : Best) (d : LastAnswer) (m : Counts) → r .waiting .seed ≡ s
     → rec.withOutcome (r .«round_best») (r .place .number) (s .sensor) o ≡ a → rec.withOutcome (r .«run_best») (r .place .number) (s .sensor) o ≡ c
-    → rec.lastAnswer (r .place .number) (r .place .round) s (recordedAs o) ≡ d → rec.entered r o ≡ enteredWith r a c d
+    → rec.lastAnswer (r .place .number) (r .place .round) s (recordedAs o) ≡ d → withCount (r .counts) (recordedAs o) ≡ m → rec.entered r o ≡ enteredWith r a c d m
 unfolding rec.entered
-entered-with r o s a c d e f g h = rw (e, f, g, h)
+entered-with r o s a c d m e f g h k = rw (e, f, g, h, ← k)
 
 pub waiting-seed : (b : Book) → b .waits ≡ true → runOf b .waiting .seed ≡ current b
 waiting-seed b w = simp (run-waiting, w)
@@ -368,12 +383,16 @@ enter-last : (b : Book) (o : Outcome)
 unfolding runOf
 enter-last b o = ap lastIn (sym (last-snoc (entries b) (entry b o)) ∙ ap lastOf (append-assoc (b .earlier) (b .answered) (entry b o ∷ [])))
 
+enter-counts : (b : Book) (o : Outcome) → withCount (runOf b .counts) (recordedAs o) ≡ tally (b .earlier ++ (b .answered ++ entry b o ∷ []))
+unfolding runOf
+enter-counts b o = sym (tally-snoc (entries b) (entry b o)) ∙ ap tally (append-assoc (b .earlier) (b .answered) (entry b o ∷ []))
+
 entry-count : (b : Book) (e : Entry) → length (b .earlier ++ (b .answered ++ e ∷ [])) ≡ number b + 1
 entry-count b e = ap length (sym (append-assoc (b .earlier) (b .answered) (e ∷ []))) ∙ length-append (entries b) (e ∷ [])
 
 entered-is : (b : Book) (o : Outcome)
     → enteredWith (runOf b) (held (bestOf (scoredOf (b .answered ++ entry b o ∷ [])))) (held (bestOf (scoredOf (b .earlier ++ (b .answered ++ entry b o ∷ [])))))
-    (lastIn (lastOf (b .earlier ++ (b .answered ++ entry b o ∷ []))))
+    (lastIn (lastOf (b .earlier ++ (b .answered ++ entry b o ∷ [])))) (tally (b .earlier ++ (b .answered ++ entry b o ∷ [])))
     ≡ runOf (withEntry b o)
 unfolding runOf withEntry roundBest runBest
 entered-is b o =
@@ -383,7 +402,8 @@ entered-is b o =
 pub enter-run : (b : Book) (o : Outcome) → b .waits ≡ true → rec.entered (runOf b) o ≡ runOf (withEntry b o)
 enter-run b o w =
     entered-with (runOf b) o (current b) (held (bestOf (scoredOf (b .answered ++ entry b o ∷ [])))) (held (bestOf (scoredOf (b .earlier ++ (b .answered ++ entry b o ∷ [])))))
-    (lastIn (lastOf (b .earlier ++ (b .answered ++ entry b o ∷ [])))) (waiting-seed b w) (enter-round-best b o) (enter-run-best b o) (enter-last b o)
+    (lastIn (lastOf (b .earlier ++ (b .answered ++ entry b o ∷ [])))) (tally (b .earlier ++ (b .answered ++ entry b o ∷ []))) (waiting-seed b w) (enter-round-best b o)
+    (enter-run-best b o) (enter-last b o) (enter-counts b o)
     ∙ entered-is b o
 
 -- ---- the answer to the list's last seed ends the round
@@ -439,3 +459,4 @@ call-agrees i b l ask f = result-agrees i b l f
 call-agrees i b l progress f = progress-agrees i b l f
 call-agrees i b l (stop n) f = stop-agrees i b l n f
 call-agrees i b l last f = last-agrees i b l f
+call-agrees i b l counts f = counts-agrees i b l f

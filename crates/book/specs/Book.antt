@@ -2,7 +2,7 @@
 -- It goes by the rules of the seeds, the scores and the best, and knows nothing of the run's record or the lent list. Definitions only.
 use Prim.Native.Nat.{ℕ, zero, suc, _+_, _-_, _*_, _/_}
 use mathlib.Core.Bool.{Bool, true, false, not, _&&_, cond}
-use mathlib.Core.List.{List, [], _∷_, _++_}
+use mathlib.Core.List.{List, [], _∷_, _++_, map}
 use mathlib.Core.Option.{Option, none, some}
 use lib.Dec.{ltb, eqb}
 use lib.ListN.{length, getD, drop}
@@ -22,8 +22,10 @@ use Rattle.score_outcome.specs.Evaluation.{outcomeOf, findingRefusal}
 use Rattle.score_best.specs.declared.Candidate.{Candidate}
 use Rattle.score_best.specs.Best.{Chosen, nothing, chosen, bestOf, candidateOf}
 use Rattle.score_floor.specs.Floor.{floorOf}
-use Rattle.book.specs.Calls.{Call, next, seed, answer, ask, progress, stop, Rest, nothing-left, floor, Reply, candidate, over, part, scored, skipped, result, bar, stopped, refused, last, line, noLine}
+use Rattle.book.specs.Calls.{Call, next, seed, answer, ask, progress, stop, Rest, nothing-left, floor, Reply, candidate, over, part, scored, skipped, result, bar, stopped, refused, last, line, noLine, counts, counted}
+use Rattle.journal_line.specs.declared.Counts.{Counts}
 use Rattle.journal_line.specs.declared.Line.{Line}
+use Rattle.journal_line.specs.Counts.{countsIn}
 use Rattle.journal_line.specs.Outcome.{recordedAs}
 
 -- ---- what Start is given
@@ -261,6 +263,13 @@ lineReply (some e) = line (lineOf e)
 unfoldable pub bookLast : Book → Kept
 bookLast b = kept (lineReply (lastOf (entries b))) b
 
+-- 02, E6: how many of some entries were scored, and how many skipped for each reason, as their lines record it
+unfoldable pub tally : List Entry → Counts
+tally es = countsIn (map lineOf es)
+
+unfoldable pub bookCounts : Book → Kept
+bookCounts b = kept (counted (tally (entries b))) b
+
 unfoldable pub bookCall : Book → Call → Kept
 bookCall b (next n) = bookNext b n
 bookCall b (seed n) = bookSeed b n
@@ -269,6 +278,7 @@ bookCall b ask = bookResult b
 bookCall b progress = bookProgress b
 bookCall b (stop n) = bookStop b n
 bookCall b last = bookLast b
+bookCall b counts = bookCounts b
 
 -- ---- a whole list of calls: the book's replies, and the book after them
 unfoldable pub replies : Book → List Call → List Reply

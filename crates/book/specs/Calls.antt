@@ -6,6 +6,7 @@ use lib.Ieee.{Float}
 use Rattle.score_outcome.specs.declared.Finding.{Finding}
 use Rattle.score_best.specs.declared.Candidate.{Candidate}
 use Rattle.score_best.specs.Best.{Chosen}
+use Rattle.journal_line.specs.declared.Counts.{Counts}
 use Rattle.journal_line.specs.declared.Line.{Line}
 
 -- A call, with its arguments. n is how many numbers of the seed list the host lends, from its front, so that a list may be too short.
@@ -17,6 +18,7 @@ pub data Call : Type 0 where
   progress : Call
   stop : ℕ → Call
   last : Call
+  counts : Call
 
 -- how far a run has come: its round, and the rounds asked for; of this round's list the answered seeds, and all; and the answered ones of the run
 pub record Progress : Type 0 where
@@ -42,4 +44,5 @@ pub data Reply : Type 0 where
   stopped : Chosen → Rest → Reply
   line : Line → Reply
   noLine : Reply
+  counted : Counts → Reply
   refused : ℕ → Reply

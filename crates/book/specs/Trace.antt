@@ -13,7 +13,7 @@ use Rattle.search_calls.specs.declared.next.Handed.{Handed}
 use Rattle.search_calls.specs.declared.next.Handed.the-variants.{Candidate, Over, Refused}
 use Rattle.search_calls.specs.Next.{nextDef, seedPart}
 use Rattle.search_answer.specs.Answer.{answerRefusal}
-use Rattle.book.specs.Calls.{Call, next, seed, answer, ask, progress, stop, last}
+use Rattle.book.specs.Calls.{Call, next, seed, answer, ask, progress, stop, last, counts}
 use Rattle.book.specs.Book.{Entry}
 use Rattle.book.specs.Walk.{runCall}
 
@@ -43,6 +43,7 @@ handedBy r l ask = []
 handedBy r l progress = []
 handedBy r l (stop n) = []
 handedBy r l last = []
+handedBy r l counts = []
 
 -- ---- an answer that was accepted: the candidate's number and round, its seed as the run keeps it, and the rules' outcome
 unfoldable pub answeredBy : Run → List Float → Call → List Entry
@@ -56,6 +57,7 @@ answeredBy r l ask = []
 answeredBy r l progress = []
 answeredBy r l (stop n) = []
 answeredBy r l last = []
+answeredBy r l counts = []
 
 -- ---- of a whole list of calls
 unfoldable pub handed : Run → List Float → List Call → List Handing

@@ -21,10 +21,11 @@ use Rattle.search_answer.specs.Answer.{answerDef}
 use Rattle.search_calls.specs.Result.{resultDef}
 use Rattle.search_calls.specs.Progress.{progressDef}
 use Rattle.search_calls.specs.Stop.{stopDef}
-use Rattle.book.specs.Calls.{Call, next, seed, answer, ask, progress, stop, nothing-left, floor, Reply, candidate, over, part, scored, skipped, result, bar, stopped, refused, last, line, noLine}
+use Rattle.book.specs.Calls.{Call, next, seed, answer, ask, progress, stop, nothing-left, floor, Reply, candidate, over, part, scored, skipped, result, bar, stopped, refused, last, line, noLine, counts, counted}
 use Rattle.search_calls.specs.declared.last.LastLine.{LastLine}
 use Rattle.search_calls.specs.declared.last.LastLine.the-variants as lastline
 use Rattle.search_calls.specs.Last.{lastDef}
+use Rattle.search_calls.specs.Counts.{countsDef}
 
 -- ---- the entry points' replies, by 01's numbers
 abbrev pub handedReply : Handed → Reply
@@ -71,6 +72,7 @@ runCall r l ask = record { reply = resultedReply (resultDef r); run = r; list = 
 runCall r l progress = record { reply = progressReply (progressDef r); run = r; list = l }
 runCall r l (stop n) = record { reply = stoppedReply (stopDef r (take n l)); run = r; list = l }
 runCall r l last = record { reply = lastReply (lastDef r); run = r; list = l }
+runCall r l counts = record { reply = counted (countsDef r); run = r; list = l }
 
 unfoldable pub walk : Run → List Float → List Call → List Reply
 walk r l [] = []

@@ -1,29 +1,31 @@
 -- The five counts are those of the replies and of the journal's lines; they add up to the answers, the seeds handed out are that sum and the waiting one, and a
 -- refused call counts nowhere. Assumes nothing.
-use Prim.Native.Nat.{ℕ, zero, suc, _+_, _≤_}
+use Prim.Native.Nat.{ℕ, _+_, _≤_}
 use native.Mathlib.Omega.{arith}
 use mathlib.Core.Path.{_≡_, refl, sym, ap, _∙_}
 use mathlib.Core.Bool.{true, false, cond}
 use mathlib.Core.List.{List, [], _∷_, _++_, map, map-append}
 use lib.Dec.{ltb, eqb}
-use lib.ListN.{length, length-append}
+use lib.ListN.{length-append}
 use Rattle.common.specs.Tests.{case}
 use Rattle.common.specs.Each.{All}
-use Rattle.camera_tilt.specs.declared.sensor.ScheimpflugParams.{ScheimpflugParams}
 use Rattle.score_outcome.specs.declared.Outcome.{Outcome}
 use Rattle.score_outcome.specs.declared.Outcome.the-variants.{Skipped, Scored}
 use Rattle.score_outcome.specs.Evaluation.{findingRefusal, outcomeOf}
-use Rattle.journal_line.specs.declared.Line.{Line}
+use Rattle.journal_line.specs.Counts.{kindOf, one, countIn, countsIn}
+use Rattle.journal_line.specs.CountLaws.{count-snoc}
 use Rattle.journal_line.specs.Reading.{Lines}
 use Rattle.journal_line.specs.Outcome.{recordedAs}
-use Rattle.book.specs.Calls.{Call, next, seed, answer, ask, Reply, candidate, over, refused, progress, stop, last}
-use Rattle.book.specs.Book.{Inputs, demand, Entry, Book, entries, number, current, runBest, opened, withWaiting, bookEnter, Kept as Answer, bookNext, bookSeed, bookAnswer, bookResult, bookProgress, bookStop, bookLast, lastOf, bookCall, replyTo, replies, after, lineOf}
+use Rattle.journal_line.specs.Report.{total}
+use Rattle.book.specs.Calls.{Call, next, seed, answer, ask, Reply, candidate, over, refused, progress, stop, last, counts, counted}
+use Rattle.book.specs.Book.{Inputs, demand, Book, entries, number, current, runBest, opened, withWaiting, bookEnter, Kept as Answer, bookNext, bookSeed, bookAnswer, bookResult, bookProgress, bookStop, bookLast, lastOf, tally, bookCounts, bookCall, replyTo, replies, after, lineOf}
 use Rattle.book.proofs.Cases.{case-chosen, case-option}
-use Rattle.book.proofs.Moves.{entry, Stands, enter-holds, await-holds}
-use Rattle.book.proofs.Good.{Good, Proper}
+use Rattle.book.proofs.Moves.{entry, enter-holds, await-holds}
+use Rattle.book.proofs.Good.{Good}
+use Rattle.book.proofs.Tally.{tally-total}
 use Rattle.book_journal.specs.Lines.{linesOf}
 use Rattle.book_journal.specs.History.{Opening, fresh, from, openedBy, History, bookAt, InputsFit, CallFits}
-use Rattle.book_journal.specs.Counts.{kindOf, one, countIn, total, said, saidIn, isAnswer, answersIn, isHanding, handedIn, CountsAgree, InJournal}
+use Rattle.book_journal.specs.Counts.{said, saidIn, isAnswer, answersIn, isHanding, handedIn, CountsAgree, InJournal}
 use Rattle.book_journal.proofs.Kept.{kept-at}
 use Rattle.book_journal.proofs.Again.{sound-at, lines-right}
 use Rattle.book_journal.proofs.Cut.{none-waits}
@@ -41,7 +43,7 @@ no-answer : Quiet over
 no-answer = ((λ k. refl), refl, refl)
 
 pub says : (b : Book) (c : Call) → Says b (bookCall b c)
-unfolding bookCall bookNext bookSeed bookAnswer bookResult bookProgress bookStop bookLast
+unfolding bookCall bookNext bookSeed bookAnswer bookResult bookProgress bookStop bookLast bookCounts
 says b (next n) =
     case (b .waits) (λ w. simp w (quiet refl no-answer)) (λ w.
     case (ltb n (demand (b .inputs))) (λ s. simp (w, s) (quiet refl no-answer)) (λ s.
@@ -61,6 +63,7 @@ says b ask = case (b .over) (λ o. case-chosen (runBest b) (λ e. simp (o, e) (q
 says b progress = quiet refl no-answer
 says b (stop n) = case (ltb n (demand (b .inputs))) (λ t. simp t (quiet refl no-answer)) (λ t. simp t (quiet refl no-answer))
 says b last = case-option (lastOf (entries b)) (λ e. simp e (quiet refl no-answer)) (λ a e. simp e (quiet refl no-answer))
+says b counts = quiet refl no-answer
 
 -- ---- an outcome's reply
 reply-kind : (k : ℕ) (o : Outcome) → said k (replyTo o) ≡ one k (kindOf (recordedAs o))
@@ -71,19 +74,13 @@ pub reply-answers : (o : Outcome) → (isAnswer (replyTo o) ≡ 1) × (isHanding
 reply-answers (Skipped n) = (refl, refl)
 reply-answers (Scored s) = (refl, refl)
 
--- ---- lines in a row
-count-append : (k : ℕ) (ls ms : List Line) → countIn k (ls ++ ms) ≡ countIn k ls + countIn k ms
-unfolding countIn
-count-append k [] ms = omega arith
-count-append k (l ∷ ls) ms = omega (arith, count-append k ls ms)
-
+-- ---- one more entry
 pub lines-enter : (b : Book) (o : Outcome) → linesOf (bookEnter b o) ≡ linesOf b ++ lineOf (entry b o) ∷ []
 lines-enter b o = ap (map lineOf) (enter-holds b o .0) ∙ map-append lineOf (entries b) (entry b o ∷ [])
 
--- one more entry is one more of its kind, as the run's record keeps the counts
-pub count-enter : (k : ℕ) (b : Book) (o : Outcome) → countIn k (linesOf (bookEnter b o)) ≡ countIn k (linesOf b) + one k (kindOf (recordedAs o))
-unfolding countIn
-count-enter k b o = ap (countIn k) (lines-enter b o) ∙ count-append k (linesOf b) (lineOf (entry b o) ∷ []) ∙ omega arith
+-- is one more of its kind, as the run's record keeps the counts
+count-enter : (k : ℕ) (b : Book) (o : Outcome) → countIn k (linesOf (bookEnter b o)) ≡ countIn k (linesOf b) + one k (kindOf (recordedAs o))
+count-enter k b o = ap (countIn k) (lines-enter b o) ∙ count-snoc k (linesOf b) (lineOf (entry b o))
 
 -- ---- one call
 abbrev waiting : Book → ℕ
@@ -142,27 +139,6 @@ refused-stays b c n h = go (bookCall b c) (says b c) h
     go d (hands-out w e r) h = let x : candidate (number b) ≡ refused n = sym r ∙ h in let z : _≡_ {A = ℕ} 0 1 = cc in absurd (omega arith)
     go d (answers-with o w e r) h = absurd (entered o (sym r ∙ h))
 
--- ---- every entry is of one of the five kinds
-five-kinds : (k : ℕ) → k ≤ 4 → one 0 k + one 1 k + one 2 k + one 3 k + one 4 k ≡ 1
-five-kinds zero h = refl
-five-kinds (suc zero) h = refl
-five-kinds (suc (suc zero)) h = refl
-five-kinds (suc (suc (suc zero))) h = refl
-five-kinds (suc (suc (suc (suc zero)))) h = refl
-five-kinds (suc (suc (suc (suc (suc k))))) h = absurd (omega arith)
-
-kind-most : (i : Inputs) (t : ScheimpflugParams) (o : Outcome) → Stands i t o → kindOf (recordedAs o) ≤ 4
-kind-most i t (Skipped n) s = s .1
-kind-most i t (Scored g) s = omega arith
-
-total-entries : (i : Inputs) (es : List Entry) → All (Proper i) es → total (map lineOf es) ≡ length es
-unfolding countIn
-total-entries i [] p = refl
-total-entries i (e ∷ es) p =
-    let x = five-kinds (kindOf (recordedAs (e .outcome))) (kind-most i (e .seed .sensor) (e .outcome) (p .0 .stands)) in
-    let y = total-entries i es (p .1) in
-    omega arith
-
 -- ---- a history
 pub few-entries : (i : Inputs) (b : Book) → Good i b → number b ≤ 656
 few-entries i b g =
@@ -178,14 +154,19 @@ unfolding opened
 opening-calm i fresh = refl
 opening-calm i (from bs) = none-waits i [] bs
 
+counts-reply : (b : Book) → bookCall b counts .reply ≡ counted (countsIn (linesOf b))
+unfolding bookCall bookCounts tally
+counts-reply b = refl
+
 pub counts-agree : (i : Inputs) (h : History i) → CountsAgree i h
 counts-agree i h =
     let o = openedBy i (h .opening) in
     let b = bookAt h in
     let g = kept-at i h .good in
-    let t : total (linesOf b) ≡ number b = total-entries (b .inputs) (entries b) (g .core .proper) in
+    let t : total (countsIn (linesOf b)) ≡ number b = unfold tally in tally-total (b .inputs) (entries b) (g .core .proper) in
     record {
       tallied = λ k. sym (counts-calls k o (h .calls));
+      replied = counts-reply b;
       answers = t ∙ sym (number-calls o (h .calls));
       handed-out =
           let x = handed-calls o (h .calls) in

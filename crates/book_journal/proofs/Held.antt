@@ -8,14 +8,14 @@ use mathlib.Core.List.{List, [], _∷_, _++_, append-nil, List·Memᴰ, List·Me
 use lib.Dec.{ltb, eqb}
 use lib.IntN.{pos}
 use lib.ListN.{length, getD, drop}
-use lib.Ieee.{Float, nan, binary64, ofBits, lt, neg, ofInt, isNan}
+use lib.Ieee.{Float, nan, binary64, ofBits, lt, neg, ofInt}
 use lib.Ieee.Bits.{ofBits-fits}
 use lib.Ieee.Fits.{add-fits, div-fits, neg-fits, nan-fits, cond-fits}
 use Rattle.common.specs.Tests.{case}
 use Rattle.common.specs.All.{all-append, all-left, all-right}
 use Rattle.common.specs.Each.{All}
 use Rattle.float.specs.Binary64.{_+₆₄_, _/₆₄_}
-use Rattle.float.specs.Float.{isFinite, clampOf}
+use Rattle.float.specs.Float.{clampOf}
 use Rattle.float.specs.Literals.{infinity}
 use Rattle.camera_models.specs.declared.math.Pt2.{Pt2}
 use Rattle.camera_models.specs.declared.intrinsics.FxFyCxCy.{FxFyCxCy}
@@ -42,7 +42,7 @@ use Rattle.score_best.specs.Order.{found-leads}
 use Rattle.journal_line.specs.declared.Line.{Line}
 use Rattle.journal_line.specs.Line.{Fits, recordedNumbers, LineFits}
 use Rattle.journal_line.specs.Outcome.{recordedAs, outcomeIn}
-use Rattle.book.specs.Calls.{Call, next, seed, answer, ask, progress, stop, last}
+use Rattle.book.specs.Calls.{Call, next, seed, answer, ask, progress, stop, last, counts}
 use Rattle.book.specs.Book.{Inputs, demand, Entry, Book, entries, noSeed, current, scoredOf, roundBest, runBest, orElse, firstList, listAround, opened, withWaiting, withEntry, withRound, withEnd, bookEnter, Kept, bookCall, after}
 use Rattle.book.proofs.Cases.{case-outcome}
 use Rattle.book.proofs.Moves.{entry, Closing, close-by, enter-by, enteredBy, Moves, stays, hands, enters, moves}
@@ -181,6 +181,7 @@ entered-held b ask o k e = absurd (no-entry b o e)
 entered-held b progress o k e = absurd (no-entry b o e)
 entered-held b (stop n) o k e = absurd (no-entry b o e)
 entered-held b last o k e = absurd (no-entry b o e)
+entered-held b counts o k e = absurd (no-entry b o e)
 
 -- ---- a book's
 abbrev pub HeldEntry : Entry → Type 0

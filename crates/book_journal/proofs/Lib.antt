@@ -14,4 +14,5 @@ pub mod Counted
 pub mod Stretched
 pub mod Live
 pub mod Written
+pub mod Reported
 pub mod Theorem

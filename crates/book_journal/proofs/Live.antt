@@ -21,13 +21,14 @@ use Rattle.score_outcome.specs.Evaluation.{findingRefusal, outcomeOf}
 use Rattle.score_best.specs.Best.{noBest}
 use Rattle.search_record.specs.declared.run.Run.{Run}
 use Rattle.search_answer.specs.Answer as ans
-use Rattle.book.specs.Calls.{Call, next, seed, answer, ask, progress, stop, last}
+use Rattle.book.specs.Calls.{Call, next, seed, answer, ask, progress, stop, last, counts}
 use Rattle.book.specs.Book.{Inputs, demand, Book, current, roundBest, runBest, orElse, listAround, opened, withWaiting, withEntry, withRound, withEnd, closeRound, bookEnter, Kept as Answer, bookAnswer, bookCall}
 use Rattle.book.specs.Conditions.{NoneHolds, conditions}
 use Rattle.book.specs.Walk.{runCall}
 use Rattle.book.specs.Trace as trace
+use Rattle.search_start.specs.declared.Started.the-variants.{Accepted}
 use Rattle.book.specs.Lent.{Lent}
-use Rattle.book.specs.Theorem.{startedList}
+use Rattle.book.specs.Theorem.{startOf, startedList}
 use Rattle.book.proofs.Cases.{case-chosen, case-list}
 use Rattle.book.proofs.Moves.{outcome-stands, enteredBy, Moves, stays, hands, enters, moves, call-by}
 use Rattle.book.proofs.Good.{Good, waits-going, steps}
@@ -182,6 +183,7 @@ call-list i b l ask g = sym (call-unchanged b ask l refl)
 call-list i b l progress g = sym (call-unchanged b progress l refl)
 call-list i b l (stop n) g = sym (call-unchanged b (stop n) l refl)
 call-list i b l last g = sym (call-unchanged b last l refl)
+call-list i b l counts g = sym (call-unchanged b counts l refl)
 
 -- ---- any calls
 pub live-list : (i : Inputs) (b : Book) (l : List Float) (cs : List Call) → State i b l → trace.listAfter (runOf b) l cs ≡ listUnder b l cs
@@ -194,10 +196,13 @@ live-list i b l (c ∷ cs) g =
     rw (a .run) (live-list i (bookCall b c .book) (runCall (runOf b) l c .list) cs next-state ∙ ap (λ (z : List Float). listUnder (bookCall b c .book) z cs) m)
 
 -- ---- 02, E5: the journal of a run that Start opened leaves the list as that run did
+pub start-accepts : (i : Inputs) (l : List Float) (r : Run) → startOf i l ≡ Accepted r → NoneHolds (conditions i (length l))
+start-accepts i l r h = start-number i (length l) .accepts .0 (unfold startNumber in accepted i l r h .0)
+
 pub live-buffer : (i : Inputs) (l : List Float) (r : Run) (cs : List Call) → InputsFit i → All CallFits cs → LiveBuffer i l r cs
 live-buffer i l r cs f k h =
     let z = accepted i l r h .0 in
-    let a : NoneHolds (conditions i (length l)) = start-number i (length l) .accepts .0 (unfold startNumber in z) in
+    let a = start-accepts i l r h in
     let o = opens i l r h in
     let past : History i = record { room = length l; accepted = a; opening = fresh; calls = cs } in
     run-again i past f k l a .same-buffer

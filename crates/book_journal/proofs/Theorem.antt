@@ -14,6 +14,7 @@ use Rattle.book_journal.proofs.GoingOn as going
 use Rattle.book_journal.proofs.Counted as counting
 use Rattle.book_journal.proofs.Stretched as stretching
 use Rattle.book_journal.proofs.Written.{written-is-journal}
+use Rattle.book_journal.proofs.Reported.{written-report, resumed-report}
 
 pub journals-right : JournalsRight
 journals-right = record {
@@ -43,6 +44,8 @@ journals-right = record {
   journal-grows = going.journal-grows;
   counts-agree = counting.counts-agree;
   in-journal = λ i h f. counting.in-journal i h (f .inputs-fit) (f .calls-fit);
+  written-report = written-report;
+  resumed-report = resumed-report;
   groups = stretching.groups;
   stretches-right = stretching.stretches-right;
   line-stretches-right = λ i h f. stretching.line-stretches-right i h (f .inputs-fit) (f .calls-fit);

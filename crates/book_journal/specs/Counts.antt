@@ -1,36 +1,16 @@
--- 02, E6: how many candidates were scored and how many skipped for each reason, counted over lines of the journal and over replies, and that these agree, as types.
--- Definitions only.
+-- 02, E6: how many candidates were scored and how many skipped for each reason, over the lines of the journal, over replies and as the counts call gives them, and
+-- that these agree, as types. Definitions only.
 use Prim.Native.Nat.{ℕ, _+_, _≤_}
 use mathlib.Core.Path.{_≡_}
 use mathlib.Core.Bool.{cond}
 use mathlib.Core.List.{List, [], _∷_}
-use lib.Dec.{eqb}
-use Rattle.journal_line.specs.declared.Recorded.{Recorded}
-use Rattle.journal_line.specs.declared.Recorded.the-variants as recorded
-use Rattle.journal_line.specs.declared.Line.{Line}
+use Rattle.journal_line.specs.Counts.{one, countIn, countsIn}
 use Rattle.journal_line.specs.Reading.{readJournal}
-use Rattle.book.specs.Calls.{Call, Reply, candidate, over, part, scored, skipped, result, bar, stopped, line, noLine, refused}
+use Rattle.journal_line.specs.Report.{total}
+use Rattle.book.specs.Calls.{Call, Reply, candidate, over, part, scored, skipped, result, bar, stopped, line, noLine, refused, counts, counted}
 use Rattle.book.specs.Book.{Inputs, number, bookCall, replies}
 use Rattle.book_journal.specs.Lines.{linesOf, journalOf}
 use Rattle.book_journal.specs.History.{openedBy, History, bookAt}
-
--- ---- the kinds: 0 for scored, 1 to 4 for skipped for that reason
-abbrev pub kindOf : Recorded → ℕ
-kindOf (recorded.Scored m) = 0
-kindOf (recorded.Skipped reason) = reason
-
--- 1 of what is of kind k
-abbrev pub one : ℕ → ℕ → ℕ
-one k kind = cond (eqb kind k) 1 0
-
--- how many of some lines are of kind k
-unfoldable pub countIn : ℕ → List Line → ℕ
-countIn k [] = 0
-countIn k (l ∷ ls) = one k (kindOf (l .outcome)) + countIn k ls
-
--- the sum of the five counts
-abbrev pub total : List Line → ℕ
-total ls = countIn 0 ls + countIn 1 ls + countIn 2 ls + countIn 3 ls + countIn 4 ls
 
 -- ---- by the replies: how many of kind k were answered, how many in all, and how many seeds were handed out
 abbrev pub said : ℕ → Reply → ℕ
@@ -44,6 +24,7 @@ said k (bar p) = 0
 said k (stopped c r) = 0
 said k (line l) = 0
 said k noLine = 0
+said k (counted c) = 0
 said k (refused n) = 0
 
 unfoldable pub saidIn : ℕ → List Reply → ℕ
@@ -61,6 +42,7 @@ isAnswer (bar p) = 0
 isAnswer (stopped c r) = 0
 isAnswer (line l) = 0
 isAnswer noLine = 0
+isAnswer (counted c) = 0
 isAnswer (refused n) = 0
 
 unfoldable pub answersIn : List Reply → ℕ
@@ -78,6 +60,7 @@ isHanding (bar p) = 0
 isHanding (stopped c r) = 0
 isHanding (line l) = 0
 isHanding noLine = 0
+isHanding (counted c) = 0
 isHanding (refused n) = 0
 
 unfoldable pub handedIn : List Reply → ℕ
@@ -88,12 +71,14 @@ handedIn (r ∷ rs) = isHanding r + handedIn rs
 pub record CountsAgree (i : Inputs) (h : History i) : Type 0 where
   -- each count, by the replies
   pub tallied : (k : ℕ) → countIn k (linesOf (bookAt h)) ≡ countIn k (linesOf (openedBy i (h .opening))) + saidIn k (replies (openedBy i (h .opening)) (h .calls))
+  -- the counts call gives them
+  pub replied : bookCall (bookAt h) counts .reply ≡ counted (countsIn (linesOf (bookAt h)))
   -- together they count the answers
-  pub answers : total (linesOf (bookAt h)) ≡ number (openedBy i (h .opening)) + answersIn (replies (openedBy i (h .opening)) (h .calls))
+  pub answers : total (countsIn (linesOf (bookAt h))) ≡ number (openedBy i (h .opening)) + answersIn (replies (openedBy i (h .opening)) (h .calls))
   -- Next handed out one seed for each of them, and one more where a seed waits
-  pub handed-out : number (openedBy i (h .opening)) + handedIn (replies (openedBy i (h .opening)) (h .calls)) ≡ total (linesOf (bookAt h)) + cond (bookAt h .waits) 1 0
+  pub handed-out : number (openedBy i (h .opening)) + handedIn (replies (openedBy i (h .opening)) (h .calls)) ≡ total (countsIn (linesOf (bookAt h))) + cond (bookAt h .waits) 1 0
   -- so that the report is never refused for it
-  pub few : total (linesOf (bookAt h)) ≤ 656
+  pub few : total (countsIn (linesOf (bookAt h))) ≤ 656
   -- a call that is refused enters nothing
   pub refused-nowhere : (c : Call) (n : ℕ) → bookCall (bookAt h) c .reply ≡ refused n → bookCall (bookAt h) c .book ≡ bookAt h
 

@@ -8,7 +8,7 @@ use Rattle.camera_models.specs.declared.intrinsics.FxFyCxCy.{FxFyCxCy}
 use Rattle.score_outcome.specs.declared.Finding.{Finding}
 use Rattle.score_outcome.specs.declared.Finding.the-variants.{Failed, Solved}
 use Rattle.journal_line.specs.Line.{Fits}
-use Rattle.book.specs.Calls.{Call, next, seed, answer, ask, progress, stop, last}
+use Rattle.book.specs.Calls.{Call, next, seed, answer, ask, progress, stop, last, counts}
 use Rattle.book.specs.Book.{Inputs, Entry, Book, firstList, opened, bookEnter, bookCall, after}
 use Rattle.book.specs.Conditions.{NoneHolds, conditions}
 use Rattle.seed_rules.specs.Layout.{written}
@@ -55,6 +55,7 @@ CallFits ask = Unit {0}
 CallFits progress = Unit {0}
 CallFits (stop n) = Unit {0}
 CallFits last = Unit {0}
+CallFits counts = Unit {0}
 
 -- ---- a book with no seed waiting, and outcomes entered in one after the other
 unfoldable pub atRest : Book → Book

@@ -7,5 +7,6 @@ pub mod Counts
 pub mod Stretches
 pub mod Live
 pub mod Written
+pub mod Reported
 pub mod Theorem
 pub mod Worked

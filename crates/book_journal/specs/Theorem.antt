@@ -21,6 +21,7 @@ use Rattle.book_journal.specs.Counts.{CountsAgree, InJournal}
 use Rattle.book_journal.specs.Stretches.{Groups, StretchesRight, LineStretchesRight}
 use Rattle.book_journal.specs.Live.{LiveBuffer, Continues, ContinuesToEnd}
 use Rattle.book_journal.specs.Written.{WrittenIsJournal}
+use Rattle.book_journal.specs.Reported.{WrittenReport, ResumedReport}
 
 -- a history whose numbers are binary64's, as all of a program are
 pub record Fitting (i : Inputs) (h : History i) : Type 0 where
@@ -61,6 +62,9 @@ pub record JournalsRight : Type 0 where
   -- ---- E6
   pub counts-agree : (i : Inputs) (h : History i) → CountsAgree i h
   pub in-journal : (i : Inputs) (h : History i) → Fitting i h → InJournal h
+  -- after any calls of a run that Start opened, and of one that Resume gave back
+  pub written-report : (i : Inputs) (l : List Float) (r : Run) (cs : List Call) → InputsFit i → All CallFits cs → WrittenReport i l r cs
+  pub resumed-report : (i : Inputs) (l : List Float) (bs : List ℕ) (cs : List Call) → InputsFit i → All CallFits cs → ResumedReport i l bs cs
   -- ---- E14
   pub groups : Groups
   pub stretches-right : (b : Book) → StretchesRight b

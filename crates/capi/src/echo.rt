@@ -29,6 +29,7 @@ use capi_records::run::ResultFlat;
 use capi_records::run::StartFlat;
 use capi_records::run::StopFlat;
 use capi_records::scoring::ErrorCountReply;
+use journal_line::Counts;
 use score_best::Candidate;
 use score_camera::pinhole::PinholeCamera;
 use score_rows::TiltTrig;
@@ -276,6 +277,13 @@ pub extern "C" fn jc_echo_read_flat(x: ReadReply) -> ReadReply
 
 #[no_mangle]
 pub extern "C" fn jc_echo_last_line_record(x: LastRecord) -> LastRecord
+    ensures { λ r. ⌜ r ≡ x ⌝ }
+{
+    x
+}
+
+#[no_mangle]
+pub extern "C" fn jc_echo_counts(x: Counts) -> Counts
     ensures { λ r. ⌜ r ≡ x ⌝ }
 {
     x

@@ -1,7 +1,8 @@
-// The journal: a line written to a lent buffer, and read from a place.
+// The journal: a line written to a lent buffer, and read from a place; and the report of a run's counts.
 ghost use mathlib.Core.Path.{_≡_};
 ghost use Rattle.journal_line.specs.Writing.{writeReply, writeInto};
 ghost use Rattle.journal_line.specs.Reading.{readLine};
+ghost use Rattle.journal_line.specs.Report.{reportReply, reportInto};
 ghost use Rattle.capi_records.specs.Journal.{lineFrom, flatWritten, flatRead};
 use capi_records::journal::LineRecord;
 use capi_records::journal::ReadReply;
@@ -9,6 +10,8 @@ use capi_records::journal::WriteReply;
 use capi_records::journal::line_of;
 use capi_records::journal::read_reply;
 use capi_records::journal::write_reply;
+use journal_line::Counts;
+use journal_line::report;
 use journal_line::writing;
 
 // The line's bytes at the front of `to`; 0 and how many, or 28.
@@ -26,4 +29,13 @@ pub extern "C" fn jc_read_line(bytes: &[u8], at: usize) -> ReadReply
     ensures { λ r. ⌜ r ≡ flatRead (readLine (now (bytes .entry)) at) at ⌝ }
 {
     read_reply(journal_reader::read_at(bytes, at), at)
+}
+
+// The report's bytes at the front of `to`; 0 and how many, or 28.
+#[no_mangle]
+pub extern "C" fn jc_write_report(counts: Counts, to: &mut [u8]) -> WriteReply
+    ensures reply { λ r. ⌜ r ≡ flatWritten (reportReply counts (now (to .entry))) ⌝ }
+    ensures written { λ _. ⌜ now (to .exit) ≡ reportInto counts (now (to .entry)) ⌝ }
+{
+    write_reply(report::write_report(counts, to))
 }

@@ -1,4 +1,4 @@
-// The search: Start, Next, the seed call, Answer, Result, the progress call and the stop call over the run's record. The caller keeps the record that a call returns and hands it to the next.
+// The search: Start, Next, the seed call, Answer, Result, the progress call, the stop call, the last line and the counts over the run's record. The caller keeps the record that a call returns and hands it to the next.
 ghost use mathlib.Core.Path.{_≡_};
 ghost use Rattle.search_start.specs.Start.{startReply, startList};
 ghost use Rattle.search_calls.specs.Next.{nextDef, seedPart};
@@ -7,6 +7,7 @@ ghost use Rattle.search_calls.specs.Result.{resultDef};
 ghost use Rattle.search_calls.specs.Progress.{progressDef};
 ghost use Rattle.search_calls.specs.Stop.{stopDef};
 ghost use Rattle.search_calls.specs.Last.{lastDef};
+ghost use Rattle.search_calls.specs.Counts.{countsDef};
 ghost use Rattle.capi_records.specs.Record.{optionsFrom, runFrom};
 ghost use Rattle.capi_records.specs.Run.{flatStarted, flatNext, flatAnswer, flatResult, flatStopped, flatLastLine, findingOf, copied, copyCount};
 use camera_models::intrinsics::FxFyCxCy;
@@ -29,6 +30,7 @@ use capi_records::run::next_flat;
 use capi_records::run::result_flat;
 use capi_records::run::start_flat;
 use capi_records::run::stop_flat;
+use journal_line::Counts;
 use score_camera::pinhole::PinholeCamera;
 use search_calls::progress::ProgressReply;
 
@@ -128,4 +130,12 @@ pub extern "C" fn jc_last_line(run: RunRecord) -> LastRecord
     ensures { λ r. ⌜ r ≡ flatLastLine (lastDef (runFrom run)) ⌝ }
 {
     last_flat(search_calls::last::last_line(run_of(run)))
+}
+
+// How many candidates were scored, and how many skipped for each reason.
+#[no_mangle]
+pub extern "C" fn jc_counts(run: RunRecord) -> Counts
+    ensures { λ r. ⌜ r ≡ countsDef (runFrom run) ⌝ }
+{
+    search_calls::counts::counts(run_of(run))
 }

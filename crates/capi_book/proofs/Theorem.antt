@@ -42,7 +42,7 @@ use Rattle.book.specs.Calls.{Reply, part}
 use Rattle.book.specs.Walk.{Step, handedReply, answeredReply, resultedReply, progressReply, stoppedReply, lastReply, runCall, walk}
 use Rattle.book.specs.Theorem.{optionsOf, startOf, startedList}
 use Rattle.book.proofs.Theorem.{search-is-book}
-use Rattle.capi_book.specs.Exported.{Exported, jc-next, jc-seed, jc-answer, jc-result, jc-progress, jc-stop, jc-last-line, callOf, readNext, readAnswer, readResult, readProgress, readStop, readLast, FlatStep, flatCall, flatWalk}
+use Rattle.capi_book.specs.Exported.{Exported, jc-next, jc-seed, jc-answer, jc-result, jc-progress, jc-stop, jc-last-line, jc-counts, callOf, readNext, readAnswer, readResult, readProgress, readStop, readLast, FlatStep, flatCall, flatWalk}
 use Rattle.capi_book.specs.Theorem.{ExportedIsWalk, ExportedIsBook}
 
 -- ---- the record in a reply
@@ -153,6 +153,7 @@ call-same r l jc-result = record { reply = rw (run-back r) (result-read r); run 
 call-same r l jc-progress = record { reply = rw (run-back r) (progress-read (progressDef r)); run = refl; list = refl }
 call-same r l (jc-stop n) = record { reply = rw (run-back r) (stop-read r (take n l)); run = refl; list = refl }
 call-same r l jc-last-line = record { reply = rw (run-back r) (last-read r); run = refl; list = refl }
+call-same r l jc-counts = record { reply = rw (run-back r) refl; run = refl; list = refl }
 
 walk-more : (r : Run) (l : List Float) (c : Exported) (cs : List Exported)
     → ((s : Run) (k : List Float) → flatWalk (flatRun s) k cs ≡ walk s k (map callOf cs)) → flatWalk (flatRun r) l (c ∷ cs) ≡ walk r l (map callOf (c ∷ cs))

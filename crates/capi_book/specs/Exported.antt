@@ -14,6 +14,7 @@ use Rattle.search_calls.specs.Result.{resultDef}
 use Rattle.search_calls.specs.Progress.{progressDef}
 use Rattle.search_calls.specs.Stop.{stopDef}
 use Rattle.search_calls.specs.Last.{lastDef}
+use Rattle.search_calls.specs.Counts.{countsDef}
 use Rattle.capi_records.specs.declared.record.LastRecord.{LastRecord}
 use Rattle.capi_records.specs.declared.record.RunRecord.{RunRecord}
 use Rattle.capi_records.specs.declared.run.NextFlat.{NextFlat}
@@ -24,7 +25,7 @@ use Rattle.capi_records.specs.Journal.{lineFrom}
 use Rattle.capi_records.specs.Record.{isSet, runFrom}
 use Rattle.capi_records.specs.Run.{flatNext, flatAnswer, flatResult, flatStopped, flatLastLine, findingOf, copied, copyCount}
 use Rattle.score_best.specs.Best.{nothing, chosen}
-use Rattle.book.specs.Calls.{Call, nothing-left, floor, Reply, candidate, over, part, scored, skipped, result, bar, stopped, line, noLine, refused}
+use Rattle.book.specs.Calls.{Call, nothing-left, floor, Reply, candidate, over, part, scored, skipped, result, bar, stopped, line, noLine, counted, refused}
 use Rattle.book.specs.Calls as book
 
 -- An exported call with its arguments, but for the run's record and the seed list. n is how many numbers of the list are lent; jc_seed also
@@ -37,6 +38,7 @@ pub data Exported : Type 0 where
   jc-progress : Exported
   jc-stop : ℕ → Exported
   jc-last-line : Exported
+  jc-counts : Exported
 
 -- the call of the book that it makes
 abbrev pub callOf : Exported → Call
@@ -47,6 +49,7 @@ callOf jc-result = book.ask
 callOf jc-progress = book.progress
 callOf (jc-stop n) = book.stop n
 callOf jc-last-line = book.last
+callOf jc-counts = book.counts
 
 -- ---- what a host reads off a reply: a number that isn't 0 is a refusal's, and then the flags say which field counts
 abbrev pub readNext : NextFlat → Reply
@@ -89,6 +92,7 @@ flatCall r l jc-result = record { reply = readResult (flatResult (resultDef (run
 flatCall r l jc-progress = record { reply = readProgress (progressDef (runFrom r)); run = r; list = l }
 flatCall r l (jc-stop n) = record { reply = readStop (flatStopped (stopDef (runFrom r) (take n l))); run = r; list = l }
 flatCall r l jc-last-line = record { reply = readLast (flatLastLine (lastDef (runFrom r))); run = r; list = l }
+flatCall r l jc-counts = record { reply = counted (countsDef (runFrom r)); run = r; list = l }
 
 unfoldable pub flatWalk : RunRecord → List Float → List Exported → List Reply
 flatWalk r l [] = []

@@ -5,6 +5,7 @@ use lib.Dec.{eqb}
 use Rattle.float.specs.Literals.{plusZero}
 use Rattle.score_best.specs.declared.Best.{Best}
 use Rattle.score_best.specs.Best.{noBest}
+use Rattle.journal_line.specs.Counts.{noCounts}
 use Rattle.search_record.specs.Record.{nobody}
 use Rattle.search_record.specs.declared.run.LastAnswer.{LastAnswer}
 use Rattle.search_record.specs.declared.run.Options.{Options}
@@ -78,6 +79,7 @@ runFrom r = record {
   «round_best» = bestFrom (r .«round_best»);
   «run_best» = bestFrom (r .«run_best»);
   last = lastFrom (r .last);
+  counts = r .counts;
 }
 
 abbrev pub flatRun : Run → RunRecord
@@ -89,6 +91,7 @@ flatRun r = record {
   «round_best» = flatBest (r .«round_best»);
   «run_best» = flatBest (r .«run_best»);
   last = flatLast (r .last);
+  counts = r .counts;
 }
 
 -- all zeros
@@ -101,4 +104,5 @@ noRun = record {
   «round_best» = flatBest noBest;
   «run_best» = flatBest noBest;
   last = record { found = 0; line = noLine };
+  counts = noCounts;
 }

@@ -1,7 +1,7 @@
 -- A run that crosses the boundary and comes back is the run that it was, and so is a line that the journal can have. Assumes nothing.
 use Prim.Native.Nat.{ℕ, _≤_}
 use mathlib.Core.Path.{_≡_, refl}
-use mathlib.Core.Bool.{Bool, true, false, _&&_}
+use mathlib.Core.Bool.{Bool, true, false}
 use native.Mathlib.Omega.{arith}
 use borrow.Author.Tests.{leb-true, ne-eqb}
 use lib.Dec.{leb}

@@ -4,9 +4,11 @@ ghost use Rattle.capi_records.specs.Record.{flagOf, optionsFrom, flatOpt
 use crate::journal::LineRecord;
 use crate::journal::no_line;
 use camera_models::math::Pt2;
+use journal_line::Counts;
 use journal_line::ScoredFields;
 use score_best::Best;
 use score_best::Candidate;
+use search_record::counts::no_counts;
 use search_record::run::LastAnswer;
 use search_record::run::Options;
 use search_record::run::Place;
@@ -62,6 +64,7 @@ pub struct RunRecord {
     pub round_best: BestRecord,
     pub run_best: BestRecord,
     pub last: LastRecord,
+    pub counts: Counts,
 }
 
 pub fn flag(b: bool) -> u8
@@ -208,6 +211,7 @@ pub fn run_of(r: RunRecord) -> Run
     ensures { λ s. ⌜ s ≡ runFrom r ⌝ }
 {
     let center = r.center;
+    let counts = r.counts;
     Run {
         options: options_of(r.options),
         center,
@@ -216,6 +220,7 @@ pub fn run_of(r: RunRecord) -> Run
         round_best: best_of(r.round_best),
         run_best: best_of(r.run_best),
         last: last_of(r.last),
+        counts,
     }
 }
 
@@ -223,6 +228,7 @@ pub fn run_record(r: Run) -> RunRecord
     ensures { λ s. ⌜ s ≡ flatRun r ⌝ }
 {
     let center = r.center;
+    let counts = r.counts;
     RunRecord {
         options: options_record(r.options),
         center,
@@ -231,6 +237,7 @@ pub fn run_record(r: Run) -> RunRecord
         round_best: best_record(r.round_best),
         run_best: best_record(r.run_best),
         last: last_record(r.last),
+        counts,
     }
 }
 
@@ -263,5 +270,6 @@ pub fn no_run() -> RunRecord
             found: 0,
             line: no_line(),
         },
+        counts: no_counts(),
     }
 }

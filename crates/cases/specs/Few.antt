@@ -1,10 +1,10 @@
--- Runs that ask for a share of counted rows: one of three rows is 33 per cent of them and not 34. Definitions only.
+-- Runs that ask for a share of counted rows: one of three rows is 33 per cent of them and not 34; and what is counted of each kind. Definitions only.
 use Prim.Native.Nat.{ℕ}
 use mathlib.Core.Bool.{false}
 use mathlib.Core.List.{List, [], _∷_, _++_}
 use lib.Ieee.{Float}
 use Rattle.score_outcome.specs.declared.Finding.the-variants.{Solved}
-use Rattle.book.specs.Calls.{Call, next, ask, Reply, candidate, over, scored, skipped, result, refused}
+use Rattle.book.specs.Calls.{Call, next, ask, Reply, candidate, over, scored, skipped, result, refused, counts, counted}
 use Rattle.book.specs.Book.{Inputs}
 use Rattle.cases.specs.Words.{bits, f0, quarter, f1, f50, f100, pinhole, centre, solvedWith, seenAt, turn}
 
@@ -40,7 +40,7 @@ fewCalls =
     turn 54 (solvedWith f100 f0) (oneOfThree (seenAt (bits 0x4049_8000_0000_0000))) flags
     ++ turn 54 (solvedWith f100 f0) [] []
     ++ turn 54 (Solved (record { k = record { fx = f100; fy = f100; cx = far; cy = f50 }; dist = record { k1 = f0; k2 = f0; k3 = f0; p1 = f0; p2 = f0 } })) (oneOfThree (f0 ∷ f0 ∷ far ∷ f50 ∷ [])) flags
-    ++ (next 54 ∷ ask ∷ [])
+    ++ (next 54 ∷ ask ∷ counts ∷ [])
 
 -- 33 per cent: the first is scored, no rows have no mean, and the NaN is reason 4
 abbrev pub enoughReplies : List Reply
@@ -52,8 +52,11 @@ enoughReplies =
       sensor = record { «tilt_x» = f0; «tilt_y» = f0 };
       «mean_reproj_error» = f1;
       score = f1;
-    }) ∷ []
+    })
+    ∷ counted (record { scored = 1; «host_failed» = 0; «bad_camera» = 0; «no_mean» = 1; «no_number» = 1 }) ∷ []
 
 -- 34 per cent: all three are reason 3, the NaN too
 abbrev pub fewReplies : List Reply
-fewReplies = candidate 0 ∷ skipped 3 ∷ candidate 1 ∷ skipped 3 ∷ candidate 2 ∷ skipped 3 ∷ refused 11 ∷ refused 11 ∷ []
+fewReplies =
+    candidate 0 ∷ skipped 3 ∷ candidate 1 ∷ skipped 3 ∷ candidate 2 ∷ skipped 3 ∷ refused 11 ∷ refused 11
+    ∷ counted (record { scored = 0; «host_failed» = 0; «bad_camera» = 0; «no_mean» = 3; «no_number» = 0 }) ∷ []

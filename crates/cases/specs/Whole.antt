@@ -1,13 +1,14 @@
 -- A run through three rounds: decomposition and grid seeds, a merged seed and one beyond the bound, equal scores, a round that scores nothing, every
--- skip reason, a scored candidate with a tangential coefficient, and refused calls in between. Definitions only.
+-- skip reason, a scored candidate with a tangential coefficient, and refused calls in between, with the counts while a seed waits and at the end. Definitions only.
 use mathlib.Core.Bool.{false}
 use mathlib.Core.List.{List, [], _∷_, _++_}
 use lib.Ieee.{Float}
 use Rattle.score_outcome.specs.declared.Finding.the-variants.{Failed}
 use Rattle.score_best.specs.declared.Candidate.{Candidate}
+use Rattle.journal_line.specs.Counts.{noCounts}
 use Rattle.search_record.specs.declared.run.Run.{Run}
 use Rattle.search_start.specs.Start.{openingOf}
-use Rattle.book.specs.Calls.{Call, next, seed, answer, ask, Reply, candidate, over, part, scored, skipped, result, refused}
+use Rattle.book.specs.Calls.{Call, next, seed, answer, ask, Reply, candidate, over, part, scored, skipped, result, refused, counts, counted}
 use Rattle.book.specs.Book.{Inputs}
 use Rattle.book.specs.Theorem.{optionsOf}
 use Rattle.cases.specs.Words.{bits, f0, quarter, f1, f50, f100, pinhole, centre, solvedWith, seenAt, inFront, turn, failed}
@@ -44,6 +45,7 @@ roundZero =
     ∷ answer 53 Failed [] []
     ∷ answer 54 (solvedWith f100 f0) [] (1 ∷ [])
     ∷ answer 54 (solvedWith f100 f0) (seenAt f50) (2 ∷ [])
+    ∷ counts
     ∷ answer 54 (solvedWith f100 f0) (seenAt (bits 0x404a_0000_0000_0000)) inFront
     ∷ next 54
     ∷ answer 54 (solvedWith f100 f0) (seenAt (bits 0x4049_fe00_0000_0000)) inFront
@@ -53,7 +55,7 @@ abbrev roundZeroReplies : List Reply
 roundZeroReplies =
     refused 14 ∷ part [] ∷ refused 12 ∷ refused 10
     ∷ candidate 0 ∷ refused 9 ∷ part [] ∷ part (f100 ∷ f100 ∷ f50 ∷ f50 ∷ f0 ∷ f0 ∷ [])
-    ∷ refused 10 ∷ refused 13 ∷ refused 13
+    ∷ refused 10 ∷ refused 13 ∷ refused 13 ∷ counted noCounts
     ∷ scored (bits 0x4000_0000_0000_0000) ∷ candidate 1 ∷ scored (bits 0x4000_0000_0000_0000) ∷ []
 
 -- ---- round 1, around (0, 0) with step 0.125: the host fails, a focal length is 0, no row is counted; and it fails at the rest
@@ -71,9 +73,9 @@ roundOneReplies =
 -- Its score is 1 + 0.25 × 0.05² + 0.25 × 2 × 0.0625², rounded.
 abbrev roundTwo : List Call
 roundTwo =
-    (next 54 ∷ seed 54 ∷ answer 54 (solvedWith f100 (bits 0x3fb9_9999_9999_999a)) (seenAt (bits 0x4049_8000_0000_0000)) inFront ∷ [])
+    (next 54 ∷ seed 54 ∷ counts ∷ answer 54 (solvedWith f100 (bits 0x3fb9_9999_9999_999a)) (seenAt (bits 0x4049_8000_0000_0000)) inFront ∷ [])
     ++ failed 54 ++ failed 54 ++ failed 54 ++ failed 54 ++ failed 54 ++ failed 54 ++ failed 54 ++ failed 54
-    ++ (next 54 ∷ answer 54 Failed [] [] ∷ ask ∷ [])
+    ++ (next 54 ∷ answer 54 Failed [] [] ∷ ask ∷ counts ∷ [])
 
 abbrev small : Float
 small = bits 0xbfb0_0000_0000_0000
@@ -93,10 +95,12 @@ wholeWinner = record {
 
 abbrev roundTwoReplies : List Reply
 roundTwoReplies =
-    candidate 11 ∷ part (f100 ∷ f100 ∷ f50 ∷ f50 ∷ small ∷ small ∷ []) ∷ scored best
+    candidate 11 ∷ part (f100 ∷ f100 ∷ f50 ∷ f50 ∷ small ∷ small ∷ [])
+    ∷ counted (record { scored = 2; «host_failed» = 7; «bad_camera» = 1; «no_mean» = 1; «no_number» = 0 }) ∷ scored best
     ∷ candidate 12 ∷ skipped 1 ∷ candidate 13 ∷ skipped 1 ∷ candidate 14 ∷ skipped 1 ∷ candidate 15 ∷ skipped 1
     ∷ candidate 16 ∷ skipped 1 ∷ candidate 17 ∷ skipped 1 ∷ candidate 18 ∷ skipped 1 ∷ candidate 19 ∷ skipped 1
-    ∷ over ∷ refused 12 ∷ result wholeWinner ∷ []
+    ∷ over ∷ refused 12 ∷ result wholeWinner
+    ∷ counted (record { scored = 3; «host_failed» = 15; «bad_camera» = 1; «no_mean» = 1; «no_number» = 0 }) ∷ []
 
 abbrev pub wholeCalls : List Call
 wholeCalls = roundZero ++ roundOne ++ roundTwo

@@ -2,4 +2,5 @@ mod Bytes
 mod Found
 mod Fits
 mod Parts
+mod Reported
 mod Stores

@@ -1,15 +1,14 @@
 -- The parts of a line, stored one after the other. Assumes nothing.
 use Prim.Native.Nat.{ℕ, _+_, _*_, _≤_}
-use mathlib.Core.Path.{_≡_, refl, sym, ap, _∙_, subst}
+use mathlib.Core.Path.{_≡_, refl, sym, ap, _∙_}
 use mathlib.Core.Bool.{Bool, true, false, not, _||_}
 use mathlib.Core.List.{List, [], _∷_, _++_, map, append-assoc}
 use native.Mathlib.Omega.{arith}
-use native.Mathlib.Nat.{zero-add}
 use borrow.Author.Tests.{ltb-false, not-false}
 use lib.Dec.{ltb}
 use lib.Ieee.{Float}
-use lib.ListN.{length, drop, replicate, length-append}
-use lib.Seq.{sets-eq, append-snoc}
+use lib.ListN.{length, replicate, length-append}
+use lib.Seq.{append-snoc}
 use Rattle.common.specs.Tests.{both-false}
 use Rattle.seed_rules.specs.Layout.{six}
 use Rattle.journal_line.specs.declared.ScoredFields.{ScoredFields}
@@ -17,30 +16,24 @@ use Rattle.journal_line.specs.declared.Recorded.{Recorded}
 use Rattle.journal_line.specs.declared.Recorded.the-variants.{Scored, Skipped}
 use Rattle.journal_line.specs.declared.Line.{Line}
 use Rattle.journal_line.specs.declared.Written.the-variants.{Length, Refused}
-use Rattle.journal_line.specs.Line.{digits, decimalWidth, decimal, real, reasonLetter, eight, outcomeFields, restOfLine, lineBytes, writable, Writable}
+use Rattle.journal_line.specs.Line.{decimalWidth, decimal, real, reasonLetter, eight, outcomeFields, restOfLine, lineBytes, writable, Writable}
 use Rattle.journal_line.specs.Steps.{commaFields, Stored}
-use Rattle.journal_line.specs.DigitLaws.{digits-length, decimal-length}
+use Rattle.journal_line.specs.DigitLaws.{decimal-length}
 use Rattle.journal_line.specs.FieldLaws.{real-length, rest-of-commas, rest-length}
 use Rattle.journal_line.specs.Unique.{line-length, line-bounds}
 use Rattle.journal_line.specs.Writing.{refusesLine, writeReply, writeInto}
-use Rattle.journal_line.proofs.Stores.{stored-then}
-
--- the same bytes by another name
-stored-as : (l : List ℕ) (i : ℕ) (vs ws m : List ℕ) → vs ≡ ws → Stored l i vs m → Stored l i ws m
-stored-as l i vs ws m e s = subst (λ (b : List ℕ). Stored l i b m) e s
+use Rattle.journal_line.proofs.Stores.{stored-then, stored-as, stored-front}
 
 -- ---- number and round
-module _ (number round n r : ℕ) (o o₁ o₂ o₃ : List ℕ) (en : n ≡ decimalWidth number) (er : r ≡ decimalWidth round) where
-  pub head-stored : Stored o 0 (digits 10 n number) o₁ → Stored o₁ n (44 ∷ []) o₂ → Stored o₂ (n + 1) (digits 10 r round) o₃
-      → Stored o 0 (decimal number ++ 44 ∷ decimal round) o₃
-  unfolding decimal
+module _ (number round n : ℕ) (o o₁ o₂ o₃ : List ℕ) (en : n ≡ decimalWidth number) where
+  pub head-stored : Stored o 0 (decimal number) o₁ → Stored o₁ n (44 ∷ []) o₂ → Stored o₂ (n + 1) (decimal round) o₃ → Stored o 0 (decimal number ++ 44 ∷ decimal round) o₃
   head-stored a b c =
-      let d = digits 10 n number in
-      let e = digits 10 r round in
-      let k = digits-length 10 n number in
+      let d = decimal number in
+      let e = decimal round in
+      let k = decimal-length number in
       let s = stored-then d (44 ∷ []) o o₁ o₂ 0 n a b (omega arith) in
       let t = stored-then (d ++ (44 ∷ [])) e o o₂ o₃ 0 (n + 1) s c (omega (arith, length-append d (44 ∷ []))) in
-      rw (← en, ← er) (stored-as o 0 ((d ++ (44 ∷ [])) ++ e) (d ++ 44 ∷ e) o₃ (append-snoc d 44 e) t)
+      stored-as o 0 ((d ++ (44 ∷ [])) ++ e) (d ++ 44 ∷ e) o₃ (append-snoc d 44 e) t
 
 -- ---- the outcome
 comma-fields-length : (xs : List Float) → length (commaFields (map real xs)) ≡ 17 * length xs
@@ -106,7 +99,7 @@ module _ (l : Line) (o o₁ o₂ o₃ : List ℕ) (taken : refusesLine l o ≡ f
   accepts n e s =
       let k = taken-so l o taken in
       let b = line-bounds l (k .1) in
-      (rw (taken, e), rw taken (s .now-is ∙ sets-eq (lineBytes l) o 0 (omega arith) ∙ ap (λ (k : ℕ). lineBytes l ++ drop k o) (zero-add (length (lineBytes l)))))
+      (rw (taken, e), rw taken (stored-front (lineBytes l) o o₃ (omega arith) s))
 
   pub line-stored : (at n : ℕ) (xs : List Float) → at ≡ decimalWidth (l .number) + (decimalWidth (l .round) + 1) → xs ≡ six (l .seed)
       → Stored o 0 (decimal (l .number) ++ 44 ∷ decimal (l .round)) o₁ → Stored o₁ at (commaFields (map real xs)) o₂

@@ -1,17 +1,17 @@
 -- Runs of stores to a buffer, one after the other. Assumes nothing.
 use Prim.Native.Nat.{ℕ, suc, _+_, _-_, _*_, _/_, _%_, _<_, _≤_}
-use mathlib.Core.Path.{_≡_, refl, sym, ap, _∙_}
+use mathlib.Core.Path.{_≡_, refl, sym, ap, _∙_, subst}
 use mathlib.Core.List.{List, [], _∷_, _++_, map}
-use native.Mathlib.Nat.{add-zero}
+use native.Mathlib.Nat.{add-zero, zero-add}
 use native.Mathlib.Numerals.{add-one}
 use native.Mathlib.Omega.{arith}
 use lib.Ieee.{Float}
-use lib.ListN.{length, set, getD, drop, replicate, length-set, drop-of-length-le}
-use lib.Seq.{sets, set-comm, drop-cons}
+use lib.ListN.{length, set, getD, drop, replicate, length-set, length-append, drop-of-length-le}
+use lib.Seq.{sets, sets-eq, set-comm, drop-cons}
 use Rattle.float.specs.Float.{bitsOf}
-use Rattle.journal_line.specs.Line.{digitByte, digits, real}
+use Rattle.journal_line.specs.Line.{digitByte, digits, decimalWidth, decimal, real}
 use Rattle.journal_line.specs.Steps.{commaFields, Stored}
-use Rattle.journal_line.specs.DigitLaws.{digits-length}
+use Rattle.journal_line.specs.DigitLaws.{digits-length, decimal-length}
 use Rattle.journal_line.specs.FieldLaws.{real-length}
 
 -- ---- one after the other
@@ -28,6 +28,14 @@ stored-then vs ws l m n i j a b e = record {
   now-is = b .now-is ∙ ap (λ (k : List ℕ). sets k j ws) (a .now-is) ∙ sym (sets-then vs ws l i j e);
   same-long = b .same-long ∙ a .same-long;
 }
+
+-- the same bytes by another name
+pub stored-as : (l : List ℕ) (i : ℕ) (vs ws m : List ℕ) → vs ≡ ws → Stored l i vs m → Stored l i ws m
+stored-as l i vs ws m e s = subst (λ (b : List ℕ). Stored l i b m) e s
+
+-- from the front on
+pub stored-front : (vs l m : List ℕ) → length vs ≤ length l → Stored l 0 vs m → m ≡ vs ++ drop (length vs) l
+stored-front vs l m h s = s .now-is ∙ sets-eq vs l 0 (omega arith) ∙ ap (λ (k : ℕ). vs ++ drop k l) (zero-add (length vs))
 
 -- a store behind a run may come first
 set-first : (vs l : List ℕ) (i j a : ℕ) → i + length vs ≤ j → set (sets l i vs) j a ≡ sets (set l j a) i vs
@@ -76,6 +84,35 @@ reals-turn l whole at i xs z b h e w m s =
 pub no-reals : (l whole : List ℕ) (p i : ℕ) (xs : List Float) → length xs ≤ i → sets l p (commaFields (map real (drop i xs))) ≡ whole → l ≡ whole
 unfolding commaFields
 no-reals l whole p i xs h w = rw (drop-of-length-le xs h) at w
+
+-- a turn of the loop that stores decimals
+module _ (l whole : List ℕ) (place next i : ℕ) (ns : List ℕ) (z : ℕ) (h : i < length ns) (e : next ≡ place + 1 + decimalWidth (getD ns i z)) where
+  drop-one : drop i ns ≡ getD ns i z ∷ drop (i + 1) ns
+  drop-one = rw add-one (drop-cons ns i z h)
+
+  pub decimals-turn : sets l place (commaFields (map decimal (drop i ns))) ≡ whole → (m : List ℕ) → m ≡ sets (set l place 44) (place + 1) (decimal (getD ns i z))
+      → sets m next (commaFields (map decimal (drop (i + 1) ns))) ≡ whole
+  decimals-turn w m s =
+      let n = getD ns i z in
+      rw s (field-then (decimal n) (map decimal (drop (i + 1) ns)) l place next (omega (arith, decimal-length n))
+      ∙ ap (λ (ks : List ℕ). sets l place (commaFields (map decimal ks))) (sym drop-one) ∙ w)
+
+  -- the place behind them all
+  pub decimals-end : (end : ℕ) → place + length (commaFields (map decimal (drop i ns))) ≡ end → next + length (commaFields (map decimal (drop (i + 1) ns))) ≡ end
+  unfolding commaFields
+  decimals-end end w =
+      let n = getD ns i z in
+      let f : place + length (commaFields (map decimal (n ∷ drop (i + 1) ns))) ≡ end = ap (λ (ks : List ℕ). place + length (commaFields (map decimal ks))) (sym drop-one) ∙ w in
+      omega (arith, length-append (decimal n) (commaFields (map decimal (drop (i + 1) ns))), decimal-length n)
+
+module _ (i : ℕ) (ns : List ℕ) (h : length ns ≤ i) where
+  pub no-decimals : (l whole : List ℕ) (place : ℕ) → sets l place (commaFields (map decimal (drop i ns))) ≡ whole → l ≡ whole
+  unfolding commaFields
+  no-decimals l whole place w = rw (drop-of-length-le ns h) at w
+
+  pub at-decimals-end : (place end : ℕ) → place + length (commaFields (map decimal (drop i ns))) ≡ end → place ≡ end
+  unfolding commaFields
+  at-decimals-end place end w = let f : place + 0 ≡ end = rw (drop-of-length-le ns h) at w in omega arith
 
 -- a turn of the loop that stores minus signs
 pub minus-turn : (l whole : List ℕ) (at i : ℕ) → i < 8 → sets l (at + 2 * i) (commaFields (replicate (8 - i) (45 ∷ []))) ≡ whole

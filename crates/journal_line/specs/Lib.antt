@@ -1,3 +1,5 @@
+pub mod CountLaws
+pub mod Counts
 pub mod DigitLaws
 pub mod Examples
 pub mod FieldLaws
@@ -6,6 +8,8 @@ pub mod Line
 pub mod Numbers
 pub mod Outcome
 pub mod Reading
+pub mod Report
+pub mod ReportLaws
 pub mod Steps
 pub mod Summary
 pub mod Unique

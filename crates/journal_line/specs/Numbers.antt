@@ -44,10 +44,10 @@ unfolding digits newlines
 digits-no-newline base zero n = refl
 digits-no-newline base (suc w) n = newlines-append (digits base w (n / base)) (digitByte (n % base) ∷ []) ∙ rw (digits-no-newline base w (n / base), digit-no-newline (n % base))
 
-abbrev NoNewline : List ℕ → Type 0
+abbrev pub NoNewline : List ℕ → Type 0
 NoNewline f = newlines f ≡ 0
 
-decimal-no-newline : (n : ℕ) → NoNewline (decimal n)
+pub decimal-no-newline : (n : ℕ) → NoNewline (decimal n)
 unfolding decimal
 decimal-no-newline n = digits-no-newline 10 _ n
 
@@ -80,22 +80,28 @@ unfolding commaFields newlines
 comma-fields-no-newline [] h = refl
 comma-fields-no-newline (f ∷ fs) h = omega (arith, newlines-append f (commaFields fs), h .0, comma-fields-no-newline fs (h .1))
 
+-- fields, of which the first has no comma before it
+module _ (f : List ℕ) (fs : List (List ℕ)) where
+  pub fields-are : f ++ restOfLine fs ≡ (f ++ commaFields fs) ++ (10 ∷ [])
+  fields-are = ap (λ (r : List ℕ). f ++ r) (ends-line fs) ∙ sym (append-assoc f (commaFields fs) (10 ∷ []))
+
+  pub fields-no-newline : NoNewline f → All NoNewline fs → NoNewline (f ++ commaFields fs)
+  fields-no-newline h a = newlines-append f (commaFields fs) ∙ rw (h, comma-fields-no-newline fs a)
+
 -- a line without its last byte
 unfoldable pub front : Line → List ℕ
 front l = decimal (l .number) ++ commaFields (decimal (l .round) ∷ map real (six (l .seed)) ++ outcomeFields (l .outcome))
 
 pub line-is : (l : Line) → lineBytes l ≡ front l ++ (10 ∷ [])
 unfolding lineBytes front
-line-is l =
-    let fs = decimal (l .round) ∷ map real (six (l .seed)) ++ outcomeFields (l .outcome) in
-    ap (λ (r : List ℕ). decimal (l .number) ++ r) (ends-line fs) ∙ sym (append-assoc (decimal (l .number)) (commaFields fs) (10 ∷ []))
+line-is l = fields-are (decimal (l .number)) (decimal (l .round) ∷ map real (six (l .seed)) ++ outcomeFields (l .outcome))
 
 pub front-no-newline : (l : Line) → newlines (front l) ≡ 0
 unfolding front
 front-no-newline l =
     let fs = decimal (l .round) ∷ map real (six (l .seed)) ++ outcomeFields (l .outcome) in
     let a : All NoNewline fs = (decimal-no-newline (l .round), all-append NoNewline (map real (six (l .seed))) (outcomeFields (l .outcome)) (reals-no-newline (six (l .seed))) (outcome-no-newline (l .outcome))) in
-    newlines-append (decimal (l .number)) (commaFields fs) ∙ rw (decimal-no-newline (l .number), comma-fields-no-newline fs a)
+    fields-no-newline (decimal (l .number)) fs (decimal-no-newline (l .number)) a
 
 pub line-newlines : (l : Line) → newlines (lineBytes l) ≡ 1
 unfolding newlines

@@ -1,13 +1,17 @@
--- What is proved of the journal on one page: each line has one reading and each reading one line, for lines and for whole journals. Assumes nothing.
+-- What is proved of the journal on one page: each line has one reading and each reading one line, for lines and for whole journals. And of the report:
+-- it is one line, of at most 24 bytes, with one reading. Assumes nothing.
 use Prim.Native.Nat.{ℕ, suc, _+_, _<_, _≤_}
 use mathlib.Core.Path.{_≡_}
-use mathlib.Core.List.{List, _++_}
+use mathlib.Core.List.{List, [], _∷_, _++_}
 use lib.ListN.{length, take}
 use Rattle.common.specs.Each.{All}
+use Rattle.journal_line.specs.declared.Counts.{Counts}
 use Rattle.journal_line.specs.declared.Line.{Line}
 use Rattle.journal_line.specs.declared.Read.the-variants.{Got}
 use Rattle.journal_line.specs.Line.{lineBytes, LineFits, Writable, journalBytes}
 use Rattle.journal_line.specs.Reading.{newlines, lineNumber, readLine, ended, refused, unread, readJournal}
+use Rattle.journal_line.specs.Report.{total, reportBytes}
+use Rattle.journal_line.specs.ReportLaws.{reportFront, report-is, no-newline-before, report-bounds, report-injective}
 use Rattle.journal_line.specs.Unique.{LineAt, Correct, read-correct, line-bounds, line-injective, one-reading, one-line}
 use Rattle.journal_line.specs.Whole.{Written, whole-reading, whole-lines, whole-stops}
 use Rattle.journal_line.specs.Numbers.{cut-line, whole-numbered, line-numbers}
@@ -48,3 +52,16 @@ journal-is-exact = record {
   counted = line-numbers;
   cut-off = cut-line;
 }
+
+-- A total above 656 is refused, so these are all the reports that are written.
+pub record ReportIsExact : Type 0 where
+  -- 24 bytes suffice
+  pub short : (c : Counts) → total c ≤ 656 → (12 ≤ length (reportBytes c)) × (length (reportBytes c) ≤ 24)
+  -- the last byte is a newline, and no other is
+  pub ends : (c : Counts) → reportBytes c ≡ reportFront c ++ (10 ∷ [])
+  pub no-other : (c : Counts) → newlines (reportFront c) ≡ 0
+  -- one report has one reading
+  pub no-two-alike : (c d : Counts) → total c ≤ 656 → total d ≤ 656 → reportBytes c ≡ reportBytes d → c ≡ d
+
+pub report-is-exact : ReportIsExact
+report-is-exact = record { short = report-bounds; ends = report-is; no-other = no-newline-before; no-two-alike = report-injective }

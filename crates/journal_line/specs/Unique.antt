@@ -40,7 +40,7 @@ unfolding outcomeAt outcomeFields restOfLine recordable
 outcome-back (Scored r) s h k = ap (λ (l : List Float). Scored (scoredAt l)) (reals-back [] s (eight r) k)
 outcome-back (Skipped r) s h k = let e = reason-back r h in rw (e .0, e .1)
 
-past-comma : (f s : List ℕ) (n : ℕ) → length f ≡ n → drop (n + 1) (f ++ 44 ∷ s) ≡ s
+pub past-comma : (f s : List ℕ) (n : ℕ) → length f ≡ n → drop (n + 1) (f ++ 44 ∷ s) ≡ s
 past-comma f s n e = sym (drop-drop 1 n (f ++ 44 ∷ s)) ∙ ap (drop 1) (drop-at f (44 ∷ s) n e)
 
 module _ (n r : ℕ) (hn : n < 1000) (hr : r < 1000) where

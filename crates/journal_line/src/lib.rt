@@ -1,6 +1,7 @@
-// The journal: one line for each answered candidate, written to a lent buffer and read back.
+// The journal: one line for each answered candidate, written to a lent buffer and read back. The report: one line of counts.
 pub mod outcome;
 pub mod reading;
+pub mod report;
 pub mod writing;
 
 use camera_models::intrinsics::FxFyCxCy;
@@ -29,7 +30,17 @@ pub struct Line {
     pub outcome: Recorded,
 }
 
-// What the writer gives: how many bytes the line has, or number 28.
+// How many candidates were scored, and how many skipped for each reason, 1 to 4.
+#[repr(C)]
+pub struct Counts {
+    pub scored: usize,
+    pub host_failed: usize,
+    pub bad_camera: usize,
+    pub no_mean: usize,
+    pub no_number: usize,
+}
+
+// What a writer gives: how many bytes the line has, or number 28.
 pub enum Written {
     Length(usize),
     Refused(u8),

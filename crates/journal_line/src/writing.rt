@@ -35,7 +35,7 @@ fn put_digits(out: &mut [u8], at: usize, base: u64, w: usize, n: u64)
     }
 }
 
-fn put_byte(out: &mut [u8], at: usize, b: u8)
+pub(crate) fn put_byte(out: &mut [u8], at: usize, b: u8)
     requires { ⌜ at < length (now out) ⌝ }
     ensures { λ _. ⌜ Stored (now (out .entry)) at (b ∷ []) (now (out .exit)) ⌝ }
 {
@@ -52,6 +52,16 @@ fn decimal_width(n: usize) -> usize
         return 2;
     }
     3
+}
+
+// A number below 1000; gives the place behind.
+pub(crate) fn put_decimal(out: &mut [u8], at: usize, n: usize) -> usize
+    requires { ⌜ at + 3 ≤ length (now out) ⌝ }
+    ensures { λ r. ⌜ (r ≡ at + decimalWidth n) × Stored (now (out .entry)) at (decimal n) (now (out .exit)) × (r ≤ at + 3) ⌝ }
+{
+    let w = decimal_width(n);
+    put_digits(out, at, 10, w, n as u64);
+    at + w
 }
 
 // Reals, each behind a comma.
@@ -157,12 +167,9 @@ fn put_head(out: &mut [u8], number: usize, round: usize) -> usize
     requires { ⌜ 7 ≤ length (now out) ⌝ }
     ensures { λ r. ⌜ (r ≡ decimalWidth number + (decimalWidth round + 1)) × Stored (now (out .entry)) 0 (decimal number ++ 44 ∷ decimal round) (now (out .exit)) × (r ≤ 7) ⌝ }
 {
-    let n = decimal_width(number);
-    put_digits(out, 0, 10, n, number as u64);
+    let n = put_decimal(out, 0, number);
     put_byte(out, n, 44);
-    let r = decimal_width(round);
-    put_digits(out, n + 1, 10, r, round as u64);
-    n + (r + 1)
+    put_decimal(out, n + 1, round)
 }
 
 // Writes the line to the front of the buffer, or refuses it and writes nothing. That the line's numbers fit is no demand: those of every line that a

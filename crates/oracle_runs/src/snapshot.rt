@@ -1,6 +1,7 @@
 // Whether a call changed a number of the run, by bits; a NaN has one word here.
 use crate::replies::candidate_numbers;
 use camera_models::math::Pt2;
+use journal_line::Counts;
 use oracle_files::words::is_same;
 use oracle_files::words::same_numbers;
 use score_best::Best;
@@ -50,6 +51,14 @@ fn is_same_best(a: Best, b: Best) -> bool {
     (a.found == b.found) & same_numbers(&x, &y)
 }
 
+fn is_same_counts(a: Counts, b: Counts) -> bool {
+    (a.scored == b.scored)
+        & (a.host_failed == b.host_failed)
+        & (a.bad_camera == b.bad_camera)
+        & (a.no_mean == b.no_mean)
+        & (a.no_number == b.no_number)
+}
+
 pub fn is_same_run(a: Run, b: Run) -> bool {
     is_same_options(a.options, b.options)
         & is_same_point(a.center, b.center)
@@ -57,4 +66,5 @@ pub fn is_same_run(a: Run, b: Run) -> bool {
         & is_same_waiting(a.waiting, b.waiting)
         & is_same_best(a.round_best, b.round_best)
         & is_same_best(a.run_best, b.run_best)
+        & is_same_counts(a.counts, b.counts)
 }

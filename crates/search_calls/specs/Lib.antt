@@ -1,3 +1,4 @@
+pub mod Counts
 pub mod Last
 pub mod Next
 pub mod NextLaws

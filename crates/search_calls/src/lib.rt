@@ -1,4 +1,5 @@
-// The calls that change no list: Next with the seed call beside it, Result, the progress call, the stop call, and the last answered line.
+// The calls that change no list: Next with the seed call beside it, Result, the progress call, the stop call, the last answered line, and the counts.
+pub mod counts;
 pub mod last;
 pub mod next;
 pub mod progress;

@@ -14,6 +14,9 @@ use Rattle.score_best.specs.Best.{improved, noBest, candidateOf}
 use Rattle.journal_line.specs.declared.ScoredFields.{ScoredFields}
 use Rattle.journal_line.specs.declared.Recorded.{Recorded}
 use Rattle.journal_line.specs.declared.Recorded.the-variants as recorded
+use Rattle.journal_line.specs.declared.Counts.{Counts}
+use Rattle.journal_line.specs.Counts.{withCount}
+use Rattle.journal_line.specs.Report.{total}
 use Rattle.journal_line.specs.Outcome.{recordedAs}
 use Rattle.search_record.specs.declared.run.LastAnswer.{LastAnswer}
 use Rattle.search_record.specs.declared.run.Place.{Place}
@@ -25,6 +28,10 @@ use Rattle.search_record.specs.declared.run.Run.{Run}
 unfoldable pub hasPlace : Place → Waiting → Bool
 hasPlace p w = cond (p .over) (not (w .«is_waiting»)) (ltb (p .at) (p .len))
 
+-- 02, E6: the five counts add up to the number of answers
+unfoldable pub addUp : Counts → ℕ → Bool
+addUp c n = leb n 656 && eqb (total c) n
+
 unfoldable pub sound : Run → Bool
 sound r =
     let p = r .place in
@@ -32,7 +39,7 @@ sound r =
     && (leb (r .options .«min_counted») 100
     && leb (r .options .«refine_rounds») 16
     && leb (p .round) (r .options .«refine_rounds»)
-    && leb (p .number) 656
+    && addUp (r .counts) (p .number)
     && leb (6 * p .len) (p .demand)
     && leb 54 (p .demand)
     && leb (p .demand) 3072
@@ -57,6 +64,7 @@ awaiting r s = record {
   «round_best» = r .«round_best»;
   «run_best» = r .«run_best»;
   last = r .last;
+  counts = r .counts;
 }
 
 -- ---- the last answered candidate, as a line records it, with the round that it was handed out in
@@ -70,7 +78,7 @@ abbrev pub lastAnswer : ℕ → ℕ → CandidateSeed → Recorded → LastAnswe
 lastAnswer n r s (recorded.Scored f) = record { found = true; number = n; round = r; seed = s; skipped = 0; scored = f }
 lastAnswer n r s (recorded.Skipped reason) = record { found = true; number = n; round = r; seed = s; skipped = reason; scored = noFields }
 
--- ---- the waiting seed's outcome is entered: nothing waits, the place moves on, and a scored candidate may become the best
+-- ---- the waiting seed's outcome is entered: nothing waits, the place moves on, a scored candidate may become the best, and it is counted
 unfoldable pub withOutcome : Best → ℕ → ScheimpflugParams → Outcome → Best
 withOutcome b n t (Skipped reason) = b
 withOutcome b n t (Scored s) = improved b (candidateOf n t s)
@@ -87,6 +95,7 @@ entered r o =
       «round_best» = withOutcome (r .«round_best») (p .number) t o;
       «run_best» = withOutcome (r .«run_best») (p .number) t o;
       last = lastAnswer (p .number) (p .round) (r .waiting .seed) (recordedAs o);
+      counts = withCount (r .counts) (recordedAs o);
     }
 
 -- ---- the next round opens with n seeds, made with the step s; or the run ends
@@ -105,6 +114,7 @@ roundOpened r n =
       «round_best» = noBest;
       «run_best» = r .«run_best»;
       last = r .last;
+      counts = r .counts;
     }
 
 unfoldable pub ended : Run → Run
@@ -118,4 +128,5 @@ ended r =
       «round_best» = r .«round_best»;
       «run_best» = r .«run_best»;
       last = r .last;
+      counts = r .counts;
     }

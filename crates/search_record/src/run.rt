@@ -2,10 +2,14 @@
 
 ghost use mathlib.Core.Path.{_≡_};
 ghost use Prim.Native.Nat.{_<_, _≤_};
+ghost use Rattle.journal_line.specs.Report.{total};
 ghost use Rattle.search_record.specs.Record.{sound, hasPlace, noSeed, noFields, noAnswer, lastAnswer, nextStep};
+use crate::counts::add_up;
+use crate::counts::with_count;
 use camera_models::intrinsics::FxFyCxCy;
 use camera_models::math::Pt2;
 use camera_tilt::sensor::ScheimpflugParams;
+use journal_line::Counts;
 use journal_line::Recorded;
 use journal_line::ScoredFields;
 use journal_line::outcome::recorded_as;
@@ -61,6 +65,7 @@ pub struct Run {
     pub round_best: Best,
     pub run_best: Best,
     pub last: LastAnswer,
+    pub counts: Counts,
 }
 
 // An open run has a seed left in its list, and where the run is over, none waits.
@@ -83,7 +88,7 @@ pub fn is_sound(run: Run) -> bool
     (run.options.min_counted <= 100)
         & (run.options.refine_rounds <= 16)
         & (run.place.round <= run.options.refine_rounds)
-        & (run.place.number <= 656)
+        & add_up(run.counts, run.place.number)
         & (6 * run.place.len <= run.place.demand)
         & (54 <= run.place.demand)
         & (run.place.demand <= 3072)
@@ -199,9 +204,10 @@ fn with_outcome(best: Best, number: usize, sensor: ScheimpflugParams, outcome: O
     )
 }
 
-// The waiting seed's outcome is entered: nothing waits, the place moves on by one, and the run keeps it as its last answer.
+// The waiting seed's outcome is entered: nothing waits, the place moves on by one, and the run keeps it as its last answer and counts it.
 pub fn entered(mut run: Run, outcome: Outcome) -> Run
     requires { ⌜ (run .place .at < 512) × (run .place .number ≤ 656) ⌝ }
+    requires { ⌜ total (run .counts) ≤ 656 ⌝ }
     ensures { λ r. ⌜ r ≡ Rattle.search_record.specs.Record.entered run outcome ⌝ }
 {
     run.round_best = with_outcome(
@@ -216,12 +222,14 @@ pub fn entered(mut run: Run, outcome: Outcome) -> Run
         run.waiting.seed.sensor,
         outcome,
     );
+    let recorded = recorded_as(outcome);
     run.last = last_answer(
         run.place.number,
         run.place.round,
         run.waiting.seed,
-        recorded_as(outcome),
+        recorded,
     );
+    run.counts = with_count(run.counts, recorded);
     run.waiting = nobody();
     let at = run.place.at + 1;
     run.place.at = at;

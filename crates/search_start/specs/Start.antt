@@ -15,6 +15,7 @@ use Rattle.seed_rules.specs.declared.CandidateSeed.{CandidateSeed}
 use Rattle.seed_rules.specs.Rules.{inBound, untiltedY, initialList}
 use Rattle.seed_rules.specs.Layout.{allSeeds, written}
 use Rattle.score_best.specs.Best.{noBest}
+use Rattle.journal_line.specs.Counts.{noCounts}
 use Rattle.search_record.specs.Record.{nobody, noAnswer}
 use Rattle.search_record.specs.declared.run.Options.{Options}
 use Rattle.search_record.specs.declared.run.Run.{Run}
@@ -62,6 +63,7 @@ openingOf options center demand n = record {
   «round_best» = noBest;
   «run_best» = noBest;
   last = noAnswer;
+  counts = noCounts;
 }
 
 -- 01, 'Start', and then 02, in their order: the refusals that need only the options and the lengths of the lists, those of 01 that need more, and 02's:

@@ -10,6 +10,7 @@ ghost use Rattle.search_start.specs.Start.{positive, goodSeed, onlyZero,
 ghost use Rattle.search_start.specs.declared.Started.the-variants.{Accepted};
 use camera_models::intrinsics::FxFyCxCy;
 use camera_models::math::Pt2;
+use search_record::counts::no_counts;
 use search_record::run::Options;
 use search_record::run::Place;
 use search_record::run::Run;
@@ -214,6 +215,7 @@ fn opening(options: Options, center: Pt2, demand: usize, len: usize) -> Run
         round_best: none,
         run_best: none,
         last: no_answer(),
+        counts: no_counts(),
     }
 }
 

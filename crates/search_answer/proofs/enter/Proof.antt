@@ -11,7 +11,7 @@ use Rattle.search_answer.proofs.enter.Tie as tie
 entered-requires : tie.Need-entered-requires
 entered-requires c κs =
     let b = bounds _ (c .before .pre .0) in
-    (lt-of-lt-of-le (waiting-at _ b (c .before .pre .1 .0)) (b .len-max), b .number-max)
+    ((lt-of-lt-of-le (waiting-at _ b (c .before .pre .1 .0)) (b .len-max), b .number-max), rw (b .counts-sum) (b .number-max))
 
 close-round-requires : tie.Need-close-round-requires
 close-round-requires c κs =

@@ -13,9 +13,18 @@ nobody-requires c κs = search needs
 no-answer-requires : tie.Need-no-answer-requires
 no-answer-requires c κs = search needs
 
+no-counts-requires : tie.Need-no-counts-requires
+no-counts-requires c κs = search needs
+
 returns : tie.Need-returns
 unfolding openingOf
-returns c = rw (c .no-answer .ensures, c .before .nobody .ensures, c .before .before .no-best .ensures)
+returns c =
+    rw (
+      c .no-counts .ensures,
+      c .before .no-answer .ensures,
+      c .before .before .nobody .ensures,
+      c .before .before .before .no-best .ensures,
+    )
 
 pub opening-spec : {M : Type 1} → statement M
-opening-spec = tie.close (tie.spec no-best-requires nobody-requires no-answer-requires returns)
+opening-spec = tie.close (tie.spec no-best-requires nobody-requires no-answer-requires no-counts-requires returns)
