@@ -1,5 +1,5 @@
--- The end of a run: a record that calls left after an accepted Start is sound, an accepted answer takes it on, and a host whose answers are accepted reaches the end,
--- whatever list each call is lent. Assumes nothing.
+-- The end of a run, from any book between the calls on: the record that calls leave is sound, an accepted answer takes it on, and a host whose answers are accepted
+-- reaches the end, whatever list each call is lent. Assumes nothing.
 use Prim.Native.Nat.{ℕ, zero, suc, _+_, _-_, _*_, _≤_, _<_}
 use native.Mathlib.Omega.{arith}
 use mathlib.Core.Path.{_≡_, refl, sym, ap, subst, _∙_}
@@ -7,7 +7,7 @@ use mathlib.Core.Bool.{true, false, not, _&&_, true≢false}
 use mathlib.Core.List.{List, [], _∷_}
 use borrow.Author.Tests.{not-true, ltb-true, ltb-false, lt-ltb, le-ltb, le-leb, eqb-true, eq-eqb}
 use lib.Dec.{ltb, eqb}
-use lib.ListN.{length}
+use lib.ListN.{length, length-append}
 use lib.Ieee.{Float}
 use Rattle.common.specs.Tests.{case, both-true}
 use Rattle.seed_rules.specs.declared.CandidateSeed.{CandidateSeed}
@@ -31,14 +31,13 @@ use Rattle.search_calls.specs.Next.{nextRefusal, nextDef}
 use Rattle.search_calls.specs.NextLaws.{next-hands, next-keeps}
 use Rattle.search_answer.specs.Answer as ans
 use Rattle.search_answer.specs.AnswerLaws.{answer-passed}
-use Rattle.book.specs.Book as book
-use Rattle.book.specs.Book.{Inputs, demand}
+use Rattle.book.specs.Book.{Inputs, demand, Book, entries, number}
 use Rattle.book.specs.Lent.{Lent, next-with, answer-with, left, through, counted, accepted, stillLeft, Turn, Taken, AllTaken, turns}
 use Rattle.book.specs.Theorem.{Ends}
 use Rattle.book.proofs.Cases.{case-list}
-use Rattle.book.proofs.Good.{Core, Good}
+use Rattle.book.proofs.Good.{Core, Good, at-most}
 use Rattle.book.proofs.Tally.{outcome-kind, tally-total}
-use Rattle.book.proofs.RunOf.{runOf}
+use Rattle.book.proofs.RunOf.{runOf, run-number}
 
 -- ---- what stays true of the record
 -- of its numbers
@@ -356,31 +355,35 @@ reaches i r (t ∷ ts) h k n =
     (λ o. through-over i r (turns (t ∷ ts)) h o)
     (λ o. let a = one-turn i r t h o (k .0) in reaches i _ ts (a .lasts) (k .1) (let p = a .less in omega arith))
 
--- ---- the run that an accepted Start roundOpened
-pub opened-lasts : (i : Inputs) → Good i (book.opened i) → Lasts i (runOf (book.opened i))
-unfolding runOf book.opened
-opened-lasts i g = record { sizes = sizes i (g .core); room = g .room; calm = λ o. refl }
+-- ---- the run that goes with a book between the calls
+run-lasts : (i : Inputs) (b : Book) → Good i b → Lasts i (runOf b)
+unfolding runOf
+run-lasts i b g = record { sizes = subst (λ (j : Inputs). Sizes j (runOf b)) (g .inputs-are) (sizes b (g .core) (at-most i b g)); room = g .room; calm = λ o. rw (g .calm o) }
   where
-    sizes : (i : Inputs) → Core (book.opened i) → Sizes i (runOf (book.opened i))
-    sizes i h = unfold runOf book.opened in
+    sizes : (b : Book) → Core b → length (b .answered) ≤ length (b .list) → Sizes (b .inputs) (runOf b)
+    sizes b h m = unfold runOf in
         let z = h .sized in
         let c = h .few in
         let r = z .few-rounds in
-        record { small-share = z .small-share; few-rounds = z .few-rounds; in-rounds = h .in-rounds; demand-is = refl; least = z .least; most = z .most; list-fits = h .fits; few = omega arith; adds-up = tally-total i [] tt }
+        let q = h .in-rounds in
+        let n = length-append (b .earlier) (b .answered) in
+        let t = tally-total (b .inputs) (entries b) (h .proper) in
+        record { small-share = z .small-share; few-rounds = z .few-rounds; in-rounds = q; demand-is = refl; least = z .least; most = z .most; list-fits = h .fits; few = omega arith; adds-up = t }
 
-pub run-ends : (i : Inputs) (r : Run) (cs : List Lent) → Lasts i r → r .place .number ≡ 0 → Ends i r cs (through r cs)
+pub run-ends : (i : Inputs) (b : Book) (cs : List Lent) → Good i b → Ends i (number b) (runOf b) cs (through (runOf b) cs)
 unfolding findingRefusal
-run-ends i r cs h z =
-    let a = through-lasts i r cs h in
+run-ends i b cs g =
+    let r = through (runOf b) cs in
+    let a = through-lasts i (runOf b) cs (run-lasts i b g) in
     let s = a .0 in
-    let n = a .1 in
+    let n : r .place .number ≡ number b + accepted (runOf b) cs = a .1 ∙ ap (λ (m : ℕ). m + accepted (runOf b) cs) (run-number b) in
     let q = s .sizes .few in
     record {
-      is-sound = lasts-sound i (through r cs) s;
-      number-is = omega arith;
+      is-sound = lasts-sound i r s;
+      number-is = n;
       few = omega arith;
-      next-accepted = λ o w l d. ap (λ x. x .reply) (next-hands-out i (through r cs) s o w l d);
-      answer-accepted = answer-passes i (through r cs) s;
+      next-accepted = λ o w l d. ap (λ x. x .reply) (next-hands-out i r s o w l d);
+      answer-accepted = answer-passes i r s;
       failed-taken = λ t rows flags. refl;
-      reaches-end = λ ts. reaches i (through r cs) ts s;
+      reaches-end = λ ts. reaches i r ts s;
     }

@@ -14,8 +14,8 @@ use Rattle.seed_rules.specs.Merge.{keep}
 use Rattle.seed_rules.specs.MergeLaws.{keep-append, keep-length}
 use Rattle.seed_rules.specs.AnyOffsets.{mostSeeds}
 use Rattle.book.specs.Book.{Entry, Book, withRound}
-use Rattle.book.specs.Trace.{Handing, handedInRound}
-use Rattle.book.proofs.Planned.{handingOf, Planned}
+use Rattle.book.specs.Trace.{Handing, handedInRound, handingOf}
+use Rattle.book.proofs.Planned.{Planned}
 
 -- what holds of entries as they were handed out
 pub handings-all : (P : Handing → Type 0) (es : List Entry) → All (λ e. P (handingOf e)) es → All P (map handingOf es)

@@ -16,13 +16,9 @@ use Rattle.score_best.specs.declared.Candidate.{Candidate}
 use Rattle.score_best.specs.Best.{chosen}
 use Rattle.book.specs.Calls.{seed}
 use Rattle.book.specs.Book.{Inputs, Entry, Book, entries, number, noSeed, roundBest, runBest, orElse, firstList, listAround, opened, withWaiting, withEntry, withRound, withEnd}
-use Rattle.book.specs.Trace.{Handing}
+use Rattle.book.specs.Trace.{Handing, handingOf}
 use Rattle.book.specs.Named.{outcomesIn, enteredAll, following, Plan, plan, handingsOf, handings}
 use Rattle.book.proofs.Moves.{entry}
-
--- an entry as it was handed out
-abbrev pub handingOf : Entry → Handing
-handingOf e = record { round = e .round; number = e .number; part = six (e .seed) }
 
 -- ---- the outcomes of a round
 outcomes-append : (xs ys : List Entry) (r : ℕ) → outcomesIn (xs ++ ys) r ≡ outcomesIn xs r ++ outcomesIn ys r

@@ -16,11 +16,12 @@ use Rattle.score_outcome.specs.Evaluation.{solvedAt, evaluated, outcomeOf, find
 use Rattle.score_outcome.specs.Share.{RestsOn, scored-rests}
 use Rattle.score_best.specs.declared.Candidate.{Candidate}
 use Rattle.score_best.specs.Best.{candidateOf}
+use Rattle.search_record.specs.declared.run.Run.{Run}
 use Rattle.book.specs.Calls.{Call, next, seed, answer, ask, scored}
-use Rattle.book.specs.Book.{Inputs, demand, Book, entries, number, current, scoredOf, replyTo, bookAnswer, bookCall, after}
+use Rattle.book.specs.Book.{Inputs, demand, Entry, Book, entries, number, current, scoredOf, replyTo, bookAnswer, bookCall, after}
 use Rattle.book.specs.Walk.{runCall}
 use Rattle.book.specs.Trace.{runAfter, listAfter}
-use Rattle.book.specs.Share.{AnsweredBy}
+use Rattle.book.specs.Share.{AnsweredBy, Rests}
 use Rattle.book.proofs.Moves.{entry, enteredBy, grows, call-by}
 use Rattle.book.proofs.Good.{steps}
 use Rattle.book.proofs.RunOf.{runOf, State, run-fields}
@@ -131,3 +132,9 @@ by-calls i b l (c ∷ cs) w t m =
     let split : List·Memᴰ w (scoredOf (entries k)) → AnsweredBy (i .share) (runOf b) l (c ∷ cs) w ⊎ List·Memᴰ w (scoredOf (entries b)) =
     λ p. ⊎-elim (λ q. inr q) (λ q. inl (by-call i b l t c cs w q)) (List·Memᴰ·append-cases (scoredOf (entries b)) (rw (grows b c, scored-append) at p)) in
     ⊎-elim (λ p. inl (later i b l t c cs w (rw (a .run) p))) split (by-calls i k (runCall (runOf b) l c .list) cs w u m)
+
+-- so the winner's mean rests on the share, unless it was kept from before
+pub rests-by : (share : ℕ) (kept : List Entry) (r : Run) (l : List Float) (cs : List Call) (w : Candidate) → AnsweredBy share r l cs w ⊎ List·Memᴰ w (scoredOf kept) → Rests share kept r l cs w
+unfolding scoredOf
+rests-by share [] r l cs w h = ⊎-elim (λ a. a) (λ n. absurd (List·Memᴰ·not-nil n)) h
+rests-by share (e ∷ es) r l cs w h = ⊎-elim (λ a. inr a) (λ n. inl n) h

@@ -19,15 +19,15 @@ use Rattle.search_calls.specs.declared.stop.Outlook.{Outlook}
 use Rattle.search_calls.specs.declared.stop.Stopped.the-variants.{Standing, Refused}
 use Rattle.search_calls.specs.Stop.{outlookOf, stopDef}
 use Rattle.book.specs.Calls.{Call}
-use Rattle.book.specs.Book.{Inputs, demand, Entry, Book, entries, scoredOf, runBest, opened, leftIn, bookCall, after}
+use Rattle.book.specs.Book.{Inputs, demand, Entry, Book, entries, scoredOf, runBest, leftIn, bookCall, after}
 use Rattle.book.specs.Rounds.{upTo}
-use Rattle.book.specs.Trace.{answers, runAfter, listAfter}
+use Rattle.book.specs.Trace.{allAnswers, runAfter, listAfter}
 use Rattle.book.specs.Stop.{NothingGained, Stops}
 use Rattle.book.proofs.Made.{all-to, so-far}
 use Rattle.book.proofs.Good.{Good}
 use Rattle.book.proofs.RunOf.{runOf, State, run-over, run-round, run-run-best}
 use Rattle.book.proofs.Simulation.{stop-is}
-use Rattle.book.proofs.Walks.{walks, same-answers}
+use Rattle.book.proofs.Walks.{walks}
 use Rattle.book.proofs.Stopping.{since, nothing-gained}
 
 -- ---- calls in two parts
@@ -85,34 +85,33 @@ best-kept i b ds g h e =
     whole c z = unfold runBest in ap (λ (es : List Entry). bestOf (scoredOf es)) (sym z)
 
 -- ---- in a run
-module _ (i : Inputs) (l : List Float) (cs : List Call) (t : State i (opened i) l) where
-  gained : (ds : List Call) → Gains (runBest (after (opened i) cs)) (leftIn (after (opened i) cs)) → NothingGained (runOf (opened i)) l cs ds
+module _ (i : Inputs) (b : Book) (l : List Float) (cs : List Call) (t : State i b l) where
+  gained : (ds : List Call) → Gains (runBest (after b cs)) (leftIn (after b cs)) → NothingGained (entries b) (runOf b) l cs ds
   gained ds h =
-      let b = after (opened i) cs in
-      let w = walks i (opened i) l cs t in
-      let v = walks i (opened i) l (cs ++ ds) t in
+      let c = after b cs in
+      let w = walks i b l cs t in
+      let v = walks i b l (cs ++ ds) t in
       let g = w .state .good in
-      let all : answers (runOf (opened i)) l (cs ++ ds) ≡ entries (after b ds) = same-answers i l (cs ++ ds) t ∙ ap entries (after-append (opened i) cs ds) in
-      let old = same-answers i l cs t in
-      let run : runAfter (runOf (opened i)) l (cs ++ ds) ≡ runOf (after b ds) = v .run-is ∙ ap runOf (after-append (opened i) cs ds) in
+      let all : allAnswers (entries b) (runOf b) l (cs ++ ds) ≡ entries (after c ds) = v .same-entries ∙ ap entries (after-append b cs ds) in
+      let run : runAfter (runOf b) l (cs ++ ds) ≡ runOf (after c ds) = v .run-is ∙ ap runOf (after-append b cs ds) in
       record {
-        up-to-round = rw (w .run-is, all, old, run-round b) (best-after i b ds g h ∙ best-is b);
-        best-stays = rw (w .run-is, run, run-round (after b ds), run-round b, run-run-best (after b ds), run-run-best b) (λ e. ap held (best-kept i b ds g h e));
+        up-to-round = rw (w .run-is, all, w .same-entries, run-round c) (best-after i c ds g h ∙ best-is c);
+        best-stays = rw (w .run-is, run, run-round (after c ds), run-round c, run-run-best (after c ds), run-run-best c) (λ e. ap held (best-kept i c ds g h e));
       }
     where
       best-is : (b : Book) → runBest b ≡ bestOf (scoredOf (entries b))
       best-is b = unfold runBest in refl
 
-  pub stops : (n : ℕ) (o : Outlook) → stopDef (runAfter (runOf (opened i)) l cs) (take n (listAfter (runOf (opened i)) l cs)) ≡ Standing o → Stops (runOf (opened i)) l cs o
+  pub stops : (n : ℕ) (o : Outlook) → stopDef (runAfter (runOf b) l cs) (take n (listAfter (runOf b) l cs)) ≡ Standing o → Stops (entries b) (runOf b) l cs o
   stops n o e =
-      let b = after (opened i) cs in
-      let w = walks i (opened i) l cs t in
-      let k = listAfter (runOf (opened i)) l cs in
-      let f : stopDef (runOf b) (take n k) ≡ Standing o = rw (w .run-is) at e in
-      let q = same-outlook n (runBest b) (leftIn b) (demand (b .inputs)) o (sym (stop-is i b k n (w .state)) ∙ f) in
-      let there = floor-there (held (runBest b)) (leftIn b) in
-      let done = left-over i b (w .state .good) in
+      let c = after b cs in
+      let w = walks i b l cs t in
+      let k = listAfter (runOf b) l cs in
+      let f : stopDef (runOf c) (take n k) ≡ Standing o = rw (w .run-is) at e in
+      let q = same-outlook n (runBest c) (leftIn c) (demand (c .inputs)) o (sym (stop-is i c k n (w .state)) ∙ f) in
+      let there = floor-there (held (runBest c)) (leftIn c) in
+      let done = left-over i c (w .state .good) in
       record {
-        nothing-left = rw (w .run-is, run-over b, ← q) ((λ h. done .0 (there .0 h)), (λ h. there .1 (done .1 h)));
-        nothing-gained = λ h ds. gained ds (no-gain (runBest b) (leftIn b) (ap (λ (p : Outlook). p .«no_gain») q ∙ h));
+        nothing-left = rw (w .run-is, run-over c, ← q) ((λ h. done .0 (there .0 h)), (λ h. there .1 (done .1 h)));
+        nothing-gained = λ h ds. gained ds (no-gain (runBest c) (leftIn c) (ap (λ (p : Outlook). p .«no_gain») q ∙ h));
       }

@@ -12,10 +12,10 @@ use Rattle.seed_rules.specs.Layout.{six, allSeeds, seedAt}
 use Rattle.seed_rules.specs.Tried.{every-tilt-tried}
 use Rattle.score_outcome.specs.declared.Outcome.{Outcome}
 use Rattle.book.specs.Book.{Inputs, Entry, Book, entries, firstList}
-use Rattle.book.specs.Trace.{Handing}
+use Rattle.book.specs.Trace.{Handing, handingOf}
 use Rattle.book.specs.Named.{outcomesIn, plan, handingsOf, handings}
 use Rattle.book.specs.Theorem.{TiltTried}
-use Rattle.book.proofs.Planned.{handingOf, done}
+use Rattle.book.proofs.Planned.{done}
 use Rattle.book.proofs.Good.{Good}
 
 abbrev handingWith : ℕ → ℕ → CandidateSeed → Handing

@@ -3,7 +3,7 @@ use mathlib.Core.Path.{_≡_, refl, sym, ap, _∙_}
 use mathlib.Core.List.{List, [], _∷_, _++_, append-assoc, append-nil}
 use lib.Ieee.{Float}
 use Rattle.book.specs.Calls.{Call, Reply}
-use Rattle.book.specs.Book.{Inputs, Entry, Book, entries, opened, bookCall, replies, after}
+use Rattle.book.specs.Book.{Inputs, Entry, Book, entries, bookCall, replies, after}
 use Rattle.book.specs.Walk.{runCall, walk}
 use Rattle.book.specs.Trace.{Handing, handedBy, handed, answers, runAfter, listAfter}
 use Rattle.book.proofs.Moves.{enteredBy, grows, call-by}
@@ -44,8 +44,3 @@ pub walks : (i : Inputs) (b : Book) (l : List Float) (cs : List Call) → State 
 unfolding walk replies answers handed runAfter listAfter after
 walks i b l [] t = record { same-replies = refl; same-entries = append-nil (entries b); same-handed = append-nil (handedIn b); run-is = refl; state = t }
 walks i b l (c ∷ cs) t = walks-more i b l c cs t (λ k u. walks i (bookCall b c .book) k cs u)
-
--- from the book that Start opens: what is answered is what the book holds
-pub same-answers : (i : Inputs) (l : List Float) (cs : List Call) → State i (opened i) l → answers (runOf (opened i)) l cs ≡ entries (after (opened i) cs)
-unfolding opened
-same-answers i l cs t = walks i (opened i) l cs t .same-entries

@@ -3,7 +3,7 @@ use Prim.Native.Nat.{ℕ, suc, _+_, _≤_, _<_}
 use mathlib.Core.Path.{_≡_}
 use mathlib.Core.Logic.{_⊎_}
 use mathlib.Core.Bool.{true, false}
-use mathlib.Core.List.{List, List·Memᴰ}
+use mathlib.Core.List.{List, [], List·Memᴰ}
 use lib.ListN.{length, take}
 use lib.Ieee.{Float, neg, lt, le, eq, isNan}
 use Rattle.common.specs.Each.{All}
@@ -38,13 +38,13 @@ use Rattle.search_calls.specs.declared.stop.Outlook.{Outlook}
 use Rattle.search_calls.specs.declared.stop.Stopped.the-variants.{Standing}
 use Rattle.search_calls.specs.Stop.{stopDef}
 use Rattle.book.specs.Calls.{Call}
-use Rattle.book.specs.Book.{Inputs, demand, Entry, entries, scoredOf, firstList, opened, replies, after}
+use Rattle.book.specs.Book.{Inputs, demand, Entry, Book, entries, scoredOf, firstList, opened, replies, after}
 use Rattle.book.specs.Conditions.{FirstHolds, NoneHolds, conditions}
 use Rattle.book.specs.Walk.{walk}
-use Rattle.book.specs.Trace.{Handing, tiltY, handedInRound, handed, answers, runAfter, listAfter}
+use Rattle.book.specs.Trace.{Handing, tiltY, handedInRound, allHanded, allAnswers, runAfter, listAfter}
 use Rattle.book.specs.Named.{outcomesIn, handings}
 use Rattle.book.specs.Rounds.{LaterRound}
-use Rattle.book.specs.Share.{AnsweredBy}
+use Rattle.book.specs.Share.{Rests}
 use Rattle.book.specs.Stop.{Stops}
 use Rattle.book.specs.Lent.{Lent, through, accepted, stillLeft, Turn, AllTaken, turns}
 
@@ -103,44 +103,50 @@ pub record TiltTried (i : Inputs) (hs : List Handing) (es : List Entry) (t : Sch
 abbrev pub Over : Run → Type 0
 Over r = ((w : Candidate) × (resultDef r ≡ Result w)) ⊎ (resultDef r ≡ resulted-as.Refused 11)
 
--- ---- what holds of a run that Start opened, and of the list that Start wrote, for a list of calls
-pub record Follows (i : Inputs) (r : Run) (l : List Float) (cs : List Call) : Type 0 where
+-- ---- What holds of a run r and a list l as the plain book b has them, no seed waiting, for a list of calls. kept are the entries that b has before the calls: none where
+-- Start opened the run, those of the kept lines where Resume did (02, E13). All that is handed out and answered is meant with them.
+pub record ByBook (i : Inputs) (b : Book) (kept : List Entry) (r : Run) (l : List Float) (cs : List Call) : Type 0 where
   -- every reply is the book's
-  pub same-replies : walk r l cs ≡ replies (opened i) cs
+  pub same-replies : walk r l cs ≡ replies b cs
   -- the accepted answers are those that the book holds
-  pub same-entries : answers r l cs ≡ entries (after (opened i) cs)
+  pub same-entries : allAnswers kept r l cs ≡ entries (after b cs)
   -- whatever the host sent, none of their scores is NaN
-  pub no-nan : NoNan (answers r l cs)
+  pub no-nan : NoNan (allAnswers kept r l cs)
   -- If Result then gives a result: each round handed out the seeds that the rules name from Start's inputs and the outcomes of the rounds
   -- before, each once, in order, numbered on from 0; and the result is the earliest candidate with the lowest score, within 01's bounds.
-  pub handed-out : (w : Candidate) → resultDef (runAfter r l cs) ≡ Result w → handed r l cs ≡ handings i (outcomesIn (answers r l cs)) (suc (i .rounds))
-  pub wins : (w : Candidate) → resultDef (runAfter r l cs) ≡ Result w → Wins i (answers r l cs) w
-  -- and its mean rests on the share of the rows of its own answer, in whole numbers
-  pub rests : (w : Candidate) → resultDef (runAfter r l cs) ≡ Result w → AnsweredBy (i .share) r l cs w
+  pub handed-out : (w : Candidate) → resultDef (runAfter r l cs) ≡ Result w → allHanded kept r l cs ≡ handings i (outcomesIn (allAnswers kept r l cs)) (suc (i .rounds))
+  pub wins : (w : Candidate) → resultDef (runAfter r l cs) ≡ Result w → Wins i (allAnswers kept r l cs) w
+  -- and its mean rests on the share of the rows of its own answer, in whole numbers, unless it is a kept line's
+  pub rests : (w : Candidate) → resultDef (runAfter r l cs) ≡ Result w → Rests (i .share) kept r l cs w
   -- If the run is over, with a result or with 11: every pair of typed tilts within ±max_abs_tilt was tried.
   pub every-tilt : Over (runAfter r l cs) → (x y : Float) → List·Memᴰ x (i .xs) → List·Memᴰ y (i .ys)
       → le (neg (i .max)) x ≡ true → le x (i .max) ≡ true → le (neg (i .max)) y ≡ true → le y (i .max) ≡ true
-      → TiltTried i (handed r l cs) (answers r l cs) (tilts x y)
+      → TiltTried i (allHanded kept r l cs) (allAnswers kept r l cs) (tilts x y)
   -- A later round hands out at most nine seeds, and at most three in a one-axis run; there the tilt about y is a zero, and +0 in later rounds.
-  pub few-later : (k : ℕ) → length (handedInRound (suc k) (handed r l cs)) ≤ mostSeeds (i .one-axis)
-  pub untilted : i .one-axis ≡ true → All (λ h. eq (tiltY h) plusZero ≡ true) (handed r l cs)
-  pub later-untilted : i .one-axis ≡ true → All (λ h. 0 < h .round → tiltY h ≡ plusZero) (handed r l cs)
+  pub few-later : (k : ℕ) → length (handedInRound (suc k) (allHanded kept r l cs)) ≤ mostSeeds (i .one-axis)
+  pub untilted : i .one-axis ≡ true → All (λ h. eq (tiltY h) plusZero ≡ true) (allHanded kept r l cs)
+  pub later-untilted : i .one-axis ≡ true → All (λ h. 0 < h .round → tiltY h ≡ plusZero) (allHanded kept r l cs)
   -- at most 656 answers are accepted
-  pub few-answers : length (answers r l cs) ≤ 656
+  pub few-answers : length (allAnswers kept r l cs) ≤ 656
   -- where a seed waits Answer takes Failed, and Solved with rows that 13 doesn't refuse: 27 comes from a changed list alone
   pub answer-accepted : runAfter r l cs .waiting .«is_waiting» ≡ true → (f : Finding) (rows : List Float) (flags : List ℕ)
       → (f ≡ Failed) ⊎ (firstRefusal (rowChecks rows flags) ≡ 0) → answerRefusal (runAfter r l cs) (length (listAfter r l cs)) f rows flags ≡ 0
   -- the progress bar: after round 0 its total is exactly what the rules for the tilts give
-  pub later-round : 0 < progressDef (runAfter r l cs) .round → LaterRound i (answers r l cs) (progressDef (runAfter r l cs) .round) (progressDef (runAfter r l cs) .total)
+  pub later-round : 0 < progressDef (runAfter r l cs) .round → LaterRound i (allAnswers kept r l cs) (progressDef (runAfter r l cs) .round) (progressDef (runAfter r l cs) .total)
   -- the stop call, of which n numbers of the list are lent: what it says of this round is so, whatever calls follow
-  pub stops : (n : ℕ) (o : Outlook) → stopDef (runAfter r l cs) (take n (listAfter r l cs)) ≡ Standing o → Stops r l cs o
+  pub stops : (n : ℕ) (o : Outlook) → stopDef (runAfter r l cs) (take n (listAfter r l cs)) ≡ Standing o → Stops kept r l cs o
 
--- ---- the end of a run, whatever list each call is lent and whatever is answered: s is the run after the calls cs
-pub record Ends (i : Inputs) (r : Run) (cs : List Lent) (s : Run) : Type 0 where
+-- of a run that Start opened, and of the list that Start wrote
+abbrev pub Follows : Inputs → Run → List Float → List Call → Type 0
+Follows i r l cs = ByBook i (opened i) [] r l cs
+
+-- ---- the end of a run, whatever list each call is lent and whatever is answered: s is the run after the calls cs; before counts the answers
+-- accepted before these calls, 0 where Start opened the run
+pub record Ends (i : Inputs) (before : ℕ) (r : Run) (cs : List Lent) (s : Run) : Type 0 where
   -- it is sound; its number counts the accepted answers; with the seeds left and nine for each round left that is at most 656
   pub is-sound : sound s ≡ true
-  pub number-is : s .place .number ≡ accepted r cs
-  pub few : accepted r cs + stillLeft s ≤ 656
+  pub number-is : s .place .number ≡ before + accepted r cs
+  pub few : before + accepted r cs + stillLeft s ≤ 656
   -- until it is over Next hands out a seed where none waits, and Answer takes what isn't refused for itself where one does; Failed never is
   pub next-accepted : s .place .over ≡ false → s .waiting .«is_waiting» ≡ false → (l : List Float) → demand i ≤ length l
       → nextDef s l .reply ≡ handed-as.Candidate (s .place .number)
@@ -161,7 +167,7 @@ pub record Starts (i : Inputs) (l : List Float) : Type 0 where
 pub record IsBook (i : Inputs) (l : List Float) : Type 0 where
   pub starts : Starts i l
   pub follows : (r : Run) → startOf i l ≡ Accepted r → (cs : List Call) → Follows i r (startedList i l) cs
-  pub ends : (r : Run) → startOf i l ≡ Accepted r → (cs : List Lent) → Ends i r cs (through r cs)
+  pub ends : (r : Run) → startOf i l ≡ Accepted r → (cs : List Lent) → Ends i 0 r cs (through r cs)
 
 abbrev pub SearchIsBook : Type 0
 SearchIsBook = (i : Inputs) (l : List Float) → IsBook i l

@@ -1,11 +1,12 @@
 -- What a walk hands out and what it accepts, read off the entry points' definitions alone. Definitions only.
 use Prim.Native.Nat.{ℕ}
 use mathlib.Core.Bool.{cond}
-use mathlib.Core.List.{List, [], _∷_, _++_}
+use mathlib.Core.List.{List, [], _∷_, _++_, map}
 use lib.Dec.{eqb}
 use lib.ListN.{length, getD, take}
 use lib.Ieee.{Float, nan}
 use Rattle.seed_rules.specs.Merge.{keep}
+use Rattle.seed_rules.specs.Layout.{six}
 use Rattle.score_outcome.specs.Evaluation.{outcomeOf}
 use Rattle.search_record.specs.declared.run.Run.{Run}
 use Rattle.search_calls.specs.declared.next.Handed.{Handed}
@@ -67,7 +68,18 @@ unfoldable pub answers : Run → List Float → List Call → List Entry
 answers r l [] = []
 answers r l (c ∷ cs) = let a = runCall r l c in answeredBy r l c ++ answers (a .run) (a .list) cs
 
--- the run after them
+-- ---- the same with the entries that were kept from before the calls: none where Start opened the run, the kept lines' where Resume did
+-- an entry as it was handed out
+abbrev pub handingOf : Entry → Handing
+handingOf e = record { round = e .round; number = e .number; part = six (e .seed) }
+
+abbrev pub allHanded : List Entry → Run → List Float → List Call → List Handing
+allHanded kept r l cs = map handingOf kept ++ handed r l cs
+
+abbrev pub allAnswers : List Entry → Run → List Float → List Call → List Entry
+allAnswers kept r l cs = kept ++ answers r l cs
+
+-- ---- the run and the list after them
 unfoldable pub runAfter : Run → List Float → List Call → Run
 runAfter r l [] = r
 runAfter r l (c ∷ cs) = let a = runCall r l c in runAfter (a .run) (a .list) cs

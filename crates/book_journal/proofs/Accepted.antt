@@ -133,7 +133,7 @@ reply-started i l bs n s h =
     (λ e. let q : declined k ≡ winner n s = simp e at h in let z : _≡_ {A = ℕ} 0 1 = cc in absurd (omega arith))
 
 -- ---- the book's best wins
-pub book-wins : (i : Inputs) (b : Book) (w : Candidate) → Good i b → runBest b ≡ chosen w → Wins i (entries b) w
+book-wins : (i : Inputs) (b : Book) (w : Candidate) → Good i b → runBest b ≡ chosen w → Wins i (entries b) w
 unfolding runBest
 book-wins i b w g e = rw (g .inputs-are) at (best-wins (b .inputs) (entries b) w (g .core .numbered) (g .core .proper) e)
 

@@ -1,6 +1,6 @@
 -- What the walk says of a journal is what the reader says of it: all lines are read, or the reader refuses the next one with the same number, or the next one is
 -- read and can't follow. Assumes nothing.
-use Prim.Native.Nat.{ℕ, suc, _+_}
+use Prim.Native.Nat.{ℕ, suc}
 use native.Mathlib.Omega.{arith}
 use mathlib.Core.Path.{_≡_, refl, sym, ap, _∙_}
 use mathlib.Core.Logic.{_⊎_, inl, inr, ⊎-elim}

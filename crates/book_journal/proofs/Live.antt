@@ -5,7 +5,7 @@ use native.Mathlib.Omega.{arith}
 use mathlib.Core.Path.{_≡_, refl, sym, ap, _∙_}
 use mathlib.Core.Logic.{_⊎_, inl, inr, ⊎-elim}
 use mathlib.Core.Bool.{true, false, cond}
-use mathlib.Core.List.{List, [], _∷_, _++_, map, append-assoc}
+use mathlib.Core.List.{List, [], _∷_, _++_, append-assoc}
 use borrow.Author.Tests.{ltb-false, ne-eqb, eqb-false}
 use lib.Dec.{ltb, eqb}
 use lib.ListN.{length, take, drop, length-take, take-append-drop}
@@ -22,32 +22,30 @@ use Rattle.score_best.specs.Best.{noBest}
 use Rattle.search_record.specs.declared.run.Run.{Run}
 use Rattle.search_answer.specs.Answer as ans
 use Rattle.book.specs.Calls.{Call, next, seed, answer, ask, progress, stop, last, counts}
-use Rattle.book.specs.Book.{Inputs, demand, Book, entries, current, roundBest, runBest, orElse, listAround, opened, withWaiting, withEntry, withRound, withEnd, closeRound, bookEnter, Kept as Answer, bookAnswer, bookCall, after}
+use Rattle.book.specs.Book.{Inputs, demand, Book, current, roundBest, runBest, orElse, listAround, opened, withWaiting, withEntry, withRound, withEnd, closeRound, bookEnter, Kept as Answer, bookAnswer, bookCall}
 use Rattle.book.specs.Conditions.{NoneHolds, conditions}
 use Rattle.book.specs.Walk.{runCall}
 use Rattle.book.specs.Trace as trace
 use Rattle.search_start.specs.declared.Started.the-variants.{Accepted}
+use Rattle.book.specs.Lent.{Lent}
 use Rattle.book.specs.Theorem.{startOf, startedList}
 use Rattle.book.proofs.Cases.{case-chosen, case-list}
 use Rattle.book.proofs.Moves.{outcome-stands, enteredBy, Moves, stays, hands, enters, moves, call-by}
 use Rattle.book.proofs.Good.{Good, waits-going, steps}
 use Rattle.book.proofs.Lists.{short}
-use Rattle.book.proofs.RunOf.{runOf, State, run-fields, sound-run, count-bound}
+use Rattle.book.proofs.RunOf.{runOf, State, run-fields, sound-run}
 use Rattle.book.proofs.Simulation.{run-seeds, open-run, run-else, enter-run, call-agrees}
 use Rattle.book.proofs.Starts.{accepted, list-is}
 use Rattle.book.proofs.Opening.{opens}
-use Rattle.book.proofs.Walks.{walks}
-use Rattle.book.proofs.Growth.{handedIn}
-use Rattle.book.proofs.Tilts.{all-tried}
-use Rattle.book.proofs.Theorem.{result-over, is-over, over-handed, all-handed, answer-open}
+use Rattle.book.proofs.Ending.{run-ends}
+use Rattle.book.proofs.Theorem.{follows}
 use Rattle.book_journal.specs.Replay.{startNumber, listAfter, walked}
 use Rattle.book_journal.specs.History.{fresh, History, InputsFit, CallFits, listUnder}
 use Rattle.book_journal.specs.ReplayLaw.{BufferOf}
-use Rattle.book_journal.specs.Live.{LiveBuffer, handingOf, Continues}
+use Rattle.book_journal.specs.Live.{LiveBuffer, Continues, ContinuesToEnd}
 use Rattle.book_journal.proofs.Opening.{start-number, room-enough}
 use Rattle.book_journal.proofs.Kept.{kept-walked}
 use Rattle.book_journal.proofs.Held.{no-entry}
-use Rattle.book_journal.proofs.Accepted.{book-wins}
 use Rattle.book_journal.proofs.Buffer.{await-same, after-same, walked-buffer, run-again}
 use Rattle.book_journal.proofs.Cut.{none-waits}
 
@@ -226,24 +224,9 @@ pub walked-state : (i : Inputs) (l : List Float) (bs : List ℕ) → NoneHolds (
 walked-state i l bs a =
     buffer-state i l (walked i l bs .book) (walked i l bs .list) (room-enough i (length l) a) (kept-walked i (length l) a l bs .good) (walked-buffer i l bs a)
 
-continues : (i : Inputs) (b : Book) (m : List Float) (cs : List Call) → b .waits ≡ false → State i b m → Continues i b (runOf b) m cs
-continues i b m cs q s =
-    let w = walks i b m cs s in
-    let c = after b cs in
-    let g = w .state .good in
-    let out : map handingOf (entries b) ++ trace.handed (runOf b) m cs ≡ handedIn c = ap (λ (z : List trace.Handing). z ++ trace.handed (runOf b) m cs) (sym (over-handed b q)) ∙ w .same-handed in
-    record {
-      same-replies = w .same-replies;
-      same-entries = w .same-entries;
-      handed-out = λ v h. let r = result-over i c v g (rw (w .run-is) at h) in rw (w .same-entries) (out ∙ all-handed i c v g (r .0) (r .1));
-      wins = λ v h. rw (w .same-entries) (book-wins i c v g (result-over i c v g (rw (w .run-is) at h) .1));
-      every-tilt = λ v x y mx my lx hx ly hy.
-          let o = is-over i c g (rw (w .run-is) at v) in
-          rw (w .same-entries, out ∙ over-handed c (g .calm o)) (all-tried i c g o x y mx my lx hx ly hy);
-      few-answers = rw (w .same-entries) (count-bound i c g);
-      answer-accepted = rw (w .run-is) (answer-open i c (trace.listAfter (runOf b) m cs) (w .state));
-    }
-
 pub resumed-continues : (i : Inputs) (l : List Float) (bs : List ℕ) → NoneHolds (conditions i (length l)) → (cs : List Call)
     → Continues i (walked i l bs .book) (runOf (walked i l bs .book)) (walked i l bs .list) cs
-resumed-continues i l bs a cs = continues i (walked i l bs .book) (walked i l bs .list) cs (none-waits i l bs) (walked-state i l bs a)
+resumed-continues i l bs a cs = follows i (walked i l bs .book) (walked i l bs .list) cs (none-waits i l bs) (walked-state i l bs a)
+
+pub resumed-ends : (i : Inputs) (l : List Float) (bs : List ℕ) → NoneHolds (conditions i (length l)) → (cs : List Lent) → ContinuesToEnd i (walked i l bs .book) (runOf (walked i l bs .book)) cs
+resumed-ends i l bs a cs = run-ends i (walked i l bs .book) cs (kept-walked i (length l) a l bs .good)

@@ -40,6 +40,7 @@ journals-right = record {
   goes-on-somewhere = λ i h f at. going.goes-on-somewhere i h (f .inputs-fit) (f .calls-fit) at;
   enters-on = λ i h f at. going.enters-on i h (f .inputs-fit) (f .calls-fit) at;
   continues = live.resumed-continues;
+  continues-to-end = live.resumed-ends;
   journal-grows = going.journal-grows;
   counts-agree = counting.counts-agree;
   in-journal = λ i h f. counting.in-journal i h (f .inputs-fit) (f .calls-fit);
