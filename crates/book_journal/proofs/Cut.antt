@@ -91,6 +91,10 @@ behind-newline (c ∷ j) (d ∷ part) [] e n = let q : j ++ d ∷ part ≡ [] = 
 behind-newline (c ∷ j) (d ∷ part) (t ∷ s) e n = let q : j ++ d ∷ part ≡ s ++ 10 ∷ [] = cc in behind-newline j (d ∷ part) s q n
 
 -- ---- the report of any bytes
+pub opened-waits : (i : Inputs) → opened i .waits ≡ false
+unfolding opened
+opened-waits i = refl
+
 module _ (i : Inputs) (l : List Float) (bs : List ℕ) where
   abbrev walk : Walked
   walk = walked i l bs
@@ -105,10 +109,7 @@ module _ (i : Inputs) (l : List Float) (bs : List ℕ) where
   adds-up = sym (length-append (keptOf bs walk) (restOf bs walk)) ∙ sym (ap length kept-and-rest)
 
   pub none-waits : walk .book .waits ≡ false
-  none-waits = walked-keeps (λ b k. b .waits ≡ false) (λ b k m ok can h t. enter-holds b _ .1) i l bs opened-waits
-    where
-      opened-waits : opened i .waits ≡ false
-      opened-waits = unfold opened in refl
+  none-waits = walked-keeps (λ b k. b .waits ≡ false) (λ b k m ok can h t. enter-holds b _ .1) i l bs (opened-waits i)
 
   module _ (a : NoneHolds (conditions i (length l))) (f : InputsFit i) where
     -- all the lines that were taken are those of the book

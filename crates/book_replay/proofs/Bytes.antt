@@ -2,7 +2,6 @@
 use Prim.Native.Nat.{ℕ, zero, suc, _+_}
 use native.Mathlib.Omega.{arith}
 use mathlib.Core.Path.{_≡_, refl, ap, _∙_}
-use mathlib.Core.Bool.{false}
 use mathlib.Core.List.{List}
 use lib.ListN.{length, take}
 use lib.Ieee.{Float}
@@ -24,7 +23,7 @@ use Rattle.book_journal.specs.Replay.{startNumber, walkFrom, walked, replayOf}
 use Rattle.book_journal.specs.Resume.{keptOf, reportOn}
 use Rattle.book_journal.proofs.Opening.{start-number, none-refused}
 use Rattle.book_journal.proofs.Accepted.{start-refuses}
-use Rattle.book_journal.proofs.Cut.{none-waits, resume-refuses, resume-accepts}
+use Rattle.book_journal.proofs.Cut.{opened-waits, none-waits, resume-refuses, resume-accepts}
 use Rattle.book_journal.proofs.Live.{walked-state}
 use Rattle.book_replay.specs.Theorem.{ReplayIsBook, ResumeIsBook}
 use Rattle.book_replay.proofs.Lines.{recordWalk, walks, stands-same}
@@ -48,14 +47,11 @@ module _ (i : Inputs) (l : List Float) (bs : List ℕ) where
         let c = whole-front bs in
         let m = written (firstList i) l in
         let e = stopAt (j .ending) in
-        let w = walks i (opened i) m 0 0 (j .lines) e start-state opened-waits (c .lines-fit) (c .can-be-written) in
+        let w = walks i (opened i) m 0 0 (j .lines) e start-state (opened-waits i) (c .lines-fit) (c .can-be-written) in
         let n : w .count ≡ walkFrom (opened i) m 0 (j .lines) e .taken = let t = w .taken-is in omega arith in
         let k = length (journalBytes (take (w .count) (j .lines))) in
         let z : 0 + k ≡ k = omega arith in
         w .walk-is ∙ ap (recordWalk (walkFrom (opened i) m 0 (j .lines) e)) (z ∙ ap (λ (x : ℕ). length (journalBytes (take x (j .lines)))) n)
-      where
-        opened-waits : opened i .waits ≡ false
-        opened-waits = unfold opened in refl
 
     replay-accepted : ReplayIsBook i l bs
     unfolding replyTo replayOf

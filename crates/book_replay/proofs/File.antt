@@ -25,7 +25,7 @@ use Rattle.journal_replay.specs.declared.Resumed.the-variants as resume
 use Rattle.journal_replay.specs.Replay.{ReplayLeft, replayFrom}
 use Rattle.journal_replay.specs.Resume.{endedBy, ResumeLeft}
 use Rattle.book.specs.Calls.{Call}
-use Rattle.book.specs.Book.{Inputs, Book, entries, number, current, roundBest, runBest, firstList, opened, withWaiting, after, lineOf}
+use Rattle.book.specs.Book.{Inputs, Book, entries, number, roundBest, runBest, firstList, opened, after, lineOf}
 use Rattle.book.specs.Conditions.{NoneHolds, conditions}
 use Rattle.book.specs.Trace as trace
 use Rattle.book.specs.Theorem.{startOf, startedList}
@@ -51,7 +51,7 @@ use Rattle.book_journal.proofs.GoingOn.{goes-on-somewhere}
 use Rattle.book_journal.proofs.Live.{live-list, walked-state, resumed-continues}
 use Rattle.book_journal.proofs.Written as writing
 use Rattle.book_replay.specs.Theorem.{withRecord, GivesRun, ResumedRun, allKept, ResumedRecord, CutRecord, OpenedAs, by-start, by-resume, noneWaiting, StandsAs, again, file, GoesBack, CutBack, OfRun}
-use Rattle.book_replay.proofs.Lines.{next-going}
+use Rattle.book_replay.proofs.Lines.{next-going, await-seed}
 use Rattle.book_replay.proofs.Bytes.{start-list, start-state, either, replay-is-book, resume-is-book}
 
 -- ---- an accepted Resume
@@ -165,11 +165,8 @@ stands-as i b l f =
       comes-next = λ h w.
           let v : b .waits ≡ false = simp run-fields at w in
           let o = going-of i b g h in
-          rw (next-going i b l f v o, run-number b) (refl, simp (o, handed-out b));
+          rw (next-going i b l f v o, run-number b) (refl, simp (o, await-seed b));
     }
-  where
-    handed-out : (b : Book) → runOf (withWaiting b) .waiting .seed ≡ current b
-    handed-out b = unfold runOf withWaiting in refl
 
 -- ---- a record at rest
 rest-run : (b : Book) → runOf (atRest b) ≡ noneWaiting (runOf b)

@@ -29,10 +29,10 @@ use Rattle.journal_replay.specs.Walk.{answersWaiting, takeLine, RunWalk, walkLi
 use Rattle.journal_replay.specs.Replay.{standingOf}
 use Rattle.book.specs.Book.{Inputs, demand, Book, number, current, runBest, withWaiting, withEntry, bookEnter}
 use Rattle.book.proofs.Cases.{case-chosen}
-use Rattle.book.proofs.Moves.{enter-holds}
+use Rattle.book.proofs.Moves.{enter-holds, await-holds}
 use Rattle.book.proofs.Good.{steps}
 use Rattle.book.proofs.RunOf.{runOf, State, run-fields, run-bests, sound-run}
-use Rattle.book.proofs.Simulation.{There, await-run, await-there, in-list, enter-agrees}
+use Rattle.book.proofs.Simulation.{await-run, await-there, in-list, Ends, enter-agrees}
 use Rattle.book_journal.specs.Replay.{follows, Walked, listAfter, walkFrom, standing}
 use Rattle.book_journal.proofs.Standing.{follower}
 use Rattle.book_journal.proofs.Walk.{walk-end, walk-on, walk-stop}
@@ -45,11 +45,11 @@ module _ (i : Inputs) (b : Book) (l : List Float) (f : State i b l) (w : b .wait
   next-going o =
       simp (run-fields, sound-run i b (f .good), w, o, le-ltb (length l) (demand (b .inputs)) (f .there .long), in-list b l (f .there) (f .good .room o), await-run b)
 
-  pub next-none : b .over ≡ true → runBest b ≡ nothing → nextDef (runOf b) l ≡ record { reply = handed.Refused 11; run = runOf b }
+  next-none : b .over ≡ true → runBest b ≡ nothing → nextDef (runOf b) l ≡ record { reply = handed.Refused 11; run = runOf b }
   unfolding nextDef
   next-none o e = simp (run-fields, run-bests, sound-run i b (f .good), w, o, e, le-ltb (length l) (demand (b .inputs)) (f .there .long))
 
-  pub next-over : (v : Candidate) → b .over ≡ true → runBest b ≡ chosen v → nextDef (runOf b) l ≡ record { reply = handed.Over; run = runOf b }
+  next-over : (v : Candidate) → b .over ≡ true → runBest b ≡ chosen v → nextDef (runOf b) l ≡ record { reply = handed.Over; run = runOf b }
   unfolding nextDef
   next-over v o e = simp (run-fields, run-bests, sound-run i b (f .good), w, o, e, le-ltb (length l) (demand (b .inputs)) (f .there .long))
 
@@ -70,40 +70,42 @@ unfolding follows
 follows-over b m o = simp o
 
 -- ---- an outcome is entered, and whether its seed waits before it makes no difference
-await-waits : (b : Book) → (withWaiting b .waits ≡ true) × (withWaiting b .inputs ≡ b .inputs)
-unfolding withWaiting
-await-waits b = (refl, refl)
+module _ (b : Book) where
+  await-inputs : withWaiting b .inputs ≡ b .inputs
+  unfolding withWaiting
+  await-inputs = refl
 
-await-enter : (b : Book) (o : Outcome) → bookEnter (withWaiting b) o ≡ bookEnter b o
-unfolding bookEnter withEntry withWaiting
-await-enter b o = refl
+  pub await-seed : runOf (withWaiting b) .waiting .seed ≡ current b
+  unfolding runOf withWaiting
+  await-seed = refl
 
-await-list : (b c : Book) (l : List Float) → listAfter (withWaiting b) c l ≡ listAfter b c l
-unfolding listAfter withWaiting
-await-list b c l = refl
+  await-enter : (o : Outcome) → bookEnter (withWaiting b) o ≡ bookEnter b o
+  unfolding bookEnter withEntry withWaiting
+  await-enter o = refl
+
+  await-list : (c : Book) (l : List Float) → listAfter (withWaiting b) c l ≡ listAfter b c l
+  unfolding listAfter withWaiting
+  await-list c l = refl
 
 module _ (i : Inputs) (b : Book) (l : List Float) (f : State i b l) (o : Outcome) where
-  abbrev entered : Book
-  entered = bookEnter b o
+  abbrev entered : Left
+  entered = enterDef (runOf (withWaiting b)) l o
 
-  enter-left : enterDef (runOf (withWaiting b)) l o ≡ left (runOf entered) (listAfter b entered l)
+  enter-ends : Ends entered (bookEnter b o)
+  enter-ends = rw (await-enter b o) at (enter-agrees (withWaiting b) o l (await-holds b .1) (await-there b l (f .there)) (rw (await-inputs b) (f .good .core .sized .least)))
+
+  enter-left : entered ≡ left (runOf (bookEnter b o)) (listAfter b (bookEnter b o) l)
   enter-left =
-      let w = await-waits b in
-      let e = enter-agrees (withWaiting b) o l (w .0) (await-there b l (f .there)) (rw (w .1) (f .good .core .sized .least)) in
-      let r : enterDef (runOf (withWaiting b)) l o .run ≡ runOf entered = e .run ∙ ap runOf (await-enter b o) in
-      let m : enterDef (runOf (withWaiting b)) l o .list ≡ listAfter b entered l =
-      enter-list (withWaiting b) o l (w .0) ∙ ap (λ (c : Book). listAfter (withWaiting b) c l) (await-enter b o) ∙ await-list b entered l in
-      ap (λ (x : Run). left x (enterDef (runOf (withWaiting b)) l o .list)) r ∙ ap (left (runOf entered)) m
-
-  enter-there : There entered (listAfter b entered l)
-  enter-there =
-      let w = await-waits b in
-      let e = enter-agrees (withWaiting b) o l (w .0) (await-there b l (f .there)) (rw (w .1) (f .good .core .sized .least)) in
-      rw (enter-left, await-enter b o) at (e .there)
+      let m : entered .list ≡ listAfter b (bookEnter b o) l =
+      enter-list (withWaiting b) o l (await-holds b .1) ∙ ap (λ (c : Book). listAfter (withWaiting b) c l) (await-enter b o) ∙ await-list b (bookEnter b o) l in
+      ap (λ (x : Run). left x (entered .list)) (enter-ends .run) ∙ ap (left (runOf (bookEnter b o))) m
 
 -- ---- one line: it is taken just where it follows
 module _ (i : Inputs) (b : Book) (l : List Float) (f : State i b l) (w : b .waits ≡ false) (m : Line) where
-  line-taken : follows b m ≡ true → takeLine (runOf b) l m ≡ some (left (runOf (entered i b l f (outcomeIn (m .outcome)))) (listAfter b (entered i b l f (outcomeIn (m .outcome))) l))
+  abbrev next : Book
+  next = bookEnter b (outcomeIn (m .outcome))
+
+  line-taken : follows b m ≡ true → takeLine (runOf b) l m ≡ some (left (runOf next) (listAfter b next l))
   unfolding takeLine
   line-taken t =
       case (b .over)
@@ -117,11 +119,13 @@ module _ (i : Inputs) (b : Book) (l : List Float) (f : State i b l) (w : b .wait
       (λ o. case-chosen (runBest b) (λ e. simp (next-none i b l f w o e)) (λ v e. simp (next-over i b l f w v o e)))
       (λ o. simp (next-going i b l f w o, answers-next b m, sym (follows-going b m o) ∙ t))
 
-  line-state : LineFits m → Writable m → follows b m ≡ true
-      → State i (entered i b l f (outcomeIn (m .outcome))) (listAfter b (entered i b l f (outcomeIn (m .outcome))) l)
+  line-state : LineFits m → Writable m → follows b m ≡ true → State i next (listAfter b next l)
   line-state ok can t =
       let s = follower b m ok can t in
-      record { good = steps i .enters-by b (outcomeIn (m .outcome)) (s .going) (s .stands) (f .good); there = enter-there i b l f (outcomeIn (m .outcome)) }
+      record {
+        good = steps i .enters-by b (outcomeIn (m .outcome)) (s .going) (s .stands) (f .good);
+        there = rw (enter-left i b l f (outcomeIn (m .outcome))) at (enter-ends i b l f (outcomeIn (m .outcome)) .there);
+      }
 
 -- ---- any lines
 walk-none : (r : Run) (l : List Float) (n k : ℕ) (m : Line) (ms : List Line) (e : Stop) → takeLine r l m ≡ none
@@ -195,7 +199,4 @@ unfolding standingOf standing
 stands-same i b l f w =
     case (b .over)
     (λ o. case-chosen (runBest b) (λ e. simp (next-none i b l f w o e, o, e)) (λ v e. simp (next-over i b l f w v o e, o, e, run-bests)))
-    (λ o. simp (next-going i b l f w o, o, waiting-is b))
-  where
-    waiting-is : (b : Book) → runOf (withWaiting b) .waiting .seed ≡ current b
-    waiting-is b = unfold runOf withWaiting in refl
+    (λ o. simp (next-going i b l f w o, o, await-seed b))
