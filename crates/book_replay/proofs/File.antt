@@ -4,8 +4,8 @@ use Prim.Native.Nat.{ℕ, suc, _≤_}
 use native.Mathlib.Omega.{arith}
 use mathlib.Core.Path.{_≡_, refl, sym, ap, _∙_}
 use mathlib.Core.Bool.{true, false}
-use mathlib.Core.List.{List, [], _++_, append-nil}
-use lib.ListN.{length, take, drop, length-map}
+use mathlib.Core.List.{List, [], _++_, append-assoc, append-nil}
+use lib.ListN.{length, take, drop, length-map, take-append-drop}
 use lib.Seq.{take-at, drop-at}
 use lib.Ieee.{Float}
 use Rattle.common.specs.Tests.{case}
@@ -46,7 +46,7 @@ use Rattle.book_journal.proofs.Opening.{start-number}
 use Rattle.book_journal.proofs.Walk.{walkEnd, any-buffer}
 use Rattle.book_journal.proofs.Again.{Sound, sound-at, lines-right, listAlong, walked-again}
 use Rattle.book_journal.proofs.Buffer.{along, history-along, run-again}
-use Rattle.book_journal.proofs.Cut.{resume-refuses, resume-accepts, gives-back}
+use Rattle.book_journal.proofs.Cut.{cut-anywhere, resume-refuses, resume-accepts, gives-back}
 use Rattle.book_journal.proofs.GoingOn.{goes-on-somewhere}
 use Rattle.book_journal.proofs.Live.{live-list, walked-state, resumed-continues}
 use Rattle.book_journal.proofs.Written as writing
@@ -296,13 +296,25 @@ module _ (i : Inputs) (l : List Float) (a : NoneHolds (conditions i (length l)))
             rest-along : (b : Book) → along i l (atRest b) ≡ along i l b
             rest-along b = unfold atRest in refl
 
+      kept-front : (j rest : List ℕ) (n : ℕ) → n ≡ length j → cut ≡ j ++ rest → take n (journalOf now) ≡ j
+      kept-front j rest n e c =
+          ap (take n) (sym (take-append-drop at (journalOf now)) ∙ ap (λ (z : List ℕ). z ++ drop at (journalOf now)) c ∙ append-assoc j rest (drop at (journalOf now)))
+          ∙ take-at j (rest ++ drop at (journalOf now)) n (sym e)
+
       cut-back : CutBack i l first list held cs at
-      cut-back = record {
+      cut-back = let x = cut-anywhere i (past cs) f k at l in record {
         run = runOf left;
         says = report i (past cs) at l;
         list = leftList;
         gives-run = rw (file-now cs) (cut-record i (past cs) at l a);
         lines-are = walked-back i l cut f a .lines-are ∙ ap number (any-buffer i l [] cut .0) ∙ sym (run-number left);
+        part = x .part;
+        cut-is = rw (file-now cs, kept-front (journalBytes (take (x .lines) (linesOf now))) (x .part) (report i (past cs) at l .kept) (x .kept-bytes) (x .cut-is)) (x .cut-is);
+        no-newline = x .no-newline;
+        after-newline = rw (file-now cs) (x .after-newline);
+        dropped-part = x .dropped-part;
+        by-nothing = x .by-nothing;
+        by-newline = x .by-newline;
         goes-back = λ n.
             let e : number (openedBy i p) ≤ number left = simp run-fields at n in
             let g = goes-on-somewhere i (past cs) f k at e in

@@ -8,6 +8,7 @@ use lib.ListN.{length, take}
 use lib.Ieee.{Float}
 use Rattle.common.specs.Each.{All}
 use Rattle.score_best.specs.declared.Candidate.{Candidate}
+use Rattle.journal_line.specs.Reading.{newlines}
 use Rattle.search_record.specs.declared.run.Run.{Run}
 use Rattle.search_record.specs.Record.{nobody}
 use Rattle.search_start.specs.declared.Started.the-variants.{Accepted}
@@ -117,13 +118,22 @@ module _ (i : Inputs) (l : List Float) (r : Run) (m : List Float) (held : List �
     pub same-end : runAfter s n (again (runAfter r m before) ++ behind) ≡ runAfter r m cs
     pub same-list : listAfter s n (again (runAfter r m before) ++ behind) ≡ listAfter r m cs
 
-  -- the file cut after any byte, but not before the lines that the opening kept
+  -- what Resume gives back of the file cut after any byte; before the lines that the opening kept there was no such run
   pub record CutBack (at : ℕ) : Type 0 where
     pub run : Run
     pub says : Report
     pub list : List Float
     pub gives-run : GivesRun i l (take at file) run says list
     pub lines-are : says .lines ≡ run .place .number
+    -- only a part of the line that the cut fell in is lost, and nothing where it fell behind a newline
+    pub part : List ℕ
+    pub cut-is : take at file ≡ take (says .kept) file ++ part
+    pub no-newline : newlines part ≡ 0
+    pub after-newline : (s : List ℕ) → take at file ≡ s ++ 10 ∷ [] → part ≡ []
+    pub dropped-part : says .dropped ≡ length part
+    pub by-nothing : part ≡ [] → says .«ended_by» ≡ by.Nothing
+    pub by-newline : (part ≡ [] → ⊥) → says .«ended_by» ≡ by.MissingNewline
+    -- and the run goes back to what it was there
     pub goes-back : r .place .number ≤ run .place .number → GoesBack run list
 
   pub record OfRun : Type 0 where
