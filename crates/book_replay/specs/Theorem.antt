@@ -61,7 +61,7 @@ pub record ResumedRun (i : Inputs) (l : List Float) (bs : List ℕ) (r : Run) (q
   pub gives-back : GivesBack i l bs book m q
   pub continues : (cs : List Call) → Continues i book r m cs
 
--- all of n lines is kept
+-- all is kept: n lines, which are the bytes j
 abbrev pub allKept : ℕ → List ℕ → Report
 allKept n j = record { lines = n; kept = length j; dropped = 0; «ended_by» = by.Nothing }
 
@@ -118,7 +118,7 @@ module _ (i : Inputs) (l : List Float) (r : Run) (m : List Float) (held : List �
     pub same-end : runAfter s n (again (runAfter r m before) ++ behind) ≡ runAfter r m cs
     pub same-list : listAfter s n (again (runAfter r m before) ++ behind) ≡ listAfter r m cs
 
-  -- what Resume gives back of the file cut after any byte; before the lines that the opening kept there was no such run
+  -- what Resume gives back of the file cut after any byte
   pub record CutBack (at : ℕ) : Type 0 where
     pub run : Run
     pub says : Report
@@ -133,7 +133,7 @@ module _ (i : Inputs) (l : List Float) (r : Run) (m : List Float) (held : List �
     pub dropped-part : says .dropped ≡ length part
     pub by-nothing : part ≡ [] → says .«ended_by» ≡ by.Nothing
     pub by-newline : (part ≡ [] → ⊥) → says .«ended_by» ≡ by.MissingNewline
-    -- and the run goes back to what it was there
+    -- and the run is what it was there, if the cut fell behind the lines that it was opened with
     pub goes-back : r .place .number ≤ run .place .number → GoesBack run list
 
   pub record OfRun : Type 0 where
