@@ -15,13 +15,17 @@ use Rattle.score_best.specs.Best.{chosen}
 use Rattle.journal_line.specs.Line.{journalBytes}
 use Rattle.journal_line.specs.Reading.{refused, Lines}
 use Rattle.journal_line.specs.Whole.{whole-lines}
+use Rattle.journal_replay.specs.declared.Stop.{Stop}
+use Rattle.journal_replay.specs.declared.Stop.the-variants.{AllTaken, NotOfForm, NotTheRun}
+use Rattle.journal_replay.specs.declared.Replayed.the-variants.{Winner, Unfinished, Refused, RefusedAt}
+use Rattle.journal_replay.specs.Replay.{replyBy}
 use Rattle.book.specs.Book.{Inputs, Book, entries, current, runBest, lineOf}
 use Rattle.book.specs.Theorem.{Wins}
 use Rattle.book.proofs.Cases.{case-chosen}
 use Rattle.book.proofs.Good.{Good}
 use Rattle.book.proofs.Winner.{winner as best-wins}
 use Rattle.book_journal.specs.Lines.{linesOf}
-use Rattle.book_journal.specs.Replay.{startNumber, Stop, allTaken, notOfForm, notTheRun, Walked, walked, winner, unfinished, declined, declinedAt, standing, replyTo, replayOf}
+use Rattle.book_journal.specs.Replay.{startNumber, Walked, walked, standing, replyTo, replayOf}
 use Rattle.book_journal.specs.History.{InputsFit}
 use Rattle.book_journal.specs.ReplayLaw.{StartRefuses, Declines, SameAsReader, Accepted}
 use Rattle.book_journal.proofs.Opening.{start-number}
@@ -29,20 +33,20 @@ use Rattle.book_journal.proofs.Kept.{kept-walked}
 use Rattle.book_journal.proofs.Beside.{same-as-reader}
 
 -- ---- the reply
-case-stop : (x : Stop) {P : Type 0} → (x ≡ allTaken → P) → (x ≡ notOfForm → P) → (x ≡ notTheRun → P) → P
-case-stop allTaken a b c = a refl
-case-stop notOfForm a b c = b refl
-case-stop notTheRun a b c = c refl
+case-stop : (x : Stop) {P : Type 0} → (x ≡ AllTaken → P) → (x ≡ NotOfForm → P) → (x ≡ NotTheRun → P) → P
+case-stop AllTaken a b c = a refl
+case-stop NotOfForm a b c = b refl
+case-stop NotTheRun a b c = c refl
 
-never-at : (n k m : ℕ) (s : Float) → declinedAt n k ≡ winner m s → ⊥
+never-at : (n k m : ℕ) (s : Float) → RefusedAt n k ≡ Winner m s → ⊥
 never-at n k m s h = let z : _≡_ {A = ℕ} 0 1 = cc in omega arith
 
-reply-taken : (w : Walked) (n : ℕ) (s : Float) → replyTo w ≡ winner n s → (w .stop ≡ allTaken) × (standing (w .book) ≡ winner n s)
+reply-taken : (w : Walked) (n : ℕ) (s : Float) → replyTo w ≡ Winner n s → (w .stop ≡ AllTaken) × (standing (w .book) ≡ Winner n s)
 reply-taken w n s h =
     case-stop (w .stop)
-    (λ e. (e, simp (replyTo, e) at h))
-    (λ e. absurd (never-at 29 (suc (w .taken)) n s (simp (replyTo, e) at h)))
-    (λ e. absurd (never-at 30 (suc (w .taken)) n s (simp (replyTo, e) at h)))
+    (λ e. (e, simp (replyBy, e) at h))
+    (λ e. absurd (never-at 29 (suc (w .taken)) n s (simp (replyBy, e) at h)))
+    (λ e. absurd (never-at 30 (suc (w .taken)) n s (simp (replyBy, e) at h)))
 
 record WonBy (b : Book) (n : ℕ) (s : Float) : Type 0 where
   best : Candidate
@@ -50,15 +54,15 @@ record WonBy (b : Book) (n : ℕ) (s : Float) : Type 0 where
   number-is : best .number ≡ n
   score-is : best .score ≡ s
 
-stands-won : (b : Book) (n : ℕ) (s : Float) → standing b ≡ winner n s → WonBy b n s
+stands-won : (b : Book) (n : ℕ) (s : Float) → standing b ≡ Winner n s → WonBy b n s
 unfolding standing
 stands-won b n s h =
     case (b .over)
     (λ o.
     case-chosen (runBest b)
-    (λ e. let q : declined 11 ≡ winner n s = simp (o, e) at h in let z : _≡_ {A = ℕ} 0 1 = cc in absurd (omega arith))
-    (λ w e. let q : winner (w .number) (w .score) ≡ winner n s = simp (o, e) at h in record { best = w; chosen-is = e; number-is = cc; score-is = cc }))
-    (λ o. let q : unfinished (current b) ≡ winner n s = simp o at h in let z : _≡_ {A = ℕ} 0 1 = cc in absurd (omega arith))
+    (λ e. let q : Refused 11 ≡ Winner n s = simp (o, e) at h in let z : _≡_ {A = ℕ} 0 1 = cc in absurd (omega arith))
+    (λ w e. let q : Winner (w .number) (w .score) ≡ Winner n s = simp (o, e) at h in record { best = w; chosen-is = e; number-is = cc; score-is = cc }))
+    (λ o. let q : Unfinished (current b) ≡ Winner n s = simp o at h in let z : _≡_ {A = ℕ} 0 1 = cc in absurd (omega arith))
 
 -- ---- Start's own refusals
 pub start-refuses : (i : Inputs) (l : List Float) (bs : List ℕ) → StartRefuses i l bs
@@ -68,36 +72,36 @@ start-refuses i l bs n h =
     simp (e, ne-eqb (suc n) 0 (λ q. omega arith))
 
 -- ---- a line that can't be walked
-at-number : (n k m j : ℕ) → declinedAt n k ≡ declinedAt m j → (n ≡ m) × (k ≡ j)
+at-number : (n k m j : ℕ) → RefusedAt n k ≡ RefusedAt m j → (n ≡ m) × (k ≡ j)
 at-number n k m j h = (cc, cc)
 
-stands-not-at : (b : Book) (n k : ℕ) → standing b ≡ declinedAt n k → ⊥
+stands-not-at : (b : Book) (n k : ℕ) → standing b ≡ RefusedAt n k → ⊥
 unfolding standing
 stands-not-at b n k h =
     case (b .over)
     (λ o.
     case-chosen (runBest b)
-    (λ e. let q : declined 11 ≡ declinedAt n k = simp (o, e) at h in let z : _≡_ {A = ℕ} 0 1 = cc in omega arith)
-    (λ w e. let q : winner (w .number) (w .score) ≡ declinedAt n k = simp (o, e) at h in let z : _≡_ {A = ℕ} 0 1 = cc in omega arith))
-    (λ o. let q : unfinished (current b) ≡ declinedAt n k = simp o at h in let z : _≡_ {A = ℕ} 0 1 = cc in omega arith)
+    (λ e. let q : Refused 11 ≡ RefusedAt n k = simp (o, e) at h in let z : _≡_ {A = ℕ} 0 1 = cc in omega arith)
+    (λ w e. let q : Winner (w .number) (w .score) ≡ RefusedAt n k = simp (o, e) at h in let z : _≡_ {A = ℕ} 0 1 = cc in omega arith))
+    (λ o. let q : Unfinished (current b) ≡ RefusedAt n k = simp o at h in let z : _≡_ {A = ℕ} 0 1 = cc in omega arith)
 
 abbrev AtLine : Walked → ℕ → ℕ → Type 0
-AtLine w n k = ((n ≡ 29) × (w .stop ≡ notOfForm) × (k ≡ suc (w .taken))) ⊎ ((n ≡ 30) × (w .stop ≡ notTheRun) × (k ≡ suc (w .taken)))
+AtLine w n k = ((n ≡ 29) × (w .stop ≡ NotOfForm) × (k ≡ suc (w .taken))) ⊎ ((n ≡ 30) × (w .stop ≡ NotTheRun) × (k ≡ suc (w .taken)))
 
-reply-at : (w : Walked) (n k : ℕ) → replyTo w ≡ declinedAt n k → AtLine w n k
+reply-at : (w : Walked) (n k : ℕ) → replyTo w ≡ RefusedAt n k → AtLine w n k
 reply-at w n k h =
     case-stop (w .stop)
-    (λ e. absurd (stands-not-at (w .book) n k (simp (replyTo, e) at h)))
-    (λ e. let q = at-number 29 (suc (w .taken)) n k (simp (replyTo, e) at h) in inl (sym (q .0), e, sym (q .1)))
-    (λ e. let q = at-number 30 (suc (w .taken)) n k (simp (replyTo, e) at h) in inr (sym (q .0), e, sym (q .1)))
+    (λ e. absurd (stands-not-at (w .book) n k (simp (replyBy, e) at h)))
+    (λ e. let q = at-number 29 (suc (w .taken)) n k (simp (replyBy, e) at h) in inl (sym (q .0), e, sym (q .1)))
+    (λ e. let q = at-number 30 (suc (w .taken)) n k (simp (replyBy, e) at h) in inr (sym (q .0), e, sym (q .1)))
 
-started-at : (i : Inputs) (l : List Float) (bs : List ℕ) (n k : ℕ) → replayOf i l bs .reply ≡ declinedAt n k → (startNumber i (length l) ≡ 0) × AtLine (walked i l bs) n k
+started-at : (i : Inputs) (l : List Float) (bs : List ℕ) (n k : ℕ) → replayOf i l bs .reply ≡ RefusedAt n k → (startNumber i (length l) ≡ 0) × AtLine (walked i l bs) n k
 unfolding replayOf
 started-at i l bs n k h =
     let s = startNumber i (length l) in
     case (eqb s 0)
     (λ e. (eqb-true s 0 e, reply-at (walked i l bs) n k (simp e at h)))
-    (λ e. let q : declined s ≡ declinedAt n k = simp e at h in let z : _≡_ {A = ℕ} 0 1 = cc in absurd (omega arith))
+    (λ e. let q : Refused s ≡ RefusedAt n k = simp e at h in let z : _≡_ {A = ℕ} 0 1 = cc in absurd (omega arith))
 
 pub declines : (i : Inputs) (l : List Float) (bs : List ℕ) → InputsFit i → Declines i l bs
 declines i l bs f = record {
@@ -124,20 +128,20 @@ declines i l bs f = record {
     reading z = same-as-reader i (length l) (start-number i (length l) .accepts .0 z) f l bs
 
 -- ---- a winner
-reply-started : (i : Inputs) (l : List Float) (bs : List ℕ) (n : ℕ) (s : Float) → replayOf i l bs .reply ≡ winner n s → (startNumber i (length l) ≡ 0) × (replyTo (walked i l bs) ≡ winner n s)
+reply-started : (i : Inputs) (l : List Float) (bs : List ℕ) (n : ℕ) (s : Float) → replayOf i l bs .reply ≡ Winner n s → (startNumber i (length l) ≡ 0) × (replyTo (walked i l bs) ≡ Winner n s)
 unfolding replayOf
 reply-started i l bs n s h =
     let k = startNumber i (length l) in
     case (eqb k 0)
     (λ e. (eqb-true k 0 e, simp e at h))
-    (λ e. let q : declined k ≡ winner n s = simp e at h in let z : _≡_ {A = ℕ} 0 1 = cc in absurd (omega arith))
+    (λ e. let q : Refused k ≡ Winner n s = simp e at h in let z : _≡_ {A = ℕ} 0 1 = cc in absurd (omega arith))
 
 -- ---- the book's best wins
 book-wins : (i : Inputs) (b : Book) (w : Candidate) → Good i b → runBest b ≡ chosen w → Wins i (entries b) w
 unfolding runBest
 book-wins i b w g e = rw (g .inputs-are) at (best-wins (b .inputs) (entries b) w (g .core .numbered) (g .core .proper) e)
 
-pub accepted : (i : Inputs) (l : List Float) (bs : List ℕ) → InputsFit i → (n : ℕ) (s : Float) → replayOf i l bs .reply ≡ winner n s → Accepted i l bs n s
+pub accepted : (i : Inputs) (l : List Float) (bs : List ℕ) → InputsFit i → (n : ℕ) (s : Float) → replayOf i l bs .reply ≡ Winner n s → Accepted i l bs n s
 accepted i l bs f n s h =
     let r = reply-started i l bs n s h in
     let a = start-number i (length l) .accepts .0 (r .0) in

@@ -16,12 +16,14 @@ use Rattle.journal_line.specs.declared.Line.{Line}
 use Rattle.journal_line.specs.Line.{recordable, writable, Writable, LineFits}
 use Rattle.journal_line.specs.Whole.{whole-reading}
 use Rattle.journal_line.specs.Outcome.{recordedAs}
+use Rattle.journal_replay.specs.declared.Stop.{Stop}
+use Rattle.journal_replay.specs.declared.Stop.the-variants.{AllTaken}
 use Rattle.book.specs.Book.{Inputs, Entry, Book, entries, number, current, runBest, firstList, opened, bookEnter, lineOf}
 use Rattle.book.specs.Conditions.{NoneHolds, conditions}
 use Rattle.book.proofs.Moves.{entry, Stands}
 use Rattle.book.proofs.Good.{Good, steps}
 use Rattle.book_journal.specs.Lines.{linesOf, journalOf}
-use Rattle.book_journal.specs.Replay.{follows, Stop, allTaken, listAfter, walkFrom, walked, standing, replayOf}
+use Rattle.book_journal.specs.Replay.{follows, listAfter, walkFrom, walked, standing, replayOf}
 use Rattle.book_journal.specs.History.{History, bookAt, InputsFit, CallFits, atRest}
 use Rattle.book_journal.specs.ReplayLaw.{LinesOfRun}
 use Rattle.book_journal.proofs.Opening.{opened-good, none-refused}
@@ -113,9 +115,9 @@ pub walk-whole : (b c : Book) (l : List Float) (n : ℕ) (es : List Entry) (x : 
 walk-whole b c l n es x t = ap (λ (z : List Line). walkFrom b l n z x) (sym (append-nil (map lineOf es))) ∙ walk-trail b c l n es [] x t ∙ walk-end c (listAlong b l es) (n + length es) x
 
 pub walked-again : (i : Inputs) (b : Book) (l : List Float) → Sound i b
-    → walked i l (journalOf b) ≡ walkEnd (atRest b) (listAlong (opened i) (written (firstList i) l) (entries b)) (length (entries b)) allTaken
+    → walked i l (journalOf b) ≡ walkEnd (atRest b) (listAlong (opened i) (written (firstList i) l) (entries b)) (length (entries b)) AllTaken
 unfolding walked
-walked-again i b l s = rw (lines-right i b s .read-back) (walk-whole (opened i) (atRest b) (written (firstList i) l) 0 (entries b) allTaken (s .kept .trail) ∙ ap (λ (k : ℕ). walkEnd (atRest b) (listAlong (opened i) (written (firstList i) l) (entries b)) k allTaken) (omega arith))
+walked-again i b l s = rw (lines-right i b s .read-back) (walk-whole (opened i) (atRest b) (written (firstList i) l) 0 (entries b) AllTaken (s .kept .trail) ∙ ap (λ (k : ℕ). walkEnd (atRest b) (listAlong (opened i) (written (firstList i) l) (entries b)) k AllTaken) (omega arith))
 
 rest-standing : (b : Book) → standing (atRest b) ≡ standing b
 unfolding standing atRest runBest

@@ -19,11 +19,14 @@ use Rattle.journal_line.specs.Numbers.{whole-numbered}
 use Rattle.journal_line.specs.Whole.{whole-stops}
 use Rattle.journal_line.specs.Fronts.{whole-front}
 use Rattle.journal_line.specs.Outcome.{outcomeIn}
+use Rattle.journal_replay.specs.declared.Stop.{Stop}
+use Rattle.journal_replay.specs.declared.Stop.the-variants.{AllTaken, NotOfForm, NotTheRun}
+use Rattle.journal_replay.specs.Walk.{stopAt}
 use Rattle.book.specs.Book.{Inputs, Book, entries, number, firstList, opened, bookEnter, lineOf}
 use Rattle.book.specs.Conditions.{NoneHolds, conditions}
 use Rattle.book.proofs.Moves.{entry, enter-holds as enter-place}
 use Rattle.book_journal.specs.Lines.{linesOf}
-use Rattle.book_journal.specs.Replay.{follows, Stop, allTaken, notOfForm, notTheRun, Walked, listAfter, walkFrom, stopAt, walked}
+use Rattle.book_journal.specs.Replay.{follows, Walked, listAfter, walkFrom, walked}
 use Rattle.book_journal.specs.History.{InputsFit}
 use Rattle.book_journal.specs.ReplayLaw.{SameAsReader}
 use Rattle.book_journal.proofs.Standing.{follower}
@@ -47,7 +50,7 @@ abbrev AllEntered : Book → List Line → Stop → Walked → Type 0
 AllEntered b ms x w = (w .stop ≡ x) × (linesOf (w .book) ≡ linesOf b ++ ms)
 
 abbrev OneStops : Book → List Line → Walked → Type 0
-OneStops b ms w = (w .stop ≡ notTheRun) × (m : Line) × (ks : List Line) × (linesOf b ++ ms ≡ linesOf (w .book) ++ m ∷ ks) × (follows (w .book) m ≡ false)
+OneStops b ms w = (w .stop ≡ NotTheRun) × (m : Line) × (ks : List Line) × (linesOf b ++ ms ≡ linesOf (w .book) ++ m ∷ ks) × (follows (w .book) m ≡ false)
 
 record Along (b : Book) (ms : List Line) (x : Stop) (w : Walked) : Type 0 where
   taken-is : w .taken ≡ number (w .book)
@@ -70,25 +73,25 @@ along i b l n (m ∷ ms) x k h ok can q =
     (λ t. rw (walk-stop b l n x m ms t) (record { taken-is = q; ends = inr (refl, m, ms, refl, t) }))
 
 -- ---- how the reader ended
-pub all-taken-ended : (x : Ending) → stopAt x ≡ allTaken → x ≡ ended
+pub all-taken-ended : (x : Ending) → stopAt x ≡ AllTaken → x ≡ ended
 all-taken-ended ended e = refl
 all-taken-ended (refused k) e = let z : _≡_ {A = ℕ} 0 1 = cc in absurd (omega arith)
 all-taken-ended unread e = let z : _≡_ {A = ℕ} 0 1 = cc in absurd (omega arith)
 
-not-of-form-refused : (x : Ending) → (x ≡ unread → ⊥) → stopAt x ≡ notOfForm → (k : ℕ) × (x ≡ refused k)
+not-of-form-refused : (x : Ending) → (x ≡ unread → ⊥) → stopAt x ≡ NotOfForm → (k : ℕ) × (x ≡ refused k)
 not-of-form-refused ended n e = let z : _≡_ {A = ℕ} 0 1 = cc in absurd (omega arith)
 not-of-form-refused (refused k) n e = (k, refl)
 not-of-form-refused unread n e = absurd (n refl)
 
-never-not-run : (x : Ending) → stopAt x ≡ notTheRun → ⊥
+never-not-run : (x : Ending) → stopAt x ≡ NotTheRun → ⊥
 never-not-run ended e = let z : _≡_ {A = ℕ} 0 1 = cc in omega arith
 never-not-run (refused k) e = let z : _≡_ {A = ℕ} 0 1 = cc in omega arith
 never-not-run unread e = let z : _≡_ {A = ℕ} 0 1 = cc in omega arith
 
-pub not-run-taken : notTheRun ≡ allTaken → ⊥
+pub not-run-taken : NotTheRun ≡ AllTaken → ⊥
 not-run-taken e = let z : _≡_ {A = ℕ} 0 1 = cc in omega arith
 
-not-run-form : notTheRun ≡ notOfForm → ⊥
+not-run-form : NotTheRun ≡ NotOfForm → ⊥
 not-run-form e = let z : _≡_ {A = ℕ} 0 1 = cc in omega arith
 
 -- ---- of a whole journal
@@ -101,13 +104,13 @@ same-as-reader i n a f l bs =
     let r = readJournal bs in
     let w = walked i l bs in
     let s = starts in
-    let all : (x : Stop) → w .stop ≡ x → (x ≡ notTheRun → ⊥) → (stopAt (r .ending) ≡ x) × (linesOf (w .book) ≡ r .lines) =
+    let all : (x : Stop) → w .stop ≡ x → (x ≡ NotTheRun → ⊥) → (stopAt (r .ending) ≡ x) × (linesOf (w .book) ≡ r .lines) =
     λ x e other. ⊎-elim (λ p. (sym (p .0) ∙ e, p .1)) (λ p. absurd (other (sym e ∙ p .0))) (s .ends) in
     record {
       taken-is = s .taken-is;
-      all-read = λ e. let p = all allTaken e (λ z. not-run-taken (sym z)) in readings-are r (linesOf (w .book)) ended (all-taken-ended (r .ending) (p .0)) (p .1);
+      all-read = λ e. let p = all AllTaken e (λ z. not-run-taken (sym z)) in readings-are r (linesOf (w .book)) ended (all-taken-ended (r .ending) (p .0)) (p .1);
       not-read = λ e.
-          let p = all notOfForm e (λ z. not-run-form (sym z)) in
+          let p = all NotOfForm e (λ z. not-run-form (sym z)) in
           let k = not-of-form-refused (r .ending) (whole-stops bs) (p .0) in
           let m = whole-numbered bs (k .0) (k .1) in
           let c : length (r .lines) ≡ w .taken = sym (ap length (p .1)) ∙ length-map (entries (w .book)) lineOf ∙ sym (s .taken-is) in

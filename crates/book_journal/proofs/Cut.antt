@@ -20,14 +20,20 @@ use Rattle.journal_line.specs.Reading.{newlines, Lines, readJournal}
 use Rattle.journal_line.specs.Numbers.{newlines-append}
 use Rattle.journal_line.specs.Whole.{whole-lines}
 use Rattle.journal_line.specs.Fronts.{NoLine, whole-front, whole-rest, front-read, front-ended, cut-no-line, Cut, cut-journal, journal-append}
+use Rattle.journal_replay.specs.declared.Stop.{Stop}
+use Rattle.journal_replay.specs.declared.Stop.the-variants.{AllTaken, NotOfForm, NotTheRun}
+use Rattle.journal_replay.specs.declared.EndedBy.the-variants as by
+use Rattle.journal_replay.specs.declared.Report.{Report}
+use Rattle.journal_replay.specs.Walk.{stopAt}
+use Rattle.journal_replay.specs.Resume.{isCutLine, stoppedBy, endedBy}
 use Rattle.book.specs.Book.{Inputs, Entry, Book, entries, firstList, opened, bookEnter, lineOf}
 use Rattle.book.specs.Conditions.{NoneHolds, conditions}
 use Rattle.book.proofs.Moves.{entry, enter-holds}
 use Rattle.book_journal.specs.Lines.{linesOf, journalOf}
-use Rattle.book_journal.specs.Replay.{startNumber, follows, Stop, allTaken, notOfForm, notTheRun, Walked, stopAt, walked}
+use Rattle.book_journal.specs.Replay.{startNumber, follows, Walked, walked}
 use Rattle.book_journal.specs.History.{History, bookAt, InputsFit, CallFits, atRest, enteredIn}
 use Rattle.book_journal.specs.ReplayLaw.{keptBytes}
-use Rattle.book_journal.specs.Resume.{byNothing, byMissingNewline, by29, by30, Report, isCutLine, stoppedBy, keptOf, restOf, reportOn, resumed, notResumed, resumeOf, ResumeRefuses, ResumeAccepts, GivesBack, CutAt}
+use Rattle.book_journal.specs.Resume.{keptOf, restOf, reportOn, resumed, notResumed, resumeOf, ResumeRefuses, ResumeAccepts, GivesBack, CutAt}
 use Rattle.book_journal.proofs.Opening.{start-number, none-refused}
 use Rattle.book_journal.proofs.Walk.{walkEnd, walked-keeps}
 use Rattle.book_journal.proofs.Kept.{Trail}
@@ -37,29 +43,29 @@ use Rattle.book_journal.proofs.Front.{all-take, front-bytes, front-read
 use Rattle.book_journal.proofs.Buffer.{walked-buffer}
 
 -- ---- what ended it, by cases
-nothing-of : (x : Bool) (s : Stop) → cond x byMissingNewline (stoppedBy s) ≡ byNothing → s ≡ allTaken
+nothing-of : (x : Bool) (s : Stop) → cond x by.MissingNewline (stoppedBy s) ≡ by.Nothing → s ≡ AllTaken
 nothing-of true s e = let z : _≡_ {A = ℕ} 0 1 = cc in absurd (omega arith)
-nothing-of false allTaken e = refl
-nothing-of false notOfForm e = let z : _≡_ {A = ℕ} 0 1 = cc in absurd (omega arith)
-nothing-of false notTheRun e = let z : _≡_ {A = ℕ} 0 1 = cc in absurd (omega arith)
+nothing-of false AllTaken e = refl
+nothing-of false NotOfForm e = let z : _≡_ {A = ℕ} 0 1 = cc in absurd (omega arith)
+nothing-of false NotTheRun e = let z : _≡_ {A = ℕ} 0 1 = cc in absurd (omega arith)
 
-newline-of : (x : Bool) (s : Stop) → cond x byMissingNewline (stoppedBy s) ≡ byMissingNewline → x ≡ true
+newline-of : (x : Bool) (s : Stop) → cond x by.MissingNewline (stoppedBy s) ≡ by.MissingNewline → x ≡ true
 newline-of true s e = refl
-newline-of false allTaken e = let z : _≡_ {A = ℕ} 0 1 = cc in absurd (omega arith)
-newline-of false notOfForm e = let z : _≡_ {A = ℕ} 0 1 = cc in absurd (omega arith)
-newline-of false notTheRun e = let z : _≡_ {A = ℕ} 0 1 = cc in absurd (omega arith)
+newline-of false AllTaken e = let z : _≡_ {A = ℕ} 0 1 = cc in absurd (omega arith)
+newline-of false NotOfForm e = let z : _≡_ {A = ℕ} 0 1 = cc in absurd (omega arith)
+newline-of false NotTheRun e = let z : _≡_ {A = ℕ} 0 1 = cc in absurd (omega arith)
 
-form-of : (x : Bool) (s : Stop) → cond x byMissingNewline (stoppedBy s) ≡ by29 → (x ≡ false) × (s ≡ notOfForm)
+form-of : (x : Bool) (s : Stop) → cond x by.MissingNewline (stoppedBy s) ≡ by.NotOfForm → (x ≡ false) × (s ≡ NotOfForm)
 form-of true s e = let z : _≡_ {A = ℕ} 0 1 = cc in absurd (omega arith)
-form-of false allTaken e = let z : _≡_ {A = ℕ} 0 1 = cc in absurd (omega arith)
-form-of false notOfForm e = (refl, refl)
-form-of false notTheRun e = let z : _≡_ {A = ℕ} 0 1 = cc in absurd (omega arith)
+form-of false AllTaken e = let z : _≡_ {A = ℕ} 0 1 = cc in absurd (omega arith)
+form-of false NotOfForm e = (refl, refl)
+form-of false NotTheRun e = let z : _≡_ {A = ℕ} 0 1 = cc in absurd (omega arith)
 
-run-of : (x : Bool) (s : Stop) → cond x byMissingNewline (stoppedBy s) ≡ by30 → s ≡ notTheRun
+run-of : (x : Bool) (s : Stop) → cond x by.MissingNewline (stoppedBy s) ≡ by.NotTheRun → s ≡ NotTheRun
 run-of true s e = let z : _≡_ {A = ℕ} 0 1 = cc in absurd (omega arith)
-run-of false allTaken e = let z : _≡_ {A = ℕ} 0 1 = cc in absurd (omega arith)
-run-of false notOfForm e = let z : _≡_ {A = ℕ} 0 1 = cc in absurd (omega arith)
-run-of false notTheRun e = refl
+run-of false AllTaken e = let z : _≡_ {A = ℕ} 0 1 = cc in absurd (omega arith)
+run-of false NotOfForm e = let z : _≡_ {A = ℕ} 0 1 = cc in absurd (omega arith)
+run-of false NotTheRun e = refl
 
 -- ---- bytes with and without a newline
 cut-line-is : (s : List ℕ) → isCutLine s ≡ true → (s ≡ [] → ⊥) × (newlines s ≡ 0)
@@ -85,6 +91,10 @@ behind-newline (c ∷ j) (d ∷ part) [] e n = let q : j ++ d ∷ part ≡ [] = 
 behind-newline (c ∷ j) (d ∷ part) (t ∷ s) e n = let q : j ++ d ∷ part ≡ s ++ 10 ∷ [] = cc in behind-newline j (d ∷ part) s q n
 
 -- ---- the report of any bytes
+pub opened-waits : (i : Inputs) → opened i .waits ≡ false
+unfolding opened
+opened-waits i = refl
+
 module _ (i : Inputs) (l : List Float) (bs : List ℕ) where
   abbrev walk : Walked
   walk = walked i l bs
@@ -99,10 +109,7 @@ module _ (i : Inputs) (l : List Float) (bs : List ℕ) where
   adds-up = sym (length-append (keptOf bs walk) (restOf bs walk)) ∙ sym (ap length kept-and-rest)
 
   pub none-waits : walk .book .waits ≡ false
-  none-waits = walked-keeps (λ b k. b .waits ≡ false) (λ b k m ok can h t. enter-holds b _ .1) i l bs opened-waits
-    where
-      opened-waits : opened i .waits ≡ false
-      opened-waits = unfold opened in refl
+  none-waits = walked-keeps (λ b k. b .waits ≡ false) (λ b k m ok can h t. enter-holds b _ .1) i l bs (opened-waits i)
 
   module _ (a : NoneHolds (conditions i (length l))) (f : InputsFit i) where
     -- all the lines that were taken are those of the book
@@ -125,20 +132,20 @@ module _ (i : Inputs) (l : List Float) (bs : List ℕ) where
         ∙ ap (drop (length (journalBytes (linesOf (walk .book))))) e
         ∙ drop-append-seam (journalBytes (linesOf (walk .book))) x
 
-    nothing-behind : walk .stop ≡ allTaken → restOf bs walk ≡ []
+    nothing-behind : walk .stop ≡ AllTaken → restOf bs walk ≡ []
     nothing-behind e =
         let r = same-as-reader i (length l) a f l bs .all-read e in
         let w = whole-lines bs (ap (λ (z : Lines). z .ending) r) in
         rest-is [] (w .bytes-are ∙ ap (λ (z : Lines). journalBytes (z .lines)) r ∙ sym (append-nil (journalBytes (linesOf (walk .book)))))
 
-    no-line-behind : walk .stop ≡ notOfForm → (restOf bs walk ≡ [] → ⊥) × NoLine (restOf bs walk)
+    no-line-behind : walk .stop ≡ NotOfForm → (restOf bs walk ≡ [] → ⊥) × NoLine (restOf bs walk)
     no-line-behind e =
         let r = same-as-reader i (length l) a f l bs .not-read e in
         let w = whole-front bs in
         let q : restOf bs walk ≡ w .rest = rest-is (w .rest) (w .bytes-are ∙ ap (λ (z : Lines). journalBytes (z .lines) ++ w .rest) r) in
         rw q (w .before-end (suc (walk .taken)) (ap (λ (z : Lines). z .ending) r), whole-rest bs)
 
-    other-line-behind : walk .stop ≡ notTheRun → (m : Line) × (tail : List ℕ) × LineFits m × Writable m × (restOf bs walk ≡ lineBytes m ++ tail) × (follows (walk .book) m ≡ false)
+    other-line-behind : walk .stop ≡ NotTheRun → (m : Line) × (tail : List ℕ) × LineFits m × Writable m × (restOf bs walk ≡ lineBytes m ++ tail) × (follows (walk .book) m ≡ false)
     unfolding journalBytes
     other-line-behind e =
         let r = same-as-reader i (length l) a f l bs .not-following e in
@@ -158,7 +165,7 @@ module _ (i : Inputs) (l : List Float) (bs : List ℕ) where
         (m, journalBytes ms ++ w .rest, ok .0, can .0, q, r .3)
 
     walked-back : GivesBack i l bs (walk .book) (walk .list) (reportOn bs walk)
-    unfolding reportOn
+    unfolding reportOn endedBy
     walked-back =
         let x = isCutLine (restOf bs walk) in
         let s = walk .stop in
@@ -248,7 +255,7 @@ module _ (i : Inputs) (b : Book) (s : Sound i b) (l : List Float) (at : ℕ) whe
   cut-read : readJournal front .lines ≡ whole
   cut-read = ap (λ (z : List ℕ). readJournal z .lines) (cut .cut-is) ∙ front-read whole (cut .part) whole-fit whole-taken (cut-no-line (cut .part) (cut .no-newline))
 
-  cut-ended : cut .part ≡ [] → stopAt (readJournal front .ending) ≡ allTaken
+  cut-ended : cut .part ≡ [] → stopAt (readJournal front .ending) ≡ AllTaken
   cut-ended e = ap (λ (z : List ℕ). stopAt (readJournal z .ending)) (cut .cut-is) ∙ ap stopAt (front-ended whole (cut .part) whole-fit whole-taken (cut-no-line (cut .part) (cut .no-newline)) e)
 
   abbrev kept : List Entry
@@ -288,12 +295,12 @@ module _ (i : Inputs) (b : Book) (s : Sound i b) (l : List Float) (at : ℕ) whe
       entered-entries : (es : List Entry) → Trail (opened i) es (enteredIn (opened i) es) → entries (enteredIn (opened i) es) ≡ es
       entered-entries es t = unfold opened in trail-entries (opened i) (enteredIn (opened i) es) es t
 
-  cut-nothing : cut .part ≡ [] → reportOn front (walked i l front) .ended-by ≡ byNothing
-  unfolding reportOn
+  cut-nothing : cut .part ≡ [] → reportOn front (walked i l front) .«ended_by» ≡ by.Nothing
+  unfolding reportOn endedBy
   cut-nothing e = rw (cut-rest ∙ e, ap (λ (z : Walked). z .stop) cut-walked ∙ cut-ended e)
 
-  cut-newline : (cut .part ≡ [] → ⊥) → reportOn front (walked i l front) .ended-by ≡ byMissingNewline
-  unfolding reportOn
+  cut-newline : (cut .part ≡ [] → ⊥) → reportOn front (walked i l front) .«ended_by» ≡ by.MissingNewline
+  unfolding reportOn endedBy
   cut-newline e = rw (cut-rest, is-cut-line (cut .part) e (cut .no-newline))
 
 pub cut-anywhere : (i : Inputs) (h : History i) → InputsFit i → All CallFits (h .calls) → (at : ℕ) (l : List Float) → CutAt i h at l

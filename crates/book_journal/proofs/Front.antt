@@ -16,24 +16,27 @@ use Rattle.journal_line.specs.Reading.{lineNumber, ended, readJournal}
 use Rattle.journal_line.specs.Whole.{whole-reading, whole-lines}
 use Rattle.journal_line.specs.Fronts.{whole-front, front-read-first, line-number, journal-append}
 use Rattle.journal_line.specs.Outcome.{outcomeIn}
+use Rattle.journal_replay.specs.declared.Stop.{Stop}
+use Rattle.journal_replay.specs.declared.Stop.the-variants.{AllTaken}
+use Rattle.journal_replay.specs.Walk.{stopAt}
 use Rattle.book.specs.Book.{Inputs, Book, firstList, opened, bookEnter}
-use Rattle.book_journal.specs.Replay.{follows, Stop, allTaken, Walked, listAfter, walkFrom, stopAt, walked}
+use Rattle.book_journal.specs.Replay.{follows, Walked, listAfter, walkFrom, walked}
 use Rattle.book_journal.specs.ReplayLaw.{keptBytes, FrontAlone}
 use Rattle.book_journal.proofs.Walk.{walkEnd, walk-end, walk-on, walk-stop}
 use Rattle.book_journal.proofs.Beside.{all-taken-ended, not-run-taken}
 
 abbrev fully : Walked → Walked
-fully w = walkEnd (w .book) (w .list) (w .taken) allTaken
+fully w = walkEnd (w .book) (w .list) (w .taken) AllTaken
 
 -- ---- of a walk
 record Fronts (b : Book) (l : List Float) (n : ℕ) (ms : List Line) (x : Stop) : Type 0 where
   count : ℕ
   few : count ≤ length ms
   taken-is : walkFrom b l n ms x .taken ≡ n + count
-  alone : walkFrom b l n (take count ms) allTaken ≡ fully (walkFrom b l n ms x)
-  longest : (k : ℕ) → k ≤ length ms → walkFrom b l n (take k ms) allTaken .stop ≡ allTaken → k ≤ count
+  alone : walkFrom b l n (take count ms) AllTaken ≡ fully (walkFrom b l n ms x)
+  longest : (k : ℕ) → k ≤ length ms → walkFrom b l n (take k ms) AllTaken .stop ≡ AllTaken → k ≤ count
   -- a walk that takes all ends as it is told to
-  taken-all : walkFrom b l n ms x .stop ≡ allTaken → x ≡ allTaken
+  taken-all : walkFrom b l n ms x .stop ≡ AllTaken → x ≡ AllTaken
 
 fronts-end : (b : Book) (l : List Float) (n : ℕ) (x : Stop) → Fronts b l n [] x
 fronts-end b l n x =
@@ -42,7 +45,7 @@ fronts-end b l n x =
       count = 0;
       few = omega arith;
       taken-is = ap (λ (w : Walked). w .taken) e ∙ omega arith;
-      alone = walk-end b l n allTaken ∙ ap fully (sym e);
+      alone = walk-end b l n AllTaken ∙ ap fully (sym e);
       longest = λ k h q. omega arith;
       taken-all = λ h. sym (ap (λ (w : Walked). w .stop) e) ∙ h;
     }
@@ -54,14 +57,14 @@ fronts-stop b l n m ms x f =
       count = 0;
       few = omega arith;
       taken-is = ap (λ (w : Walked). w .taken) e ∙ omega arith;
-      alone = walk-end b l n allTaken ∙ ap fully (sym e);
+      alone = walk-end b l n AllTaken ∙ ap fully (sym e);
       longest = none-longer;
       taken-all = λ h. absurd (not-run-taken (sym (ap (λ (w : Walked). w .stop) e) ∙ h));
     }
   where
-    none-longer : (k : ℕ) → k ≤ length (m ∷ ms) → walkFrom b l n (take k (m ∷ ms)) allTaken .stop ≡ allTaken → k ≤ 0
+    none-longer : (k : ℕ) → k ≤ length (m ∷ ms) → walkFrom b l n (take k (m ∷ ms)) AllTaken .stop ≡ AllTaken → k ≤ 0
     none-longer zero h q = omega arith
-    none-longer (suc k) h q = absurd (not-run-taken (sym (ap (λ (w : Walked). w .stop) (walk-stop b l n allTaken m (take k ms) f)) ∙ q))
+    none-longer (suc k) h q = absurd (not-run-taken (sym (ap (λ (w : Walked). w .stop) (walk-stop b l n AllTaken m (take k ms) f)) ∙ q))
 
 fronts-more : (b : Book) (l : List Float) (n : ℕ) (m : Line) (ms : List Line) (x : Stop) → follows b m ≡ true
     → Fronts (bookEnter b (outcomeIn (m .outcome))) (listAfter b (bookEnter b (outcomeIn (m .outcome))) l) (suc n) ms x → Fronts b l n (m ∷ ms) x
@@ -71,14 +74,14 @@ fronts-more b l n m ms x t f =
       count = suc (f .count);
       few = let k = f .few in omega arith;
       taken-is = ap (λ (w : Walked). w .taken) e ∙ f .taken-is ∙ omega arith;
-      alone = walk-on b l n allTaken m (take (f .count) ms) t ∙ f .alone ∙ ap fully (sym e);
+      alone = walk-on b l n AllTaken m (take (f .count) ms) t ∙ f .alone ∙ ap fully (sym e);
       longest = none-longer;
       taken-all = λ h. f .taken-all (sym (ap (λ (w : Walked). w .stop) e) ∙ h);
     }
   where
-    none-longer : (k : ℕ) → k ≤ length (m ∷ ms) → walkFrom b l n (take k (m ∷ ms)) allTaken .stop ≡ allTaken → k ≤ suc (f .count)
+    none-longer : (k : ℕ) → k ≤ length (m ∷ ms) → walkFrom b l n (take k (m ∷ ms)) AllTaken .stop ≡ AllTaken → k ≤ suc (f .count)
     none-longer zero h q = omega arith
-    none-longer (suc k) h q = let g = f .longest k (omega arith) (sym (ap (λ (w : Walked). w .stop) (walk-on b l n allTaken m (take k ms) t)) ∙ q) in omega arith
+    none-longer (suc k) h q = let g = f .longest k (omega arith) (sym (ap (λ (w : Walked). w .stop) (walk-on b l n AllTaken m (take k ms) t)) ∙ q) in omega arith
 
 fronts : (b : Book) (l : List Float) (n : ℕ) (ms : List Line) (x : Stop) → Fronts b l n ms x
 fronts b l n [] x = fronts-end b l n x
@@ -151,7 +154,7 @@ front-alone i l bs =
     taken-length : {c : ℕ} → c ≤ length (readJournal bs .lines) → c ≡ walked i l bs .taken → length (take (walked i l bs .taken) (readJournal bs .lines)) ≡ walked i l bs .taken
     taken-length h e = omega (arith, length-take (walked i l bs .taken) (readJournal bs .lines))
 
-    longer : (at : ℕ) → at ≤ length bs → walked i l (take at bs) .stop ≡ allTaken → at ≤ length (keptBytes i l bs)
+    longer : (at : ℕ) → at ≤ length bs → walked i l (take at bs) .stop ≡ AllTaken → at ≤ length (keptBytes i l bs)
     longer at h q = unfold walked in
         let o = opened i in
         let m = written (firstList i) l in
@@ -161,8 +164,8 @@ front-alone i l bs =
         let p = read-of-front bs at ends in
         let k = length (r .lines) in
         let f = fronts o m 0 ls (stopAt (readJournal bs .ending)) in
-        let c : walkFrom o m 0 (r .lines) allTaken .stop ≡ allTaken = rw ends at q in
-        let d : walkFrom o m 0 (take k ls) allTaken .stop ≡ allTaken = rw (p .1) c in
+        let c : walkFrom o m 0 (r .lines) AllTaken .stop ≡ AllTaken = rw ends at q in
+        let d : walkFrom o m 0 (take k ls) AllTaken .stop ≡ AllTaken = rw (p .1) c in
         let u : k ≤ length ls = omega (arith, ap length (p .1), length-take k ls) in
         let v : k ≤ walked i l bs .taken = let g = f .longest k u d in let y = f .taken-is in omega arith in
         let s : at ≡ length (journalBytes (take k ls)) = at-length at h ∙ ap length (p .0) ∙ ap (λ (z : List Line). length (journalBytes z)) (sym (p .1)) in

@@ -30,9 +30,10 @@ use Rattle.journal_line.specs.declared.Recorded.the-variants as line
 use Rattle.journal_line.specs.declared.Line.{Line}
 use Rattle.journal_line.specs.Line.{recordable, writable, Writable, Fits, recordedNumbers, LineFits}
 use Rattle.journal_line.specs.Outcome.{fieldsOf, recordedAs, scoringIn, outcomeIn}
+use Rattle.journal_replay.specs.Stand.{sameReal, sameReals, isMean, canBeScored, canStand}
 use Rattle.book.specs.Book.{Inputs, Book, number, current, lineOf}
 use Rattle.book.proofs.Moves.{entry, Stands}
-use Rattle.book_journal.specs.Replay.{sameReal, sameReals, canStand, follows}
+use Rattle.book_journal.specs.Replay.{follows}
 use Rattle.book_journal.specs.History.{AllFit}
 
 -- ---- tests put together
@@ -77,15 +78,14 @@ comes-back i t (Skipped n) h = refl
 comes-back i t (Scored s) h = ap Scored (scoring-back s (h .k1-zero) (h .k2-zero) (h .k3-zero))
 
 scored-passes : (center : Pt2) (t : ScheimpflugParams) (s : Scoring) → ScoredFacts t center s → canStand center t (recordedAs (Scored s)) ≡ true
-unfolding canStand within
+unfolding canBeScored isMean within
 scored-passes center t s f =
     let c : scoringIn (fieldsOf s) .camera ≡ s .camera = ap (λ (z : Scoring). z .camera) (scoring-back s (f .k1-zero) (f .k2-zero) (f .k3-zero)) in
     both
-    (both (both (both (both (ap validCamera c ∙ f .camera-valid) (f .p1-within)) (f .p2-within)) (f .mean-finite)) (ap not (f .mean-not-below)))
+    (both (both (both (ap validCamera c ∙ f .camera-valid) (f .p1-within)) (f .p2-within)) (both (f .mean-finite) (ap not (f .mean-not-below))))
     (real-same (s .score) (scoreOf (s .mean) (scoringIn (fieldsOf s) .camera) t center) (f .score-is ∙ ap (λ (x : PinholeCamera). scoreOf (s .mean) x t center) (sym c)))
 
 passes : (i : Inputs) (t : ScheimpflugParams) (o : Outcome) → Stands i t o → canStand (i .center) t (recordedAs o) ≡ true
-unfolding canStand
 passes i t (Skipped n) h = refl
 passes i t (Scored s) h = scored-passes (i .center) t s h
 
@@ -96,14 +96,14 @@ score-fits mean c t center = add-fits binary64 (mean +₆₄ distortionPenalty (
 
 scored-stands : (center : Pt2) (t : ScheimpflugParams) (m : ScoredFields) → isNan (m .score) ≡ false → AllFit (recordedNumbers (line.Scored m)) → canStand center t (line.Scored m) ≡ true
     → ScoredFacts t center (scoringIn m)
-unfolding canStand validCamera finiteIntrinsics finiteDistortion within
+unfolding canBeScored isMean validCamera finiteIntrinsics finiteDistortion within
 scored-stands center t m n f h =
     let c = scoringIn m .camera in
     let k = m .k in
-    let score = both-true (validCamera c && within tangentialBound (m .p1) && within tangentialBound (m .p2) && isFinite (m .mean) && not (lt (m .mean) plusZero)) (sameReal (m .score) (scoreOf (m .mean) c t center)) h in
-    let above = both-true (validCamera c && within tangentialBound (m .p1) && within tangentialBound (m .p2) && isFinite (m .mean)) (not (lt (m .mean) plusZero)) (score .0) in
-    let finite = both-true (validCamera c && within tangentialBound (m .p1) && within tangentialBound (m .p2)) (isFinite (m .mean)) (above .0) in
-    let small2 = both-true (validCamera c && within tangentialBound (m .p1)) (within tangentialBound (m .p2)) (finite .0) in
+    let score = both-true (validCamera c && within tangentialBound (m .p1) && within tangentialBound (m .p2) && isMean (m .mean)) (sameReal (m .score) (scoreOf (m .mean) c t center)) h in
+    let means = both-true (validCamera c && within tangentialBound (m .p1) && within tangentialBound (m .p2)) (isMean (m .mean)) (score .0) in
+    let mean = both-true (isFinite (m .mean)) (not (lt (m .mean) plusZero)) (means .1) in
+    let small2 = both-true (validCamera c && within tangentialBound (m .p1)) (within tangentialBound (m .p2)) (means .0) in
     let small1 = both-true (validCamera c) (within tangentialBound (m .p1)) (small2 .0) in
     let y = both-true (finiteIntrinsics k && finiteDistortion (c .dist) && lt plusZero (k .fx)) (lt plusZero (k .fy)) (small1 .0) in
     let x = both-true (finiteIntrinsics k && finiteDistortion (c .dist)) (lt plusZero (k .fx)) (y .0) in
@@ -126,8 +126,8 @@ scored-stands center t m n f h =
       p2-finite = p2 .1;
       p1-within = small1 .1;
       p2-within = small2 .1;
-      mean-finite = finite .1;
-      mean-not-below = not-true (lt (m .mean) plusZero) (above .1);
+      mean-finite = mean .0;
+      mean-not-below = not-true (lt (m .mean) plusZero) (mean .1);
       score-is = same-real (m .score) (scoreOf (m .mean) c t center) (f .0) (score-fits (m .mean) c t center) (score .1);
       score-number = n;
     }

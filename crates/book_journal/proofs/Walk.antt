@@ -12,8 +12,11 @@ use Rattle.journal_line.specs.Line.{LineFits, Writable}
 use Rattle.journal_line.specs.Reading.{readJournal}
 use Rattle.journal_line.specs.Fronts.{whole-front}
 use Rattle.journal_line.specs.Outcome.{outcomeIn}
+use Rattle.journal_replay.specs.declared.Stop.{Stop}
+use Rattle.journal_replay.specs.declared.Stop.the-variants.{NotTheRun}
+use Rattle.journal_replay.specs.Walk.{stopAt}
 use Rattle.book.specs.Book.{Inputs, Book, firstList, opened, bookEnter}
-use Rattle.book_journal.specs.Replay.{follows, Stop, notTheRun, Walked, listAfter, walkFrom, stopAt, walked}
+use Rattle.book_journal.specs.Replay.{follows, Walked, listAfter, walkFrom, walked}
 
 abbrev pub walkEnd : Book → List Float → ℕ → Stop → Walked
 walkEnd b l n e = record { book = b; list = l; taken = n; stop = e }
@@ -25,7 +28,7 @@ module _ (b : Book) (l : List Float) (n : ℕ) (e : Stop) where
   walk-end = refl
 
   module _ (m : Line) (ms : List Line) where
-    pub walk-stop : follows b m ≡ false → walkFrom b l n (m ∷ ms) e ≡ walkEnd b l n notTheRun
+    pub walk-stop : follows b m ≡ false → walkFrom b l n (m ∷ ms) e ≡ walkEnd b l n NotTheRun
     unfolding walkFrom
     walk-stop f = simp (walkFrom, f)
 

@@ -76,7 +76,7 @@ call-bytes i b l c t = go (bookCall b c) (says b c) (call-by (steps i) b c (t .g
         (sym (journal-append (linesOf b) (lineOf (entry b o) ∷ []) ∙ ap (λ (z : List ℕ). journalBytes (linesOf b) ++ z) (one-line (lineOf (entry b o)))))
 
 -- ---- any calls
-along : (i : Inputs) (b : Book) (l : List Float) (cs : List Call) → State i b l → journalBytes (linesOf b) ++ writtenAlong (runOf b) l cs ≡ journalBytes (linesOf (after b cs))
+pub along : (i : Inputs) (b : Book) (l : List Float) (cs : List Call) → State i b l → journalBytes (linesOf b) ++ writtenAlong (runOf b) l cs ≡ journalBytes (linesOf (after b cs))
 unfolding writtenAlong after
 along i b l [] t = append-nil (journalBytes (linesOf b))
 along i b l (c ∷ cs) t =

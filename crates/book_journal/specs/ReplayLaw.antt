@@ -12,11 +12,13 @@ use Rattle.score_best.specs.declared.Candidate.{Candidate}
 use Rattle.journal_line.specs.declared.Line.{Line}
 use Rattle.journal_line.specs.Line.{LineFits, journalBytes}
 use Rattle.journal_line.specs.Reading.{lineNumber, ended, refused, readJournal}
+use Rattle.journal_replay.specs.declared.Stop.the-variants.{AllTaken, NotOfForm, NotTheRun}
+use Rattle.journal_replay.specs.declared.Replayed.the-variants.{Refused, RefusedAt}
 use Rattle.book.specs.Book.{Inputs, demand, Book, entries, number}
 use Rattle.book.specs.Conditions.{FirstHolds, NoneHolds, conditions}
 use Rattle.book.specs.Theorem.{Wins}
 use Rattle.book_journal.specs.Lines.{linesOf, journalOf}
-use Rattle.book_journal.specs.Replay.{startNumber, follows, allTaken, notOfForm, notTheRun, walked, declined, declinedAt, standing, replayOf}
+use Rattle.book_journal.specs.Replay.{startNumber, follows, walked, standing, replayOf}
 use Rattle.book_journal.specs.History.{History, bookAt, listAt, atRest}
 
 -- ---- Start's own refusals come first: the number is that of the first condition that holds, 0 where none does
@@ -31,7 +33,7 @@ pub record LinesOfRun (b : Book) : Type 0 where
 
 -- ---- A run's own journal, walked from the same inputs, gives that run back.
 pub record RunAgain (i : Inputs) (h : History i) (l : List Float) : Type 0 where
-  pub all-lines : walked i l (journalOf (bookAt h)) .stop ≡ allTaken
+  pub all-lines : walked i l (journalOf (bookAt h)) .stop ≡ AllTaken
   -- the book is the run's, but that no seed waits: so are its lists, its entries and its best
   pub same-book : walked i l (journalOf (bookAt h)) .book ≡ atRest (bookAt h)
   -- the reply is the run's winner, 11, or Unfinished with the seed that waits or that Next hands out
@@ -60,25 +62,25 @@ pub record Accepted (i : Inputs) (l : List Float) (bs : List ℕ) (n : ℕ) (s :
 pub record SameAsReader (i : Inputs) (l : List Float) (bs : List ℕ) : Type 0 where
   pub taken-is : walked i l bs .taken ≡ number (walked i l bs .book)
   -- all lines are read and entered
-  pub all-read : walked i l bs .stop ≡ allTaken → readJournal bs ≡ record { lines = linesOf (walked i l bs .book); ending = ended }
+  pub all-read : walked i l bs .stop ≡ AllTaken → readJournal bs ≡ record { lines = linesOf (walked i l bs .book); ending = ended }
   -- 29: those before are read and entered, and the reader refuses the next, with the same line's number
-  pub not-read : walked i l bs .stop ≡ notOfForm → readJournal bs ≡ record { lines = linesOf (walked i l bs .book); ending = refused (suc (walked i l bs .taken)) }
+  pub not-read : walked i l bs .stop ≡ NotOfForm → readJournal bs ≡ record { lines = linesOf (walked i l bs .book); ending = refused (suc (walked i l bs .taken)) }
   -- 30: those before are read and entered, and the next is read, but can't follow
-  pub not-following : walked i l bs .stop ≡ notTheRun
+  pub not-following : walked i l bs .stop ≡ NotTheRun
       → (m : Line) × (ms : List Line) × (readJournal bs .lines ≡ linesOf (walked i l bs .book) ++ m ∷ ms) × (follows (walked i l bs .book) m ≡ false)
 
 -- ---- A line that can't be walked: 29 just where the reader refuses it, with the reader's number; 30 where it is read and can't follow the book of those before. The
 -- number is that of the line, from 1.
 pub record Declines (i : Inputs) (l : List Float) (bs : List ℕ) : Type 0 where
-  pub at-29 : (k : ℕ) → replayOf i l bs .reply ≡ declinedAt 29 k → readJournal bs .ending ≡ refused k
-  pub at-30 : (k : ℕ) → replayOf i l bs .reply ≡ declinedAt 30 k
+  pub at-29 : (k : ℕ) → replayOf i l bs .reply ≡ RefusedAt 29 k → readJournal bs .ending ≡ refused k
+  pub at-30 : (k : ℕ) → replayOf i l bs .reply ≡ RefusedAt 30 k
       → (m : Line) × (ms : List Line) × (readJournal bs .lines ≡ linesOf (walked i l bs .book) ++ m ∷ ms) × (follows (walked i l bs .book) m ≡ false)
       × (k ≡ suc (length (linesOf (walked i l bs .book))))
-  pub no-others : (n k : ℕ) → replayOf i l bs .reply ≡ declinedAt n k → (n ≡ 29) ⊎ (n ≡ 30)
+  pub no-others : (n k : ℕ) → replayOf i l bs .reply ≡ RefusedAt n k → (n ≡ 29) ⊎ (n ≡ 30)
 
 -- Start's own refusals come before any line, and leave the buffer as it was lent.
 abbrev pub StartRefuses : Inputs → List Float → List ℕ → Type 0
-StartRefuses i l bs = (n : ℕ) → FirstHolds (conditions i (length l)) (suc n) → replayOf i l bs ≡ record { reply = declined (suc n); list = l }
+StartRefuses i l bs = (n : ℕ) → FirstHolds (conditions i (length l)) (suc n) → replayOf i l bs ≡ record { reply = Refused (suc n); list = l }
 
 -- ---- What the walk keeps of a journal: its longest front that is walked to the end. It alone leads to the same book and the same buffer, so the buffer after a
 -- refused line is that of the lines before it.
@@ -89,8 +91,8 @@ module _ (i : Inputs) (l : List Float) (bs : List ℕ) where
 
   pub record FrontAlone : Type 0 where
     pub is-front : take (length keptBytes) bs ≡ keptBytes
-    pub is-walked : walked i l keptBytes .stop ≡ allTaken
-    pub is-longest : (at : ℕ) → at ≤ length bs → walked i l (take at bs) .stop ≡ allTaken → at ≤ length keptBytes
+    pub is-walked : walked i l keptBytes .stop ≡ AllTaken
+    pub is-longest : (at : ℕ) → at ≤ length bs → walked i l (take at bs) .stop ≡ AllTaken → at ≤ length keptBytes
     pub same-book : walked i l keptBytes .book ≡ walked i l bs .book
     pub same-list : walked i l keptBytes .list ≡ walked i l bs .list
     pub same-taken : walked i l keptBytes .taken ≡ walked i l bs .taken

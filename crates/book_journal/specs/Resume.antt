@@ -1,7 +1,7 @@
 -- 02, E13: going on from a journal that stops anywhere: the front that is kept, what ended it, and that the run goes on as if it had not stopped. Definitions only.
 use Prim.Native.Nat.{ℕ, suc, _+_, _≤_}
 use mathlib.Core.Path.{_≡_}
-use mathlib.Core.Bool.{Bool, false, cond}
+use mathlib.Core.Bool.{false, cond}
 use mathlib.Core.List.{List, [], _∷_, _++_}
 use lib.Dec.{eqb}
 use lib.ListN.{length, take, drop}
@@ -10,38 +10,19 @@ use Rattle.journal_line.specs.declared.Line.{Line}
 use Rattle.journal_line.specs.Line.{lineBytes, LineFits, Writable, journalBytes}
 use Rattle.journal_line.specs.Reading.{newlines, readJournal}
 use Rattle.journal_line.specs.Fronts.{NoLine}
+use Rattle.journal_replay.specs.declared.Stop.the-variants.{AllTaken}
+use Rattle.journal_replay.specs.declared.EndedBy.the-variants as by
+use Rattle.journal_replay.specs.declared.Report.{Report}
+use Rattle.journal_replay.specs.Resume.{endedBy}
 use Rattle.book.specs.Calls.{Call, next}
 use Rattle.book.specs.Book.{Inputs, demand, Book, entries, number, opened, replies, after}
 use Rattle.book.specs.Conditions.{FirstHolds, NoneHolds, conditions}
 use Rattle.book_journal.specs.Lines.{linesOf, journalOf}
-use Rattle.book_journal.specs.Replay.{startNumber, follows, Stop, allTaken, notOfForm, notTheRun, Walked, walked}
+use Rattle.book_journal.specs.Replay.{startNumber, follows, Walked, walked}
 use Rattle.book_journal.specs.History.{from, openedBy, History, bookAt, listAt, atRest, enteredIn}
 use Rattle.book_journal.specs.ReplayLaw.{BufferOf}
 
--- ---- what ended the kept front
-pub data EndedBy : Type 0 where
-  byNothing : EndedBy
-  byMissingNewline : EndedBy
-  by29 : EndedBy
-  by30 : EndedBy
-
--- how much is kept, in lines and in bytes, how many bytes aren't, and why it ends there
-pub record Report : Type 0 where
-  pub lines : ℕ
-  pub kept : ℕ
-  pub dropped : ℕ
-  pub ended-by : EndedBy
-
--- something is left, and no newline in it
-abbrev pub isCutLine : List ℕ → Bool
-isCutLine [] = false
-isCutLine (c ∷ cs) = eqb (newlines (c ∷ cs)) 0
-
-abbrev pub stoppedBy : Stop → EndedBy
-stoppedBy allTaken = byNothing
-stoppedBy notOfForm = by29
-stoppedBy notTheRun = by30
-
+-- ---- the front that is kept
 -- the bytes of the lines that the walk took, and all that follows them
 abbrev pub keptOf : List ℕ → Walked → List ℕ
 keptOf bs w = journalBytes (take (w .taken) (readJournal bs .lines))
@@ -49,13 +30,13 @@ keptOf bs w = journalBytes (take (w .taken) (readJournal bs .lines))
 abbrev pub restOf : List ℕ → Walked → List ℕ
 restOf bs w = drop (length (keptOf bs w)) bs
 
--- Neither number of bytes is worked out from the other. A rest without a newline is told as such, whatever the walk says of it.
+-- How much is kept, in lines and in bytes, how many bytes aren't, and why it ends there. Neither number of bytes is worked out from the other.
 unfoldable pub reportOn : List ℕ → Walked → Report
 reportOn bs w = record {
   lines = w .taken;
   kept = length (keptOf bs w);
   dropped = length (restOf bs w);
-  ended-by = cond (isCutLine (restOf bs w)) byMissingNewline (stoppedBy (w .stop));
+  «ended_by» = endedBy (w .stop) (restOf bs w);
 }
 
 -- ---- the reply: Start's own refusals, which leave the buffer as it was lent; or the run, as its plain book, and the buffer as the kept lines leave them
@@ -84,14 +65,14 @@ pub record GivesBack (i : Inputs) (l : List Float) (bs : List ℕ) (b : Book) (m
   -- the kept bytes are the run's journal, and no longer front is walked without 29 and 30
   pub lines-are : r .lines ≡ number b
   pub kept-journal : take (r .kept) bs ≡ journalOf b
-  pub is-longest : (at : ℕ) → at ≤ length bs → walked i l (take at bs) .stop ≡ allTaken → at ≤ r .kept
+  pub is-longest : (at : ℕ) → at ≤ length bs → walked i l (take at bs) .stop ≡ AllTaken → at ≤ r .kept
   -- together they are the whole file
   pub adds-up : r .kept + r .dropped ≡ length bs
   -- each ending says what stands behind the kept bytes: nothing; no newline; a newline, but no line of the form; a line that can't follow
-  pub nothing-left : r .ended-by ≡ byNothing → drop (r .kept) bs ≡ []
-  pub newline-missing : r .ended-by ≡ byMissingNewline → (drop (r .kept) bs ≡ [] → ⊥) × (newlines (drop (r .kept) bs) ≡ 0)
-  pub not-of-form : r .ended-by ≡ by29 → (1 ≤ newlines (drop (r .kept) bs)) × NoLine (drop (r .kept) bs)
-  pub not-the-run : r .ended-by ≡ by30 → (n : Line) × (tail : List ℕ) × LineFits n × Writable n × (drop (r .kept) bs ≡ lineBytes n ++ tail) × (follows b n ≡ false)
+  pub nothing-left : r .«ended_by» ≡ by.Nothing → drop (r .kept) bs ≡ []
+  pub newline-missing : r .«ended_by» ≡ by.MissingNewline → (drop (r .kept) bs ≡ [] → ⊥) × (newlines (drop (r .kept) bs) ≡ 0)
+  pub not-of-form : r .«ended_by» ≡ by.NotOfForm → (1 ≤ newlines (drop (r .kept) bs)) × NoLine (drop (r .kept) bs)
+  pub not-the-run : r .«ended_by» ≡ by.NotTheRun → (n : Line) × (tail : List ℕ) × LineFits n × Writable n × (drop (r .kept) bs ≡ lineBytes n ++ tail) × (follows b n ≡ false)
 
 -- ---- A run's journal that ends after any of its bytes: every whole line before that place is kept, and nothing else.
 module _ (i : Inputs) (h : History i) (at : ℕ) where
@@ -112,8 +93,8 @@ module _ (i : Inputs) (h : History i) (at : ℕ) where
     pub kept-lines : report l .lines ≡ lines
     pub kept-bytes : report l .kept ≡ length (journalBytes (take lines (linesOf (bookAt h))))
     pub dropped-part : report l .dropped ≡ length part
-    pub by-nothing : part ≡ [] → report l .ended-by ≡ byNothing
-    pub by-newline : (part ≡ [] → ⊥) → report l .ended-by ≡ byMissingNewline
+    pub by-nothing : part ≡ [] → report l .«ended_by» ≡ by.Nothing
+    pub by-newline : (part ≡ [] → ⊥) → report l .«ended_by» ≡ by.MissingNewline
     -- the book is that of as many answers
     pub book-is : walked i l cutJournal .book ≡ enteredIn (opened i) (take lines (entries (bookAt h)))
 

@@ -7,16 +7,18 @@ use lib.Ieee.{Float}
 use Rattle.common.specs.Each.{All}
 use Rattle.search_record.specs.declared.run.Run.{Run}
 use Rattle.journal_line.specs.Line.{Writable}
+use Rattle.journal_replay.specs.declared.Replayed.the-variants.{Winner}
+use Rattle.journal_replay.specs.declared.Report.{Report}
 use Rattle.book.specs.Calls.{Call}
 use Rattle.book.specs.Book.{Inputs, Book, number}
 use Rattle.book.specs.Conditions.{NoneHolds, conditions}
 use Rattle.book.specs.Lent.{Lent}
 use Rattle.book.proofs.RunOf.{runOf}
 use Rattle.book_journal.specs.Lines.{linesOf}
-use Rattle.book_journal.specs.Replay.{walked, winner, replayOf}
+use Rattle.book_journal.specs.Replay.{walked, replayOf}
 use Rattle.book_journal.specs.History.{openedBy, History, bookAt, listAt, InputsFit, CallFits}
 use Rattle.book_journal.specs.ReplayLaw.{StartNumber, LinesOfRun, RunAgain, BufferOf, Accepted, SameAsReader, Declines, StartRefuses, FrontAlone}
-use Rattle.book_journal.specs.Resume.{Report, resumed, resumeOf, ResumeRefuses, ResumeAccepts, GivesBack, CutAt, cutRun, uncut, GoesOn, GoesOnSomewhere, EntersOn, JournalGrows}
+use Rattle.book_journal.specs.Resume.{resumed, resumeOf, ResumeRefuses, ResumeAccepts, GivesBack, CutAt, cutRun, uncut, GoesOn, GoesOnSomewhere, EntersOn, JournalGrows}
 use Rattle.book_journal.specs.Counts.{CountsAgree, InJournal}
 use Rattle.book_journal.specs.Stretches.{Groups, StretchesRight, LineStretchesRight}
 use Rattle.book_journal.specs.Live.{LiveBuffer, Continues, ContinuesToEnd}
@@ -39,7 +41,7 @@ pub record JournalsRight : Type 0 where
   pub start-refuses : (i : Inputs) (l : List Float) (bs : List ℕ) → StartRefuses i l bs
   pub run-again : (i : Inputs) (h : History i) → Fitting i h → (l : List Float) → NoneHolds (conditions i (length l)) → RunAgain i h l
   pub live-buffer : (i : Inputs) (l : List Float) (r : Run) (cs : List Call) → InputsFit i → All CallFits cs → LiveBuffer i l r cs
-  pub accepted : (i : Inputs) (l : List Float) (bs : List ℕ) → InputsFit i → (n : ℕ) (s : Float) → replayOf i l bs .reply ≡ winner n s → Accepted i l bs n s
+  pub accepted : (i : Inputs) (l : List Float) (bs : List ℕ) → InputsFit i → (n : ℕ) (s : Float) → replayOf i l bs .reply ≡ Winner n s → Accepted i l bs n s
   pub declines : (i : Inputs) (l : List Float) (bs : List ℕ) → InputsFit i → Declines i l bs
   pub same-as-reader : (i : Inputs) (l : List Float) (bs : List ℕ) → InputsFit i → NoneHolds (conditions i (length l)) → SameAsReader i l bs
   pub front-alone : (i : Inputs) (l : List Float) (bs : List ℕ) → FrontAlone i l bs

@@ -20,9 +20,14 @@ use Rattle.journal_line.specs.declared.Recorded.the-variants as line
 use Rattle.journal_line.specs.declared.Line.{Line}
 use Rattle.journal_line.specs.Line.{digitByte, digits, decimalWidth, decimal, real, reasonLetter, outcomeFields, restOfLine, lineBytes, recordable, writable, journalBytes}
 use Rattle.journal_line.specs.Reading.{digitOf, numberAt, decimalWidthAt, realAt, reals, reasonOf, outcomeAt, fromRound, fromSeed, uncheckedLine, begins, ofForm, newlines, readLine, goesOn, readAll}
+use Rattle.journal_replay.specs.declared.Replayed.the-variants.{Winner, Unfinished, Refused, RefusedAt}
+use Rattle.journal_replay.specs.declared.EndedBy.the-variants as by
+use Rattle.journal_replay.specs.declared.Report.{Report}
+use Rattle.journal_replay.specs.Stand.{sameReal, sameReals, isMean, canBeScored}
+use Rattle.journal_replay.specs.Resume.{endedBy}
 use Rattle.book.specs.Book.{Inputs, demand, stepOf, scoredOf, roundBest, runBest, firstList, listAround, opened, withEntry, withRound, withEnd, closeRound, bookEnter}
-use Rattle.book_journal.specs.Replay.{sameReal, sameReals, canStand, startNumber, follows, listAfter, walkFrom, walked, winner, unfinished, declined, declinedAt, standing, replayOf}
-use Rattle.book_journal.specs.Resume.{byNothing, byMissingNewline, by29, by30, Report, reportOn}
+use Rattle.book_journal.specs.Replay.{startNumber, follows, listAfter, walkFrom, walked, standing, replayOf}
+use Rattle.book_journal.specs.Resume.{reportOn}
 
 abbrev bits : ℕ → Float
 bits n = ofBits binary64 n
@@ -82,28 +87,28 @@ whole = journalBytes (first ∷ second ∷ [])
 
 pub record Replays : Type 0 where
   -- the winner; Unfinished with the next seed; 11 where nothing is scored
-  pub its-winner : replayOf given buffer whole .reply ≡ winner 1 score
-  pub unfinished-run : replayOf given buffer (journalBytes (first ∷ [])) .reply ≡ unfinished (seedOf quarter)
-  pub none-scored : replayOf given buffer (journalBytes (first ∷ record { number = 1; round = 0; seed = seedOf quarter; outcome = line.Skipped 4 } ∷ [])) .reply ≡ declined 11
+  pub its-winner : replayOf given buffer whole .reply ≡ Winner 1 score
+  pub unfinished-run : replayOf given buffer (journalBytes (first ∷ [])) .reply ≡ Unfinished (seedOf quarter)
+  pub none-scored : replayOf given buffer (journalBytes (first ∷ record { number = 1; round = 0; seed = seedOf quarter; outcome = line.Skipped 4 } ∷ [])) .reply ≡ Refused 11
   -- 30 on the second line: another number, another round, another camera of the seed, another score, a mean below 0
-  pub other-number : replayOf given buffer (journalBytes (first ∷ secondWith 2 0 (seedOf quarter) f1 score ∷ [])) .reply ≡ declinedAt 30 2
-  pub other-round : replayOf given buffer (journalBytes (first ∷ secondWith 1 1 (seedOf quarter) f1 score ∷ [])) .reply ≡ declinedAt 30 2
-  pub other-camera : replayOf given buffer (journalBytes (first ∷ secondWith 1 0 otherSeed f1 score ∷ [])) .reply ≡ declinedAt 30 2
-  pub other-score : replayOf given buffer (journalBytes (first ∷ secondWith 1 0 (seedOf quarter) f1 f1 ∷ [])) .reply ≡ declinedAt 30 2
-  pub mean-below : replayOf given buffer (journalBytes (first ∷ secondWith 1 0 (seedOf quarter) (bits 0xbff0_0000_0000_0000) below ∷ [])) .reply ≡ declinedAt 30 2
+  pub other-number : replayOf given buffer (journalBytes (first ∷ secondWith 2 0 (seedOf quarter) f1 score ∷ [])) .reply ≡ RefusedAt 30 2
+  pub other-round : replayOf given buffer (journalBytes (first ∷ secondWith 1 1 (seedOf quarter) f1 score ∷ [])) .reply ≡ RefusedAt 30 2
+  pub other-camera : replayOf given buffer (journalBytes (first ∷ secondWith 1 0 otherSeed f1 score ∷ [])) .reply ≡ RefusedAt 30 2
+  pub other-score : replayOf given buffer (journalBytes (first ∷ secondWith 1 0 (seedOf quarter) f1 f1 ∷ [])) .reply ≡ RefusedAt 30 2
+  pub mean-below : replayOf given buffer (journalBytes (first ∷ secondWith 1 0 (seedOf quarter) (bits 0xbff0_0000_0000_0000) below ∷ [])) .reply ≡ RefusedAt 30 2
   -- behind the end: a line is 30, other bytes are 29
-  pub line-behind : replayOf given buffer (journalBytes (first ∷ second ∷ second ∷ [])) .reply ≡ declinedAt 30 3
-  pub bytes-behind : replayOf given buffer (whole ++ 120 ∷ 10 ∷ []) .reply ≡ declinedAt 29 3
+  pub line-behind : replayOf given buffer (journalBytes (first ∷ second ∷ second ∷ [])) .reply ≡ RefusedAt 30 3
+  pub bytes-behind : replayOf given buffer (whole ++ 120 ∷ 10 ∷ []) .reply ≡ RefusedAt 29 3
   -- with a round to follow: around the winner the seeds of the next list within the bound are six; the first comes next, and they stand in the buffer
-  pub next-seed : replayOf (inputsWith 1) buffer whole .reply ≡ unfinished (record { «reference_k» = camera; sensor = record { «tilt_x» = f0; «tilt_y» = neg quarter } })
+  pub next-seed : replayOf (inputsWith 1) buffer whole .reply ≡ Unfinished (record { «reference_k» = camera; sensor = record { «tilt_x» = f0; «tilt_y» = neg quarter } })
   pub next-list : take 12 (replayOf (inputsWith 1) buffer whole .list) ≡ f1 ∷ f1 ∷ f0 ∷ f0 ∷ f0 ∷ neg quarter ∷ f1 ∷ f1 ∷ f0 ∷ f0 ∷ f0 ∷ f0 ∷ []
   -- after a 30 on the first line the buffer holds round 0's list, and what stood behind it
   pub first-list : take 14 (replayOf given buffer (journalBytes (second ∷ [])) .list) ≡ six (seedOf f0) ++ six (seedOf quarter) ++ (f1 ∷ f1 ∷ [])
   -- Start's own refusal comes before all, and leaves the buffer
-  pub too-short : replayOf given [] (120 ∷ []) ≡ record { reply = declined 8; list = [] }
+  pub too-short : replayOf given [] (120 ∷ []) ≡ record { reply = Refused 8; list = [] }
 
 pub replays : Replays
-unfolding replayOf startNumber goodSeed tooMany demandOf every walked walkFrom listAfter follows canStand sameReal sameReals standing opened firstList bookEnter closeRound withEntry withRound withEnd roundBest runBest scoredOf bestOf firstUnbeaten unbeaten beats demand stepOf listAround offsets yOffsets nextList digitByte digits decimalWidth decimal bitsOf real reasonLetter outcomeFields restOfLine lineBytes recordable writable journalBytes digitOf numberAt decimalWidthAt realAt reals reasonOf outcomeAt fromRound fromSeed uncheckedLine begins ofForm newlines readLine goesOn readAll keep hasNear push mergedInto closer tiltNear cameraNear near within inBound pairs seedGrid initialList laid readFrom finiteIntrinsics finiteDistortion validCamera distortionPenalty tiltPenalty centrePenalty scoreOf absOf isFinite minOf maxOf toBits add sub mul div neg lt le eq isNan ofBits ofFields ofInt sum round units odd size span climb
+unfolding replayOf startNumber goodSeed tooMany demandOf every walked walkFrom listAfter follows isMean canBeScored sameReal sameReals standing opened firstList bookEnter closeRound withEntry withRound withEnd roundBest runBest scoredOf bestOf firstUnbeaten unbeaten beats demand stepOf listAround offsets yOffsets nextList digitByte digits decimalWidth decimal bitsOf real reasonLetter outcomeFields restOfLine lineBytes recordable writable journalBytes digitOf numberAt decimalWidthAt realAt reals reasonOf outcomeAt fromRound fromSeed uncheckedLine begins ofForm newlines readLine goesOn readAll keep hasNear push mergedInto closer tiltNear cameraNear near within inBound pairs seedGrid initialList laid readFrom finiteIntrinsics finiteDistortion validCamera distortionPenalty tiltPenalty centrePenalty scoreOf absOf isFinite minOf maxOf toBits add sub mul div neg lt le eq isNan ofBits ofFields ofInt sum round units odd size span climb
 replays = record {
   its-winner = refl;
   unfinished-run = refl;
@@ -127,16 +132,16 @@ reportOf bs = reportOn bs (walked given buffer bs)
 
 pub record Reports : Type 0 where
   -- the journal as it is, and cut behind its first line, of 124 bytes
-  pub all-kept : reportOf whole ≡ record { lines = 2; kept = 368; dropped = 0; ended-by = byNothing }
-  pub after-newline : reportOf (take 124 whole) ≡ record { lines = 1; kept = 124; dropped = 0; ended-by = byNothing }
+  pub all-kept : reportOf whole ≡ record { lines = 2; kept = 368; dropped = 0; «ended_by» = by.Nothing }
+  pub after-newline : reportOf (take 124 whole) ≡ record { lines = 1; kept = 124; dropped = 0; «ended_by» = by.Nothing }
   -- without its last byte, and without the last but one as well
-  pub cut-line : reportOf (take 367 whole) ≡ record { lines = 1; kept = 124; dropped = 243; ended-by = byMissingNewline }
-  pub cut-line-again : reportOf (take 366 whole) ≡ record { lines = 1; kept = 124; dropped = 242; ended-by = byMissingNewline }
+  pub cut-line : reportOf (take 367 whole) ≡ record { lines = 1; kept = 124; dropped = 243; «ended_by» = by.MissingNewline }
+  pub cut-line-again : reportOf (take 366 whole) ≡ record { lines = 1; kept = 124; dropped = 242; «ended_by» = by.MissingNewline }
   -- behind the end: a part of a line, a line, other bytes with a newline
-  pub part-behind : reportOf (whole ++ 48 ∷ []) ≡ record { lines = 2; kept = 368; dropped = 1; ended-by = byMissingNewline }
-  pub line-behind : reportOf (journalBytes (first ∷ second ∷ first ∷ [])) ≡ record { lines = 2; kept = 368; dropped = 124; ended-by = by30 }
-  pub bytes-behind : reportOf (120 ∷ 10 ∷ 48 ∷ 44 ∷ 48 ∷ []) ≡ record { lines = 0; kept = 0; dropped = 5; ended-by = by29 }
+  pub part-behind : reportOf (whole ++ 48 ∷ []) ≡ record { lines = 2; kept = 368; dropped = 1; «ended_by» = by.MissingNewline }
+  pub line-behind : reportOf (journalBytes (first ∷ second ∷ first ∷ [])) ≡ record { lines = 2; kept = 368; dropped = 124; «ended_by» = by.NotTheRun }
+  pub bytes-behind : reportOf (120 ∷ 10 ∷ 48 ∷ 44 ∷ 48 ∷ []) ≡ record { lines = 0; kept = 0; dropped = 5; «ended_by» = by.NotOfForm }
 
 pub reports : Reports
-unfolding reportOn walked walkFrom listAfter follows canStand sameReal sameReals opened firstList bookEnter closeRound withEntry withRound withEnd digitByte digits decimalWidth decimal bitsOf real reasonLetter outcomeFields restOfLine lineBytes recordable writable journalBytes digitOf numberAt decimalWidthAt realAt reals reasonOf outcomeAt fromRound fromSeed uncheckedLine begins ofForm newlines readLine goesOn readAll keep hasNear push mergedInto closer tiltNear cameraNear near within inBound pairs seedGrid initialList laid readFrom finiteIntrinsics finiteDistortion validCamera distortionPenalty tiltPenalty centrePenalty scoreOf absOf isFinite minOf maxOf toBits add sub mul div neg lt le eq isNan ofBits ofFields ofInt sum round units odd size span climb
+unfolding reportOn endedBy walked walkFrom listAfter follows isMean canBeScored sameReal sameReals opened firstList bookEnter closeRound withEntry withRound withEnd digitByte digits decimalWidth decimal bitsOf real reasonLetter outcomeFields restOfLine lineBytes recordable writable journalBytes digitOf numberAt decimalWidthAt realAt reals reasonOf outcomeAt fromRound fromSeed uncheckedLine begins ofForm newlines readLine goesOn readAll keep hasNear push mergedInto closer tiltNear cameraNear near within inBound pairs seedGrid initialList laid readFrom finiteIntrinsics finiteDistortion validCamera distortionPenalty tiltPenalty centrePenalty scoreOf absOf isFinite minOf maxOf toBits add sub mul div neg lt le eq isNan ofBits ofFields ofInt sum round units odd size span climb
 reports = record { all-kept = refl; after-newline = refl; cut-line = refl; cut-line-again = refl; part-behind = refl; line-behind = refl; bytes-behind = refl }

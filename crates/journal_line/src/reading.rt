@@ -184,7 +184,7 @@ fn begins_with(s: &[u8], w: &[u8]) -> bool
     same
 }
 
-fn count_newlines(s: &[u8]) -> usize
+pub fn count_newlines(s: &[u8]) -> usize
     ensures { λ r. ⌜ (r ≡ newlines (now (s .entry))) × (r ≤ length (now (s .entry))) ⌝ }
 {
     let mut n = 0;

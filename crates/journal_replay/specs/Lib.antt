@@ -1,0 +1,4 @@
+pub mod Stand
+pub mod Walk
+pub mod Replay
+pub mod Resume

@@ -1,0 +1,82 @@
+// The walk over a journal's lines, from a run and its lent list on.
+
+ghost use mathlib.Core.Path.{_≡_};
+ghost use Prim.Native.Nat.{_≤_};
+ghost use lib.ListN.{length};
+ghost use Rattle.journal_replay.specs.Walk.{isTaken, runTaken, listTaken, walkOf, walkedAs};
+use crate::Stop;
+use crate::Walked;
+use crate::stand::answers_waiting;
+use journal_line::Line;
+use journal_line::Read;
+use journal_line::outcome::outcome_in;
+use journal_line::reading::read_line;
+use search_answer::enter;
+use search_calls::next::Handed;
+use search_calls::next::next;
+use search_record::run::Run;
+
+// A line that was taken, and the run after it; or one that wasn't, and the run as it was.
+pub struct Taken {
+    pub ok: bool,
+    pub run: Run,
+}
+
+// Takes the line for the answer to the seed that Next hands out, if it can be.
+fn take_line(run: Run, list: &mut [f64], line: Line) -> Taken
+    ensures { λ r. ⌜ (r .ok ≡ isTaken run (now (list .entry)) line) × (r .run ≡ runTaken run (now (list .entry)) line) ⌝ }
+    ensures { λ _. ⌜ now (list .exit) ≡ listTaken run (now (list .entry)) line ⌝ }
+{
+    let handed = next(run, list);
+    let reply = handed.reply;
+    let Handed::Candidate(_) = reply else {
+        return Taken { ok: false, run };
+    };
+    let awaiting = handed.run;
+    if !answers_waiting(awaiting, line) {
+        return Taken { ok: false, run };
+    }
+    let outcome = line.outcome;
+    Taken {
+        ok: true,
+        run: enter(awaiting, list, outcome_in(outcome)),
+    }
+}
+
+// Takes line after line, as long as they can be.
+pub fn walk(mut run: Run, bytes: &[u8], list: &mut [f64]) -> Walked
+    ensures { λ r. ⌜ (r ≡ walkedAs (walkOf run (now (list .entry)) (now (bytes .entry)))) × (r .bytes ≤ length (now (bytes .entry))) ⌝ }
+    ensures { λ _. ⌜ now (list .exit) ≡ walkOf run (now (list .entry)) (now (bytes .entry)) .list ⌝ }
+{
+    let mut lines = 0;
+    let mut at = 0;
+    while at < bytes.len() {
+        let read = read_line(bytes, at);
+        let Read::Got(line, behind) = read else {
+            return Walked {
+                run,
+                lines,
+                bytes: at,
+                stop: Stop::NotOfForm,
+            };
+        };
+        let taken = take_line(run, list, line);
+        if !taken.ok {
+            return Walked {
+                run,
+                lines,
+                bytes: at,
+                stop: Stop::NotTheRun,
+            };
+        }
+        run = taken.run;
+        at = behind;
+        lines += 1;
+    }
+    Walked {
+        run,
+        lines,
+        bytes: at,
+        stop: Stop::AllTaken,
+    }
+}
