@@ -31,17 +31,17 @@ answersWaiting r m =
     && sameReals (six (m .seed)) (six (r .waiting .seed))
     && canStand (r .center) (r .waiting .seed .sensor) (m .outcome)
 
--- what comes of a line, where Next replies so; none can follow Over or a refusal
-abbrev pub ifHanded : Handed → Option Left → Option Left
-ifHanded (Candidate n) t = t
-ifHanded Over t = none
-ifHanded (Refused n) t = none
+-- Next handed out a seed; no line can follow Over or a refusal
+abbrev pub isCandidate : Handed → Bool
+isCandidate (Candidate n) = true
+isCandidate Over = false
+isCandidate (Refused n) = false
 
 -- The line is taken for the answer to the seed that Next hands out, and what it records is entered; or it isn't.
 unfoldable pub takeLine : Run → List Float → Line → Option Left
 takeLine r l m =
     let a = nextDef r l in
-    ifHanded (a .reply) (cond (answersWaiting (a .run) m) (some (enterDef (a .run) l (outcomeIn (m .outcome)))) none)
+    cond (isCandidate (a .reply) && answersWaiting (a .run) m) (some (enterDef (a .run) l (outcomeIn (m .outcome)))) none
 
 -- a line that isn't taken leaves the run and the list as they are
 abbrev pub isSome : Option Left → Bool

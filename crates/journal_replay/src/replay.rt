@@ -1,6 +1,7 @@
 // 02, E5: a journal run again from Start's inputs, without a host.
 
 ghost use mathlib.Core.Path.{_≡_};
+ghost use Prim.Native.Nat.{_<_};
 ghost use Rattle.search_start.specs.Start.{startReply, startList};
 ghost use Rattle.journal_replay.specs.Replay.{standingOf, replyBy, replayFrom};
 use crate::Replayed;
@@ -23,7 +24,10 @@ fn standing(run: Run, list: &[f64]) -> Replayed
     let handed = next(run, list);
     let reply = handed.reply;
     match reply {
-        Handed::Candidate(_) => Replayed::Unfinished(handed.run.waiting.seed),
+        Handed::Candidate(_) => {
+            let seed = handed.run.waiting.seed;
+            Replayed::Unfinished(seed)
+        }
         Handed::Over => {
             Replayed::Winner(run.run_best.candidate.number, run.run_best.candidate.score)
         }
@@ -33,6 +37,7 @@ fn standing(run: Run, list: &[f64]) -> Replayed
 
 // The reply to a walk that stopped here.
 fn reply_to(walked: Walked, list: &[f64]) -> Replayed
+    requires { ⌜ walked .lines < 0x8000000000000000 ⌝ }
     ensures { λ r. ⌜ r ≡ replyBy (walked .stop) (walked .lines) (standingOf (walked .run) (now (list .entry))) ⌝ }
 {
     let stop = walked.stop;

@@ -1,9 +1,9 @@
 // The walk over a journal's lines, from a run and its lent list on.
 
 ghost use mathlib.Core.Path.{_≡_};
-ghost use Prim.Native.Nat.{_≤_};
+ghost use Prim.Native.Nat.{_*_, _≤_};
 ghost use lib.ListN.{length};
-ghost use Rattle.journal_replay.specs.Walk.{isTaken, runTaken, listTaken, walkOf, walkedAs};
+ghost use Rattle.journal_replay.specs.Walk.{isCandidate, isTaken, runTaken, listTaken, walkOf, walkedAs};
 use crate::Stop;
 use crate::Walked;
 use crate::stand::answers_waiting;
@@ -22,6 +22,17 @@ pub struct Taken {
     pub run: Run,
 }
 
+// Whether Next handed out a seed.
+fn is_candidate(reply: Handed) -> bool
+    ensures { λ r. ⌜ r ≡ isCandidate reply ⌝ }
+{
+    match reply {
+        Handed::Candidate(_) => true,
+        Handed::Over => false,
+        Handed::Refused(_) => false,
+    }
+}
+
 // Takes the line for the answer to the seed that Next hands out, if it can be.
 fn take_line(run: Run, list: &mut [f64], line: Line) -> Taken
     ensures { λ r. ⌜ (r .ok ≡ isTaken run (now (list .entry)) line) × (r .run ≡ runTaken run (now (list .entry)) line) ⌝ }
@@ -29,54 +40,57 @@ fn take_line(run: Run, list: &mut [f64], line: Line) -> Taken
 {
     let handed = next(run, list);
     let reply = handed.reply;
-    let Handed::Candidate(_) = reply else {
-        return Taken { ok: false, run };
-    };
-    let awaiting = handed.run;
-    if !answers_waiting(awaiting, line) {
+    if !(is_candidate(reply) & answers_waiting(handed.run, line)) {
         return Taken { ok: false, run };
     }
     let outcome = line.outcome;
     Taken {
         ok: true,
-        run: enter(awaiting, list, outcome_in(outcome)),
+        run: enter(handed.run, list, outcome_in(outcome)),
     }
 }
 
 // Takes line after line, as long as they can be.
 pub fn walk(mut run: Run, bytes: &[u8], list: &mut [f64]) -> Walked
-    ensures { λ r. ⌜ (r ≡ walkedAs (walkOf run (now (list .entry)) (now (bytes .entry)))) × (r .bytes ≤ length (now (bytes .entry))) ⌝ }
-    ensures { λ _. ⌜ now (list .exit) ≡ walkOf run (now (list .entry)) (now (bytes .entry)) .list ⌝ }
+    ensures walked { λ r. ⌜ r ≡ walkedAs (walkOf run (now (list .entry)) (now (bytes .entry))) ⌝ }
+    ensures written { λ _. ⌜ now (list .exit) ≡ walkOf run (now (list .entry)) (now (bytes .entry)) .list ⌝ }
+    ensures within { λ r. ⌜ (2 * r .lines ≤ r .bytes) × (r .bytes ≤ length (now (bytes .entry))) ⌝ }
 {
     let mut lines = 0;
     let mut at = 0;
-    while at < bytes.len() {
+    loop {
         let read = read_line(bytes, at);
-        let Read::Got(line, behind) = read else {
-            return Walked {
-                run,
-                lines,
-                bytes: at,
-                stop: Stop::NotOfForm,
-            };
-        };
-        let taken = take_line(run, list, line);
-        if !taken.ok {
-            return Walked {
-                run,
-                lines,
-                bytes: at,
-                stop: Stop::NotTheRun,
-            };
+        match read {
+            Read::Got(line, behind) => {
+                let taken = take_line(run, list, line);
+                if !taken.ok {
+                    return Walked {
+                        run,
+                        lines,
+                        bytes: at,
+                        stop: Stop::NotTheRun,
+                    };
+                }
+                run = taken.run;
+                at = behind;
+                lines += 1;
+            }
+            Read::Refused(_, _) => {
+                return Walked {
+                    run,
+                    lines,
+                    bytes: at,
+                    stop: Stop::NotOfForm,
+                };
+            }
+            Read::End => {
+                return Walked {
+                    run,
+                    lines,
+                    bytes: at,
+                    stop: Stop::AllTaken,
+                };
+            }
         }
-        run = taken.run;
-        at = behind;
-        lines += 1;
-    }
-    Walked {
-        run,
-        lines,
-        bytes: at,
-        stop: Stop::AllTaken,
     }
 }
