@@ -1,4 +1,4 @@
-//! Compiles the plain C that the benchmark sets the library beside, with the system's gcc.
+//! Compiles the plain C that the benchmark and the soak set the library beside, with the system's gcc.
 
 use std::env;
 use std::path::Path;
@@ -10,13 +10,16 @@ fn run(program: &str, words: &[&str]) {
 }
 
 fn main() {
-    println!("cargo::rerun-if-changed=plain.c");
     let folder = env::var("OUT_DIR").expect("cargo sets the folder");
-    let object = Path::new(&folder).join("plain.o").display().to_string();
-    let archive = Path::new(&folder).join("libplain.a").display().to_string();
-    run("gcc", &["-O3", "-c", "plain.c", "-o", &object]);
-    run("ar", &["rcs", &archive, &object]);
+    for name in ["plain", "leaves"] {
+        let source = format!("{name}.c");
+        println!("cargo::rerun-if-changed={source}");
+        let object = Path::new(&folder).join(format!("{name}.o")).display().to_string();
+        let archive = Path::new(&folder).join(format!("lib{name}.a")).display().to_string();
+        run("gcc", &["-O3", "-c", &source, "-o", &object]);
+        run("ar", &["rcs", &archive, &object]);
+        println!("cargo::rustc-link-lib=static={name}");
+    }
     println!("cargo::rustc-link-search=native={folder}");
-    println!("cargo::rustc-link-lib=static=plain");
     println!("cargo::rustc-link-lib=m");
 }

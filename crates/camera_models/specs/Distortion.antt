@@ -27,7 +27,7 @@ tangentialX b p = two₆₄ *₆₄ b .p1 *₆₄ p .x *₆₄ p .y +₆₄ b .p
 unfoldable pub tangentialY : BrownConrady5 → Pt2 → Float
 tangentialY b p = b .p1 *₆₄ (squaredNorm p +₆₄ two₆₄ *₆₄ p .y *₆₄ p .y) +₆₄ two₆₄ *₆₄ b .p2 *₆₄ p .x *₆₄ p .y
 
--- the three₆₄ together, as the code hands them on
+-- the three together, as the code hands them on
 abbrev pub terms : BrownConrady5 → Pt2 → Terms
 terms b p = record { radial = radialFactor b p; «x_tan» = tangentialX b p; «y_tan» = tangentialY b p }
 
@@ -38,7 +38,7 @@ distorted b p = record {
   y = p .y *₆₄ radialFactor b p +₆₄ tangentialY b p;
 }
 
--- ---- the derivatives of the two₆₄ coordinates
+-- ---- the derivatives of the two coordinates
 -- the radial factor as the derivatives take it, with (k3 × r4) × r2 for its last term
 unfoldable pub jacobianRadial : BrownConrady5 → Pt2 → Float
 jacobianRadial b p =

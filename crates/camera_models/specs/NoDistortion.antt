@@ -7,7 +7,7 @@ use lib.Dec.{T, eqb·suc-zero}
 use lib.IntN.{pos}
 use lib.Ieee.{Float, nan, inf, fin, binary64, ofBits, fits, unlike, up, down, add, mul, eq}
 use Rattle.float.specs.Float.{isFinite, signBit}
-use Rattle.float.specs.Sign.{eq-zero, fits-zero, sign-round, sign-add, sign-mul, sign-square}
+use Rattle.float.specs.Sign.{eq-zero, fits-zero, unlike-false, sign-round, sign-add, sign-mul, sign-square}
 use Rattle.float.specs.Literals.{plusZero, one₆₄, two₆₄, zeroOf}
 use Rattle.float.specs.Binary64.{_+₆₄_, _*₆₄_}
 use Rattle.float.specs.Zero.{mul-nan, add-nan, finite-factors, zero-times, times-zero, zero-times-other, zeros-add, plusZeroUnless, add-zero, mul-one₆₄}
@@ -110,10 +110,6 @@ module _ (p : Pt2) (f : isFinite (squaredNorm p *₆₄ squaredNorm p) ≡ true)
       add-limited (norm-signed (record { x = large; y = large })) (sign-mul binary64 (two₆₄ *₆₄ large) large (sign-twice large)) norm twice (no-overflow .1 .1 .1 .1) .finite
 
 -- ---- both tangential parts are zeros
-unlike-false : (s : Bool) → unlike s false ≡ s
-unlike-false true = refl
-unlike-false false = refl
-
 zero-by-positive : (k x : Float) → eq k plusZero ≡ true → isFinite x ≡ true → signBit x ≡ false → k *₆₄ x ≡ zeroOf (signBit k)
 zero-by-positive k x z f h = rw (zero-times k x z f, h, unlike-false (signBit k))
 

@@ -3,7 +3,7 @@
 use mathlib.Core.Path.{_≡_, refl, _∙_, sym}
 use mathlib.Core.Bool.{Bool, true, false, true≢false}
 use Prim.Native.Nat.{ℕ, _+_, _*_, _^_, _≤_, _<_}
-use native.Mathlib.Nat.{zero-mul, mul-zero, add-zero, zero-add, mul-le-mul, mul-le-mul-right, mul-pos, lt-of-mul-lt-mul-right}
+use native.Mathlib.Nat.{zero-mul, mul-zero, mul-le-mul, mul-le-mul-right, mul-pos, lt-of-mul-lt-mul-right}
 use native.Mathlib.Omega.{arith}
 use lib.IntN.{ℤ}
 use lib.Ieee.{Float, nan, inf, fin, ofBits, up, down, lt, eq}
@@ -19,11 +19,9 @@ use Rattle.float_laws.specs.Rounded.{value, Within, within, exact}
 use Rattle.float_laws.specs.Known.{Known}
 use Rattle.float_series.specs.Series.{sines, cosines, seriesOf}
 use Rattle.float_series.specs.Answer.{beyondHalf}
-use Rattle.float_series.specs.Ranges.{Turned, Turn, turn}
-use Rattle.float_series.specs.Theorem.{turns}
+use Rattle.float_series.specs.Ranges.{Turned, SineCosine, ranged, flat}
+use Rattle.float_series.specs.Theorem.{sine-cosine}
 use Rattle.camera_tilt_laws.specs.Matrices.{Diagonal, rotation, projected, determinant}
-
-ruleset flat = (ring, zero-mul, mul-zero, add-zero, zero-add)
 
 -- ---- numbers of at least k / l
 record AtLeast (k l : ℕ) (x : Fraction) : Type 0 where
@@ -98,9 +96,9 @@ sine-known s m e h = record { near = exact s m e; some = down-pos e; small = rw 
 cosine-known : (m : ℕ) (e : ℤ) → 256 * (m * up e) ≤ 257 * down e → Known 0 1028 (fin false m e) (value false m e)
 cosine-known m e h = record { near = exact false m e; some = down-pos e; small = omega arith }
 
-in-range : {sx cx sy cy : Float} → Turn sx cx → Turn sy cy → lt half₆₄ (determinantOf (tiltProjectionMatrix sx cx sy cy)) ≡ true
+in-range : {sx cx sy cy : Float} → SineCosine sx cx → SineCosine sy cy → lt half₆₄ (determinantOf (tiltProjectionMatrix sx cx sy cy)) ≡ true
 unfolding tiltProjectionMatrix
-in-range (turn {s = r} {m = d} {n = c} {e = x} {d = w} k) (turn {s = s} {m = b} {n = a} {e = v} {d = u} t) =
+in-range (ranged {s = r} {m = d} {n = c} {e = x} {d = w} k) (ranged {s = s} {m = b} {n = a} {e = v} {d = u} t) =
     let p = projected (rotation (sine-known r d x (k .sine-small)) (cosine-known c w (k .cosine-small)) (sine-known s b v (t .sine-small)) (cosine-known a u (t .cosine-small))) in
     above-half-of (determinant _ p .near)
     (diagonal r s (a * up u) (down u) (b * up v) (down v) (c * up w) (down w) (d * up x) (down x) (down-pos u) (down-pos v) (down-pos w) (down-pos x) t k)
@@ -108,7 +106,7 @@ in-range (turn {s = r} {m = d} {n = c} {e = x} {d = w} k) (turn {s = s} {m = b} 
 -- ---- two tilts
 module _ (x y : Float) (g : beyondHalf x ≡ false) (h : beyondHalf y ≡ false) where
   pub above-half : lt half₆₄ (determinantOf (tiltProjectionMatrix (seriesOf sines x) (seriesOf cosines x) (seriesOf sines y) (seriesOf cosines y))) ≡ true
-  above-half = in-range (turns x g) (turns y h)
+  above-half = in-range (sine-cosine x g) (sine-cosine y h)
 
   pub never-singular : tiltVerdict (tiltProjectionMatrix (seriesOf sines x) (seriesOf cosines x) (seriesOf sines y) (seriesOf cosines y)) ≡ Invertible
   unfolding tiltVerdict

@@ -53,7 +53,7 @@ newtonStep e = stepBy (e .jacobian) (e .error)
 unfoldable pub improves : Estimate → Estimate → Bool
 improves next e = isFinite (squaredResidual next) && lt (squaredResidual next) (squaredResidual e)
 
--- at most n trials, each with half₆₄ the step of the one₆₄ before: the first that improves on e, with its step
+-- at most n trials, each with half the step of the one before: the first that improves on e, with its step
 unfoldable pub trials : ℕ → BrownConrady5 → Pt2 → Estimate → Pt2 → TrialResult
 trials zero b target e step = Exhausted
 trials (suc n) b target e step =
@@ -69,7 +69,7 @@ unfoldable pub afterTrials : TrialResult → Turn
 afterTrials Exhausted = Ended
 afterTrials (Accepted next step) = cond (smallStep step (next .point)) (Last next) (Further next)
 
--- one₆₄ turn of the method: it also ends at an exact solution and at a singular Jacobian
+-- one turn of the method: it also ends at an exact solution and at a singular Jacobian
 unfoldable pub newtonTurn : BrownConrady5 → Pt2 → Estimate → Turn
 newtonTurn b target e =
     cond (eq (squaredResidual e) plusZero) Ended
@@ -87,7 +87,7 @@ unfoldable pub newton : ℕ → BrownConrady5 → Pt2 → Estimate → Estimate
 newton zero b target e = e
 newton (suc n) b target e = thenBy e (newtonTurn b target e) (newton n b target)
 
--- one₆₄ step more, without trials
+-- one step more, without trials
 unfoldable pub lastStep : Estimate → Pt2
 lastStep e = cond (singular (e .jacobian)) (e .point) (minusPoint (e .point) (newtonStep e))
 

@@ -64,7 +64,7 @@ odd-value m n (negsuc a) (negsuc b) o p h =
     (r .0, ap negsuc (sym z))
 
 -- ---- a number, not 0, that fits is what its own fraction rounds to
-power-le : (i j : ℕ) → 2 ^ i ≤ 2 ^ j → i ≤ j
+pub power-le : (i j : ℕ) → 2 ^ i ≤ 2 ^ j → i ≤ j
 power-le i j h =
     elim (ltb j i) as (λ (v : Bool). ltb j i ≡ v → i ≤ j) [
       | true ↦ λ e. absurd (let p : 2 ^ j < 2 ^ i = pow-lt (ltb-true j i e) in omega arith)

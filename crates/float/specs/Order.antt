@@ -1,6 +1,6 @@
 -- How comparisons treat NaN, and `<` as a strict order on numbers. Assumes nothing.
 use mathlib.Core.Path.{_≡_, refl, sym, ap, _∙_}
-use mathlib.Core.Bool.{Bool, true, false, not, _&&_, _||_, Bool·beq, true≢false}
+use mathlib.Core.Bool.{Bool, true, false, not, _&&_, _||_, and-false, Bool·beq, true≢false}
 use Prim.Native.Nat.{ℕ, zero, suc, _+_, _*_, _≤_, _<_}
 use native.Mathlib.Nat.{mul-le-mul-right, mul-lt-mul-of-pos-right}
 use native.Mathlib.Omega.{arith}
@@ -241,10 +241,6 @@ lt-neg (fin s m e) (inf false) = refl
 lt-neg (fin s m e) (fin t n d) = below-neg s (m * up e * down d) t (n * up d * down e)
 
 -- ---- what is below is not equal
-and-false : (x : Bool) → (x && false) ≡ false
-and-false true = refl
-and-false false = refl
-
 below-unlevel : (s : Bool) (a : ℕ) (t : Bool) (b : ℕ) → below s a t b ≡ true → level s a t b ≡ false
 below-unlevel false a false b h = simp (ne-eqb a b (λ e. let l = ltb-true a b h in omega arith))
 below-unlevel false a true b h = absurd (true≢false (sym h))

@@ -211,12 +211,16 @@ sign-add f (fin true m e) (fin t n d) h k = absurd (true≢false h)
 sign-add f (fin false m e) (fin true n d) h k = absurd (true≢false k)
 sign-add f (fin false m e) (fin false n d) h k = sign-round f false (m * up e * down d + n * up d * down e) (down e * down d)
 
+pub unlike-false : (s : Bool) → unlike s false ≡ s
+unlike-false true = refl
+unlike-false false = refl
+
+pub unlike-itself : (s : Bool) → unlike s s ≡ false
+unlike-itself true = refl
+unlike-itself false = refl
+
 unlike-same : {s t : Bool} → s ≡ t → unlike s t ≡ false
-unlike-same {s} {t} h = rw h (go t)
-  where
-    go : (t : Bool) → unlike t t ≡ false
-    go true = refl
-    go false = refl
+unlike-same {s} {t} h = rw h (unlike-itself t)
 
 -- of like signs
 pub sign-mul : (f : Format) (x y : Float) → signBit x ≡ signBit y → signBit (mul f x y) ≡ false

@@ -1,7 +1,7 @@
 -- Numbers of at most a known size: sums and products of such numbers don't overflow where those of the limits don't. Assumes nothing.
 use mathlib.Core.Path.{_≡_, refl}
 use mathlib.Core.Bool.{Bool, true, false, cond, true≢false}
-use Prim.Native.Nat.{ℕ, zero, suc, _+_, _-_, _*_, _^_}
+use Prim.Native.Nat.{ℕ, zero, suc, _+_, _*_, _^_}
 use lib.Dec.{ltb}
 use lib.Ieee.{Float, nan, inf, fin, Format, binary64, prec, emax, low, odd, units, round, add, mul, isNan}
 use Rattle.float.specs.Float.{isFinite, signBit}

@@ -19,7 +19,7 @@ use lib.Ieee.Fits.{round-is}
 use lib.Ieee.Exact.{HasValue, units-val}
 use lib.Ieee.Nearest.{closest}
 use lib.Ieee.Scale.{grid, overflow}
-use Rattle.float_laws.specs.Fraction.{Fraction, signed, opposite, _⊕_, _⊗_, size, Near, ring, near-refl}
+use Rattle.float_laws.specs.Fraction.{Fraction, signed, opposite, _⊕_, _⊗_, Near, ring, near-refl}
 
 -- ---- a / b to the nearest whole number is no more than a half away
 abbrev Compared : Ordering → ℕ → ℕ → Type 0

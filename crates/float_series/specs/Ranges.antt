@@ -163,8 +163,8 @@ sine-low b v P N D p q o f n =
     le-of-mul-le-mul-right {k = D} (simp ring (omega (arith, l, simp ring at n))) o
 
 -- ---- the floats: a sine and a cosine of one number
-pub data Turn : Float → Float → Type 0 where
-  turn : {s : Bool} {m n : ℕ} {e d : ℤ} → Turned (m * up e) (down e) (n * up d) (down d) → Turn (fin s m e) (fin false n d)
+pub data SineCosine : Float → Float → Type 0 where
+  ranged : {s : Bool} {m n : ℕ} {e d : ℤ} → Turned (m * up e) (down e) (n * up d) (down d) → SineCosine (fin s m e) (fin false n d)
 
 square-minus : (s : Bool) (a c : ℕ) → (signed s a c ⊗ signed s a c) .minus ≡ 0
 square-minus true a c = simp (zero-mul, mul-zero)
@@ -179,7 +179,7 @@ record SineNear (b v p q : ℕ) (F : Fraction) : Type 0 where
   high : 2 ^ 53 * (b * (F .den * q) + F .minus * p * v) ≤ 2 ^ 53 * (F .plus * p * v) + 8 * (v * (F .den * q))
   low : 2 ^ 53 * (F .plus * p * v) ≤ 2 ^ 53 * (b * (F .den * q) + F .minus * p * v) + 8 * (v * (F .den * q))
 
-ruleset flat = (ring, zero-mul, mul-zero, add-zero, zero-add)
+pub ruleset flat = (ring, zero-mul, mul-zero, add-zero, zero-add)
 
 sine-near : (s t : Bool) (b v p q : ℕ) (F : Fraction) → F .minus ≤ F .plus → Near (2 ^ 53) 8 (signed s b v) (F ⊗ signed t p q) → SineNear b v p q F
 sine-near s t b v p q F l n = go s t n
@@ -213,14 +213,14 @@ module _ (s : Bool) (m : ℕ) (e : ℤ) (h : 2 * (m * up e) ≤ down e) where
   odd : Factor 6 (X ⊗ X) (nested X 7 1)
   odd = factor X half plain 4 1 6 refl refl refl refl
 
-  turned : {x y : Float} → Within (2 ^ 53) 8 x (nested X 7 1 ⊗ X) → Within (2 ^ 53) 8 y (nested X 7 0) → Turn x y
+  turned : {x y : Float} → Within (2 ^ 53) 8 x (nested X 7 1 ⊗ X) → Within (2 ^ 53) 8 y (nested X 7 0) → SineCosine x y
   turned (within {s = t} {m = b} {e = i} g) (within {s = false} {m = a} {e = j} k) =
       let F = nested X 7 1 in
       let G = nested X 7 0 in
       let f = bounded square plain odd in
       let c = bounded square plain even in
       let n = sine-near t s (b * up i) (down i) (m * up e) (down e) F (omega (arith, f)) g in
-      turn (record {
+      ranged (record {
         sine-small = sine-small (b * up i) (down i) (F .plus) (F .minus) (F .den) (m * up e) (down e) (odd .some) (down-pos e) h (odd .high) (n .high);
         cosine-small = cosine-high (a * up j) (down j) (G .plus) (G .minus) (G .den) (even .some) (even .high) (k .high);
         cosine-large = cosine-large (a * up j) (down j) (G .plus) (G .minus) (G .den) (even .some) c (k .low);
@@ -232,6 +232,6 @@ module _ (s : Bool) (m : ℕ) (e : ℤ) (h : 2 * (m * up e) ≤ down e) where
       let G = nested X 7 0 in
       absurd (cosine-sign (a * up j) (down j) (G .plus) (G .minus) (G .den) (down-pos j) (even .some) (bounded square plain even) (k .low))
 
-  pub series-turn : Turn (seriesOf sines (fin s m e)) (seriesOf cosines (fin s m e))
+  pub series-ranged : SineCosine (seriesOf sines (fin s m e)) (seriesOf cosines (fin s m e))
   unfolding seriesOf
-  series-turn = turned (product-within (fin s m e) X (exact s m e) half 7) (sum-within (fin s m e) X (exact s m e) half 7 0)
+  series-ranged = turned (product-within (fin s m e) X (exact s m e) half 7) (sum-within (fin s m e) X (exact s m e) half 7 0)

@@ -16,7 +16,7 @@ use Rattle.float_series.specs.Series.{Series, cosines, sines, first, ser
 use Rattle.float_series.specs.Exact.{terms-pos}
 use Rattle.float_series.specs.Answer.{beyondHalf, answerOf}
 use Rattle.float_series.specs.Bound.{series-within}
-use Rattle.float_series.specs.Ranges.{Turn, series-turn}
+use Rattle.float_series.specs.Ranges.{SineCosine, series-ranged}
 use Rattle.float_series.specs.declared.Sum.{Sum}
 use Rattle.float_series.specs.declared.Sum.the-variants.{Value, Refused}
 
@@ -32,11 +32,11 @@ series-near w (inf s) h = absurd (true≢false h)
 series-near w (fin s m e) h = series-within w s m e (at-most-half s m e h)
 
 -- the sine and the cosine of one number, in their ranges
-pub turns : (x : Float) → beyondHalf x ≡ false → Turn (seriesOf sines x) (seriesOf cosines x)
+pub sine-cosine : (x : Float) → beyondHalf x ≡ false → SineCosine (seriesOf sines x) (seriesOf cosines x)
 unfolding beyondHalf isNan lt absOf ofBits
-turns nan h = absurd (true≢false h)
-turns (inf s) h = absurd (true≢false h)
-turns (fin s m e) h = series-turn s m e (at-most-half s m e h)
+sine-cosine nan h = absurd (true≢false h)
+sine-cosine (inf s) h = absurd (true≢false h)
+sine-cosine (fin s m e) h = series-ranged s m e (at-most-half s m e h)
 
 -- ---- a number within 2 ^ -50 of the exact value, or 27; `apart` is the difference of two fractions, times both denominators
 pub record Close (y : Float) (e : Fraction) : Type 0 where

@@ -3,7 +3,7 @@ use mathlib.Core.Path.{_≡_, refl, ap}
 use mathlib.Core.List.{List, [], _∷_, _++_}
 use Prim.Native.Nat.{ℕ, zero, suc, _+_, _%_, _≤_, _<_}
 use native.Mathlib.Omega.{arith}
-use native.Mathlib.Numerals.{add-one}
+use native.Mathlib.Numerals.{add-one, add-two}
 use lib.ListN.{length, take, drop, getD, set}
 use lib.Seq.{take-length}
 use lib.Ieee.{Float, nan}
@@ -20,9 +20,6 @@ pointAt points i = record { x = getD points i nan; y = getD points (suc i) nan }
 pub front-none : (f : Pt2 → Pt2) (points to : List Float) → front f points 0 to ≡ to
 unfolding front mapPoints
 front-none f points to = refl
-
-two-more : (i : ℕ) → i + 2 ≡ suc (suc i)
-two-more i = omega arith
 
 -- the point at i is mapped and stored
 store : (f : Pt2 → Pt2) (points to : List Float) (i : ℕ) → i % 2 ≡ 0 → suc i < length points → length points ≤ length to
@@ -41,7 +38,7 @@ store f (x ∷ y ∷ ps) (u ∷ v ∷ to) (suc (suc i)) even h k =
 pub front-next : (f : Pt2 → Pt2) (points to : List Float) (i : ℕ) (p : Pt2) → p ≡ record { x = getD points i nan; y = getD points (i + 1) nan }
     → i % 2 ≡ 0 → i + 1 < length points → length points ≤ length to
     → set (set (front f points i to) i (f p .x)) (i + 1) (f p .y) ≡ front f points (i + 2) to
-front-next f points to i p is even h k = rw (is, add-one i, two-more i) (store f points to i even (omega arith) k)
+front-next f points to i p is even h k = rw (is, add-one i, add-two i) (store f points to i even (omega arith) k)
 
 -- all are mapped
 pub front-all : (f : Pt2 → Pt2) (points to : List Float) (i : ℕ) → i ≡ length points → front f points i to ≡ written f points to

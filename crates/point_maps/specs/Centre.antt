@@ -33,7 +33,7 @@ extentOf s = foldPoints widen (record { «min_x» = infinity; «min_y» = infini
 abbrev pub finiteExtent : Extent → Bool
 finiteExtent e = (isFinite (e .«min_x») && isFinite (e .«min_y»)) && (isFinite (e .«max_x») && isFinite (e .«max_y»))
 
--- No finite pixel: (0, 0). No negative coordinate: half₆₄ the greatest ones. Else the middle of the range, in both coordinates.
+-- No finite pixel: (0, 0). No negative coordinate: half of the greatest ones. Else the middle of the range, in both coordinates.
 unfoldable pub centerOf : Extent → Pt2
 centerOf e =
     cond (finiteExtent e)

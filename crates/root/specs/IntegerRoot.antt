@@ -1,7 +1,7 @@
 -- `isqrt n` is the largest r with r * r ≤ n. Assumes nothing.
 use mathlib.Core.Path.{_≡_, refl, sym, ap, _∙_}
-use Prim.Native.Nat.{ℕ, zero, suc, _-_, _*_, _/_, _^_, _≤_, _<_}
-use native.Mathlib.Nat.{lt-of-lt-of-le, lt-of-le-of-lt, lt-of-not-le, lt-irrefl, le-of-suc-le-suc, mul-assoc, mul-left-comm, mul-le-mul, pow-suc, pow-le-pow-left}
+use Prim.Native.Nat.{ℕ, zero, suc, _*_, _/_, _^_, _≤_, _<_}
+use native.Mathlib.Nat.{lt-of-lt-of-le, lt-of-le-of-lt, lt-of-not-le, lt-irrefl, le-of-suc-le-suc, mul-assoc, mul-left-comm, mul-le-mul, mul-le-mul-left, mul-lt-mul-of-pos-right, pow-suc, pow-le-pow-left}
 use native.Mathlib.Omega.{arith}
 use mathlib.Core.Bool.{Bool, true, false, not, cond}
 use lib.Dec.{T, ltb, ltb→lt, nltb→le}
@@ -44,6 +44,9 @@ isqrt-is n = rootIn-is (size n) n (lt-of-lt-of-le (size-lt n) (pow-le-pow-left {
 -- squares are in the order of their roots
 pub square-mono : (a b : ℕ) → a ≤ b → a * a ≤ b * b
 square-mono a b h = mul-le-mul h h
+
+pub square-lt : (a b : ℕ) → a < b → a * a < b * b
+square-lt a b h = lt-of-le-of-lt (mul-le-mul-left a (omega arith)) (mul-lt-mul-of-pos-right h (omega arith))
 
 pub square-lt-back : (a b : ℕ) → a * a < b * b → a < b
 square-lt-back a b h = lt-of-not-le (λ (g : b ≤ a). lt-irrefl (a * a) (lt-of-lt-of-le h (square-mono b a g)))

@@ -1,8 +1,8 @@
 -- The root of a value above zero fits the format, and is nearer to the true root than any other value of the format is. Assumes nothing.
 use mathlib.Core.Path.{_≡_, refl, sym, ap, _∙_, subst}
-use mathlib.Core.Logic.{_⊎_, ⊎-elim}
+use mathlib.Core.Logic.{⊎-elim}
 use Prim.Native.Nat.{ℕ, zero, suc, _+_, _-_, _*_, _/_, _%_, _^_, _≤_, _<_, compare}
-use native.Mathlib.Nat.{le-div-iff-mul-le, eq-of-mul-eq-mul-right, mul-div-cancel, one-mul, le-trans, le-of-eq, lt-of-lt-of-le, lt-of-le-of-lt, lt-of-not-le, lt-irrefl, zero-lt-suc, zero-mul, add-mul, mul-assoc, mul-comm, mul-left-comm, mul-right-comm, mul-mul-mul-comm, mul-le-mul-right, mul-lt-mul-of-pos-right, lt-of-mul-lt-mul-right, mul-pos, mul-one, eq-zero-or-pos, le-of-suc-le-suc, pow-suc, div-mul-le-self, mul-lt-mul-of-pos-left}
+use native.Mathlib.Nat.{le-div-iff-mul-le, eq-of-mul-eq-mul-right, mul-div-cancel, one-mul, le-trans, le-of-eq, lt-of-lt-of-le, lt-of-le-of-lt, lt-irrefl, zero-lt-suc, zero-mul, add-mul, mul-assoc, mul-comm, mul-left-comm, mul-right-comm, mul-mul-mul-comm, mul-le-mul-right, mul-lt-mul-of-pos-right, lt-of-mul-lt-mul-right, mul-pos, mul-one, eq-zero-or-pos, div-mul-le-self, mul-lt-mul-of-pos-left}
 use native.Mathlib.Omega.{arith}
 use mathlib.Core.Bool.{Bool, true, false, _&&_, cond, true≢false}
 use lib.IntN.{ℤ, pos, negsuc}
@@ -15,6 +15,7 @@ use lib.Ieee.Exact.{HasValue, units-val}
 use lib.Ieee.Scale.{finite}
 use lib.Ieee.Nearest.{nearest-ge}
 use lib.Ieee.Positive.{num, den, den-pos, positive, value→cross, positive-of-value}
+use Rattle.float.specs.Exact.{power-le}
 use Rattle.root.specs.Root.{isqrt, dropped, kept, middle, rounded, radicand, rootOf, root}
 use Rattle.root.specs.Nearer.{Nearer}
 use Rattle.root.specs.IntegerRoot.{isqrt-is, isqrt-ge, square-lt-back, square-mono}
@@ -23,16 +24,10 @@ use Rattle.root.specs.NearestWhole.{nearest-one, no-tie}
 use Rattle.root.specs.Squares.{rootOf-square}
 
 -- ---- a value that fits, in the format's smallest values
-pow-le-back : (a b : ℕ) → 2 ^ a ≤ 2 ^ b → a ≤ b
-pow-le-back a b h = le-of-suc-le-suc (lt-of-not-le (λ (g : suc b ≤ a). lt-irrefl (2 ^ b) (lt-of-lt-of-le (lt-of-lt-of-le (mul-lt-two (2 ^ b) (pow-pos b)) (le-of-eq (sym (pow-suc 2 b)))) (le-trans (pow-mono g) h))))
-  where
-    mul-lt-two : (x : ℕ) → 0 < x → x < x * 2
-    mul-lt-two x h = omega arith
-
 place : (l : ℕ) (m : ℕ) (e : ℤ) → down e ≤ 2 ^ l → (j : ℕ) × (m * up e * 2 ^ l ≡ m * 2 ^ j * down e)
 place l m (pos a) h = (a + l, mul-assoc m (2 ^ a) (2 ^ l) ∙ ap (λ (x : ℕ). m * x) (sym (pow-add 2 a l)) ∙ sym (mul-one (m * 2 ^ (a + l))))
 place l m (negsuc a) h =
-    let g : suc a ≤ l = pow-le-back (suc a) l h in
+    let g : suc a ≤ l = power-le (suc a) l h in
     (l - suc a, ap (λ (x : ℕ). x * 2 ^ l) (mul-one m) ∙ ap (λ (x : ℕ). m * 2 ^ x) (sym (back l (suc a) g)) ∙ ap (λ (x : ℕ). m * x) (pow-add 2 (l - suc a) (suc a)) ∙ sym (mul-assoc m (2 ^ (l - suc a)) (2 ^ suc a)))
   where
     back : (l a : ℕ) → a ≤ l → l - a + a ≡ l

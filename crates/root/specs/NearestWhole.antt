@@ -1,8 +1,8 @@
 -- Over whole numbers: the number that `rootOf f n` stands for is nearer to √n than any other of so many digits is, and √n is never in the middle. Assumes nothing.
 use mathlib.Core.Path.{_≡_, refl, sym, ap, _∙_, subst}
-use mathlib.Core.Logic.{_⊎_, ⊎-elim}
+use mathlib.Core.Logic.{⊎-elim}
 use Prim.Native.Nat.{ℕ, suc, _+_, _-_, _*_, _^_, _≤_, _<_, compare, Ordering, Ordering·lt, Ordering·eq, Ordering·gt}
-use native.Mathlib.Nat.{le-trans, le-of-eq, le-of-lt, lt-of-lt-of-le, lt-of-le-of-lt, lt-of-not-le, lt-irrefl, le-of-suc-le-suc, mul-assoc, mul-comm, mul-mul-mul-comm, mul-le-mul-left, mul-le-mul-right, mul-lt-mul-of-pos-right, lt-of-mul-lt-mul-right, eq-of-mul-eq-mul-right, mul-pos, div-mul-le-self, div-lt-iff-lt-mul, lt-suc-self, eq-zero-or-pos}
+use native.Mathlib.Nat.{le-trans, le-of-eq, le-of-lt, lt-of-lt-of-le, lt-of-le-of-lt, lt-of-not-le, lt-irrefl, le-of-suc-le-suc, mul-assoc, mul-comm, mul-mul-mul-comm, mul-le-mul-right, mul-lt-mul-of-pos-right, lt-of-mul-lt-mul-right, eq-of-mul-eq-mul-right, mul-pos, div-mul-le-self, div-lt-iff-lt-mul, lt-suc-self, eq-zero-or-pos}
 use native.Mathlib.Decide.{decLe}
 use native.Mathlib.Omega.{arith}
 use lib.Pow.{pow-add, pow-pos, pow-mono}
@@ -12,7 +12,7 @@ use mathlib.Core.Bool.{not}
 use lib.Dec.{T, isLe, isEq, eqb, leb→le, nleb→lt, eqb→eq, eqb-refl}
 use lib.Arith.{lt-of-le-ne}
 use Rattle.root.specs.Root.{isqrt, dropped, kept, middle, rounded}
-use Rattle.root.specs.IntegerRoot.{isqrt-is, square-mono}
+use Rattle.root.specs.IntegerRoot.{isqrt-is, square-mono, square-lt}
 
 -- what `compare` says
 abbrev Cmp : Ordering → ℕ → ℕ → Type 0
@@ -27,9 +27,6 @@ cmp a b = go (compare a b) (leb→le a b) (nleb→lt a b) (eqb→eq a b) (λ (e 
     go Ordering·lt h k e n = lt-of-le-ne (h tt) n
     go Ordering·eq h k e n = e tt
     go Ordering·gt h k e n = k tt
-
-square-lt : (a b : ℕ) → a < b → a * a < b * b
-square-lt a b h = lt-of-lt-of-le (lt-of-le-of-lt (mul-le-mul-left a (le-of-lt h)) (mul-lt-mul-of-pos-right h (omega arith))) (le-of-eq refl)
 
 -- ---- between r * u and (r + 1) * u, for a unit u = 2 ^ k and an r with all p digits, there is no c * 2 ^ j with p digits
 gap : (p k r c j : ℕ) → 0 < p → (0 < k → 2 ^ (p - 1) ≤ r) → c < 2 ^ p → r * 2 ^ k < c * 2 ^ j → suc r * 2 ^ k ≤ c * 2 ^ j
@@ -119,9 +116,6 @@ module _ (f : Format) (P : 2 ≤ prec f) (z i : ℕ) (Z : z < 2 ^ prec f) (I : 0
   module _ (c j : ℕ) (C : c < 2 ^ prec f) where
     abbrev Y : ℕ
     Y = c * 2 ^ j
-
-    abbrev R : ℕ
-    R = rounded f n * u
 
     up-gap : r * u < Y → suc r * u ≤ Y
     up-gap = gap (prec f) k r c j (omega arith) full C

@@ -1,20 +1,16 @@
 -- The root of a whole number's square is that number, where the format holds it. Assumes nothing.
 use mathlib.Core.Path.{_≡_, refl, sym, ap, _∙_, subst}
 use Prim.Native.Nat.{ℕ, suc, _+_, _-_, _*_, _/_, _^_, _≤_, _<_}
-use native.Mathlib.Nat.{le-antisymm, le-of-suc-le-suc, le-of-eq, lt-of-le-of-lt, mul-assoc, mul-left-comm, mul-right-comm, mul-mul-mul-comm, mul-one, one-mul, add-mul, mul-pos, mul-div-cancel, mul-lt-mul-of-pos-right, mul-le-mul-left, eq-of-mul-eq-mul-right}
+use native.Mathlib.Nat.{le-antisymm, le-of-suc-le-suc, le-of-eq, mul-assoc, mul-left-comm, one-mul, add-mul, mul-div-cancel}
 use native.Mathlib.Omega.{arith}
 use mathlib.Core.Bool.{false}
 use lib.Pow.{pow-add, pow-pos, shl-lt}
-use lib.Ieee.{Float, nan, inf, fin, Format, binary64, prec, emax, low, up, down, size, units}
+use lib.Ieee.{Format, prec, emax, low, size, units}
 use lib.Ieee.Digits.{size-le, back}
 use lib.Ieee.Exact.{HasValue, units-val}
-use Rattle.root.specs.Root.{isqrt, rootOf, root}
-use Rattle.root.specs.IntegerRoot.{isqrt-ge, isqrt-lt}
+use Rattle.root.specs.Root.{isqrt, rootOf}
+use Rattle.root.specs.IntegerRoot.{square-lt, isqrt-ge, isqrt-lt}
 use Rattle.root.specs.Compare.{compare-lt}
-use Rattle.root.specs.ByValue.{root-value}
-
-square-lt : (a b : ℕ) → a < b → a * a < b * b
-square-lt a b h = lt-of-le-of-lt (mul-le-mul-left a (omega arith)) (mul-lt-mul-of-pos-right h (omega arith))
 
 isqrt-square : (w : ℕ) → isqrt (w * w) ≡ w
 isqrt-square w = le-antisymm (le-of-suc-le-suc (isqrt-lt (w * w) (suc w) (square-lt w (suc w) (omega arith)))) (isqrt-ge (w * w) w (le-of-eq refl))
@@ -51,24 +47,3 @@ module _ (f : Format) (w q j : ℕ) (small : q < 2 ^ prec f) (is : q * 2 ^ j ≡
       rw (isqrt-square w, compare-lt (4 * (w * w)) ((2 * (w / 2 ^ dropped) + 1) * 2 ^ dropped * ((2 * (w / 2 ^ dropped) + 1) * 2 ^ dropped)) below-half)
       (subst (λ (x : ℕ). HasValue (units f false (w / 2 ^ dropped) dropped) false x (2 ^ low f)) exactly
       (units-val f false (w / 2 ^ dropped) dropped (subst (λ (x : ℕ). x < 2 ^ (low f + suc (emax f))) (sym exactly) h)))
-
--- of binary64: x is a * a, and a a number of at most 53 digits with j zeros behind them
-pub root-square : (x : Float) (a q j : ℕ) → HasValue x false (a * a) 1 → 0 < a → q < 2 ^ 53 → q * 2 ^ j ≡ a → a < 2 ^ 1024 → HasValue (root binary64 x) false a 1
-root-square x a q j v p small is fine =
-    let w = a * 2 ^ 1074 in
-    let e : a * a * 2 ^ 1074 * 2 ^ 1074 ≡ w * w = sym (mul-mul-mul-comm a (2 ^ 1074) a (2 ^ 1074) ∙ sym (mul-assoc (a * a) (2 ^ 1074) (2 ^ 1074))) in
-    let d : q * 2 ^ (j + 1074) ≡ w = ap (λ (x : ℕ). q * x) (pow-add 2 j 1074) ∙ sym (mul-assoc q (2 ^ j) (2 ^ 1074)) ∙ ap (λ (x : ℕ). x * 2 ^ 1074) is in
-    subst (λ (y : Float). HasValue y false a 1) (sym (root-value binary64 x (a * a * 2 ^ 1074) (finer x v) (mul-pos (mul-pos p p) (pow-pos 1074)) ∙ ap (rootOf binary64) e))
-    (coarser (rootOf binary64 (w * w)) (rootOf-square binary64 w q (j + 1074) small d (mul-lt-mul-of-pos-right fine (pow-pos 1074))))
-  where
-    finer : (y : Float) → HasValue y false (a * a) 1 → HasValue y false (a * a * 2 ^ 1074) (2 ^ 1074)
-    finer nan h = h
-    finer (inf s) h = h
-    finer (fin s m e) h =
-        (h .0, ap (λ (x : ℕ). x * 2 ^ 1074) (sym (mul-one (m * up e)) ∙ h .1) ∙ mul-right-comm (a * a) (down e) (2 ^ 1074))
-
-    coarser : (y : Float) → HasValue y false (a * 2 ^ 1074) (2 ^ 1074) → HasValue y false a 1
-    coarser nan h = h
-    coarser (inf s) h = h
-    coarser (fin s m e) h =
-        (h .0, mul-one (m * up e) ∙ eq-of-mul-eq-mul-right (2 ^ 1074) (pow-pos 1074) (m * up e) (a * down e) (h .1 ∙ mul-right-comm a (2 ^ 1074) (down e)))

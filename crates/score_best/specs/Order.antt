@@ -13,7 +13,7 @@ use Rattle.common.specs.Tests.{case}
 use Rattle.float.specs.Order.{lt-asym, lt-cotrans}
 use Rattle.score_best.specs.declared.Candidate.{Candidate}
 use Rattle.score_best.specs.declared.Best.{Best}
-use Rattle.score_best.specs.Best.{isNumber, beats, nothing, chosen, unbeaten, firstUnbeaten, bestOf, noBest, found, held, isBetter, improved}
+use Rattle.score_best.specs.Best.{isNumber, beats, nothing, chosen, unbeaten, firstUnbeaten, bestOf, noBest, held, isBetter, improved}
 
 -- the score is a number, or it is NaN
 abbrev pub Sound : Candidate → Type 0

@@ -9,7 +9,7 @@ use Rattle.common.specs.Each.{All}
 use Rattle.common.specs.Tests.{case}
 use Rattle.score_best.specs.declared.Candidate.{Candidate}
 use Rattle.score_best.specs.declared.Best.{Best}
-use Rattle.score_best.specs.Best.{beats, Chosen, nothing, chosen, firstUnbeaten, bestOf, noBest, found, held, isBetter}
+use Rattle.score_best.specs.Best.{beats, Chosen, nothing, chosen, firstUnbeaten, bestOf, noBest, held, isBetter}
 use Rattle.score_best.specs.Order.{Sound, Lost, nan-never-beats, number-beats-nan, asym, cotrans, Leads, best-leads, best-none, led, lead-first}
 use Rattle.score_best.specs.Winners.{winnerOfTwo, winnerOfBests, present, winnerOf, joined}
 
@@ -192,10 +192,3 @@ pub joined-twice : {A : Type 0} (gs : List (List (List A))) → joined (map join
 unfolding flatMap
 joined-twice {A = A} [] = refl
 joined-twice {A = A} (g ∷ gs) = ap (λ (z : List A). joined g ++ z) (joined-twice gs) ∙ sym (joined-append g (joined gs))
-
-each-group : (gs : List (List (List Candidate))) → map (λ ss. winnerOf (map bestOf ss)) gs ≡ map bestOf (map joined gs)
-each-group [] = refl
-each-group (g ∷ gs) = rw (cut-anywhere g) (ap (λ (z : List Chosen). bestOf (joined g) ∷ z) (each-group gs))
-
-pub group-anyhow : (gs : List (List (List Candidate))) → winnerOf (map (λ ss. winnerOf (map bestOf ss)) gs) ≡ bestOf (joined (joined gs))
-group-anyhow gs = ap winnerOf (each-group gs) ∙ cut-anywhere (map joined gs) ∙ ap bestOf (joined-twice gs)

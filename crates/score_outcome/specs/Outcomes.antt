@@ -21,7 +21,7 @@ use Rattle.score_outcome.specs.declared.Outcome.the-variants.{Skipped, S
 pub never : (n : ℕ) (g : Scoring) → Skipped n ≡ Scored g → ⊥
 never n g h = let z : _≡_ {A = ℕ} 0 1 = cc in omega arith
 
-scored-same : (g k : Scoring) → Scored g ≡ Scored k → g ≡ k
+pub scored-same : (g k : Scoring) → Scored g ≡ Scored k → g ≡ k
 scored-same g k h = cc
 
 module _ (share : ℕ) (s : SolvedCamera) (sensor : ScheimpflugParams) (center : Pt2) (rows : List Float) (flags : List ℕ) where

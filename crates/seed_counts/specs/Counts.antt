@@ -1,6 +1,6 @@
 -- How long a later round's list is, for any two lists of offsets: the admissible x tilts times the admissible y tilts, where no two of either are near. Assumes nothing.
 use mathlib.Core.Path.{_≡_, refl, ap, _∙_}
-use mathlib.Core.Bool.{Bool, true, false, _&&_, cond}
+use mathlib.Core.Bool.{false, _&&_, and-false, cond}
 use mathlib.Core.List.{List, [], _∷_, _++_, map}
 use lib.ListN.{length, length-map}
 use lib.Ieee.{Float}
@@ -21,10 +21,6 @@ abbrev pub TiltsApart : List Float → Type 0
 TiltsApart ts = Apart (closer tiltLimit) ts
 
 -- ---- those of all pairs that lie within the bound are the pairs of those that do
-and-false : (b : Bool) → (b && false) ≡ false
-and-false true = refl
-and-false false = refl
-
 row-within : (max x : Float) (ys : List Float) → keep (inBound max) (map (tilts x) ys) ≡ cond (within max x) (map (tilts x) (keep (within max) ys)) []
 unfolding keep inBound
 row-within max x [] = case (within max x) (λ e. rw e) (λ e. rw e)

@@ -2,7 +2,7 @@
 use Prim.Native.Nat.{ℕ, zero, suc, _+_, _*_}
 use native.Mathlib.Omega.{arith}
 use mathlib.Core.Path.{_≡_, refl, sym, ap}
-use mathlib.Core.Bool.{Bool, true, false, not, _&&_, _||_}
+use mathlib.Core.Bool.{Bool, true, false, not, _&&_, _||_, and-true, and-false, or-true}
 use borrow.Author.Tests.{lt-ltb, eqb-true, eqb-false, eq-eqb, ne-eqb}
 use lib.Dec.{ltb, eqb}
 use lib.Ieee.{Float, nan, inf, fin, up, down, below, level, lt, le, eq, neg}
@@ -12,18 +12,6 @@ use Rattle.seed_rules.specs.Rules.{within}
 
 eqb-sym : (a b : ℕ) → eqb a b ≡ eqb b a
 eqb-sym a b = case (eqb a b) (λ e. rw (e, eq-eqb b a (sym (eqb-true a b e)))) (λ e. rw (e, ne-eqb b a (λ q. eqb-false a b e (sym q))))
-
-and-true : (x : Bool) → (x && true) ≡ x
-and-true true = refl
-and-true false = refl
-
-or-true : (x : Bool) → (x || true) ≡ true
-or-true true = refl
-or-true false = refl
-
-and-false : (x : Bool) → (x && false) ≡ false
-and-false true = refl
-and-false false = refl
 
 -- what has a minus sign is at most what has none
 opposite : (a b : ℕ) → (ltb 0 (a + b) || (eqb a b && eqb a 0)) ≡ true

@@ -11,7 +11,7 @@ use lib.Ieee.Fits.{round-fits, div-fits}
 use lib.Ieee.Positive.{num, den, value→cross, positive-of-value}
 use Rattle.float.specs.Whole.{Is, Num, Few, held, has-value, round-is, neg-is, num-zero, num-mul, num-div, num-add, num-sub, num-less, is-equal, is-positive, div-at-least, one-least, abs-is}
 use Rattle.float.specs.Float.{absOf}
-use Rattle.float.specs.Sign.{abs-neg}
+use Rattle.float.specs.Sign.{abs-neg, unlike-false, unlike-itself}
 use Rattle.float.specs.Order.{lt-le-trans, le-not-lt}
 use Rattle.float.specs.Binary64.{_+₆₄_, _-₆₄_, _*₆₄_, _/₆₄_}
 use Rattle.root.specs.Root.{root}
@@ -52,14 +52,6 @@ zero-over x y s t b j v w p k =
 unlike-first : (t : Bool) → unlike false t ≡ t
 unlike-first true = refl
 unlike-first false = refl
-
-pub unlike-second : (t : Bool) → unlike t false ≡ t
-unlike-second true = refl
-unlike-second false = refl
-
-pub unlike-itself : (t : Bool) → unlike t t ≡ false
-unlike-itself true = refl
-unlike-itself false = refl
 
 -- a sign that is taken twice is gone
 unlike-twice : (s t : Bool) → unlike s (unlike s t) ≡ t
@@ -149,7 +141,7 @@ module _ (p q x y k : ℕ) (sx sy s : Bool) (b : Conic) (c : Conic-of p q x y k 
   unfolding D
   v0-is =
       let w = q * q * (y * (p * p)) in
-      signed (v0 b) (unlike sy false) sy y k (unlike-second sy)
+      signed (v0 b) (unlike sy false) sy y k (unlike-false sy)
       (num-div (b .b12 *₆₄ b .b13 -₆₄ b .b11 *₆₄ b .b23) (denom b) sy false w D k 0 y k cross-is denom-is D-pos (simp (mul-assoc, mul-left-comm, mul-comm)) (sym (add-zero k)) (omega arith) (omega arith))
 
   -- (b13² + v0 (b12 b13 - b11 b23)) / b11
@@ -214,9 +206,9 @@ module _ (p q x y k : ℕ) (sx sy s : Bool) (b : Conic) (c : Conic-of p q x y k 
       let l2 : n1 * p ≤ 256 * 65536 * 256 * 256 = mul-le-mul l1 p-le in
       let o = zero-over (gamma b *₆₄ v0 b) (beta b) true false q k (zero-times (gamma b) (v0 b) true sy y k gamma-is v0-is (omega arith)) beta-is q-pos (omega arith) in
       let t = unlike s (not sx) in
-      let h1 = signed (b .b13 *₆₄ alpha b) (unlike t false) t n1 (k + k) (unlike-second t)
+      let h1 = signed (b .b13 *₆₄ alpha b) (unlike t false) t n1 (k + k) (unlike-false t)
       (num-mul (b .b13) (alpha b) t false (x * (q * q)) p k k n1 (k + k) (c .b13) alpha-is refl refl (omega arith) (omega arith)) in
-      let h2 = signed (b .b13 *₆₄ alpha b *₆₄ alpha b) (unlike t false) t (n1 * p) (k + k + k) (unlike-second t)
+      let h2 = signed (b .b13 *₆₄ alpha b *₆₄ alpha b) (unlike t false) t (n1 * p) (k + k + k) (unlike-false t)
       (num-mul (b .b13 *₆₄ alpha b) (alpha b) t false n1 p (k + k) k (n1 * p) (k + k + k) h1 alpha-is refl refl (omega arith) (omega arith)) in
       let h3 = signed (b .b13 *₆₄ alpha b *₆₄ alpha b /₆₄ lambda b) (unlike t s) (not sx) x k (unlike-back s (not sx))
       (num-div (b .b13 *₆₄ alpha b *₆₄ alpha b) (lambda b) t s (n1 * p) (p * p * (q * q)) (k + k + k) (k + k) x k h2 lambda-is (mul-pos (mul-pos p-pos p-pos) (mul-pos q-pos q-pos))

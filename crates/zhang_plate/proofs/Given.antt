@@ -10,9 +10,10 @@ use lib.IntN.{pos}
 use lib.Ieee.{Float, binary64, unlike, ofBits, ofInt, neg}
 use Rattle.float.specs.Binary64.{_+₆₄_, _*₆₄_, _/₆₄_}
 use Rattle.float.specs.Literals.{plusZero}
+use Rattle.float.specs.Sign.{unlike-false, unlike-itself}
 use Rattle.float.specs.Whole.{Num, held, round-is, neg-is, num-mul, num-div, num-add}
 use Rattle.camera_models.specs.declared.intrinsics.FxFyCxCy.{FxFyCxCy}
-use Rattle.zhang.specs.Exact.{unlike-second, unlike-itself, signed, Conic-of, Recovered, recovered}
+use Rattle.zhang.specs.Exact.{signed, Conic-of, Recovered, recovered}
 use Rattle.zhang.specs.Zhang.{fromHomographies}
 use Rattle.zhang_plate.specs.declared.Plate.the-variants.{Numbers, Refused}
 use Rattle.zhang_plate.specs.Plate.{unitFrom, conicWith, plateOf}
@@ -57,7 +58,7 @@ module _ (k : ℕ) (f : FxFyCxCy) (few : k ≤ 8) (a : Units k f) where
       let l : n * (m * m) ≤ 256 * (256 * 256) = mul-le-mul h (mul-le-mul g g) in
       signed (neg (x *₆₄ y)) (not s) (unlike false (not s)) (n * (m * m)) k (unlike-first (not s))
       (neg-is (x *₆₄ y) s (n * (m * m) * 2 ^ k)
-      (signed (x *₆₄ y) (unlike s false) s (n * (m * m)) k (unlike-second s) (num-mul x y s false n (m * m) k 0 (n * (m * m)) k v w refl (sym (add-zero k)) (omega arith) (omega arith))))
+      (signed (x *₆₄ y) (unlike s false) s (n * (m * m)) k (unlike-false s) (num-mul x y s false n (m * m) k 0 (n * (m * m)) k v w refl (sym (add-zero k)) (omega arith) (omega arith))))
 
   zero-is : Num plusZero false 0 0
   unfolding ofBits

@@ -3,6 +3,8 @@
 //! book are given.
 
 pub mod blocks;
+pub mod forged;
 pub mod journal;
+pub mod leaves;
 pub mod library;
 pub mod plain;

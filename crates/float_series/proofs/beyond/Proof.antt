@@ -1,16 +1,12 @@
 -- `float_series::beyond` meets its contract: beyond 0.5 in size is below -0.5 or above 0.5, and only NaN differs from itself. Assumes nothing.
 use mathlib.Core.Path.{_≡_, refl}
-use mathlib.Core.Bool.{Bool, true, false, _||_}
+use mathlib.Core.Bool.{true, false, _||_, or-false}
 use lib.Ieee.{Float, nan, inf, fin, ofBits, lt, neg, isNan}
 use Rattle.float.specs.Float.{absOf}
 use Rattle.float.specs.Order.{ne-self}
 use Rattle.float_series.specs.Answer.{half, beyondHalf}
 use Rattle.float_series.proofs.beyond.Statement.{statement}
 use Rattle.float_series.proofs.beyond.Tie as tie
-
-or-false : (b : Bool) → (b || false) ≡ b
-or-false true = refl
-or-false false = refl
 
 outside : (x : Float) → ((isNan x || lt x (neg half)) || lt half x) ≡ beyondHalf x
 unfolding beyondHalf isNan lt absOf neg ofBits

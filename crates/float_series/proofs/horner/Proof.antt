@@ -6,9 +6,6 @@ use borrow.Author.Needs.{needs}
 use Rattle.float_series.specs.Series.{hornerOf}
 use Rattle.float_series.proofs.horner.Statement.{statement}
 use Rattle.float_series.proofs.horner.Tie as tie
-use Rattle.float_series.proofs.horner.Reads as reads
-use Rattle.float_series.proofs.horner.Lts as lts
-use Rattle.float_series.proofs.coefficient.Reads as coefficient-reads
 
 abbrev Inv-loop : tie.InvT-loop
 Inv-loop first q n₀ sum₀ n sum = (n ≤ first + 14) × ((first + 14 - n) % 2 ≡ 0) × (sum ≡ hornerOf q ((first + 14 - n) / 2) n)

@@ -1,7 +1,8 @@
 //! Times the library beside the published Rust (the oracle's build of it) and, for scoring, beside plain C (`plain.c`): same inputs,
 //! same process, release builds. Prints a table of medians of many short turns, which the sides take in turn. No buffer is cleared
 //! between two turns; all sides run on warm memory, and none copies rows. Linux only, for its clock of a thread's time.
-//! An argument asks for one part: roots, sines, distortions, scorings, lists, journal or runs.
+//! An argument asks for one part: roots, sines, distortions, scorings, lists, journal or runs; or for growth, which stands by itself:
+//! the library's times by the size of their work.
 
 use compare::journal as plain_journal;
 use compare::plain::plain_c;
@@ -24,6 +25,9 @@ use vision_calibration_linear::scheimpflug_init::access as published;
 use vision_calibration_linear::script::{
     Finding, Row, SeedNumbers, dataset_of_rows, identity_poses, pinhole_camera, play,
 };
+
+#[path = "bench/growth.rs"]
+mod growth;
 
 /// Nanoseconds of one turn: enough that reading the clock doesn't count, and few enough that a disturbance spoils few turns.
 const TURN: f64 = 3e5;
@@ -120,11 +124,14 @@ fn report(name: &str, [library, rust]: [f64; 2], c: Option<f64>) {
 }
 
 fn main() {
+    if std::env::args().nth(1).as_deref() == Some("growth") {
+        return growth::all(&mut Random::named("growth"));
+    }
     println!("| what | library | Rust | ratio | C | ratio |\n|---|---|---|---|---|---|");
     let asked = std::env::args().nth(1);
     let goes = |part: &str| asked.as_deref().is_none_or(|asked| asked == part);
     let mut random = Random::named("bench");
-    let rows = rows(&mut random);
+    let rows = row_list(ROWS, &mut random);
     if goes("roots") {
         roots(&mut random);
     }
@@ -251,13 +258,13 @@ fn distortions(random: &mut Random) {
 
 const CAMERA: [f64; 9] = [800.0, 790.0, 320.5, 239.25, 0.0, 0.0, 0.0, 0.01, -0.02];
 
-fn rows(random: &mut Random) -> Vec<Row> {
+fn row_list(count: usize, random: &mut Random) -> Vec<Row> {
     let row = |_| {
         let ideal = [random.within(0.4), random.within(0.3)];
         let seen = [800.0 * ideal[0] + 320.5 + random.within(1.0), 790.0 * ideal[1] + 239.25];
         Row { ideal, seen, in_front: true }
     };
-    (0..ROWS).map(row).collect()
+    (0..count).map(row).collect()
 }
 
 /// The same rows as the library takes them.

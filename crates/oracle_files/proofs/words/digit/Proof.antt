@@ -5,9 +5,6 @@ use Rattle.oracle_files.specs.Words.{digitOf}
 use borrow.Author.Needs.{needs}
 use Rattle.oracle_files.proofs.words.digit.Statement.{statement}
 use Rattle.oracle_files.proofs.words.digit.Tie as tie
-use Rattle.oracle_files.proofs.words.digit.Reads as reads
-use Rattle.oracle_files.proofs.words.digit.Lts as lts
-use Rattle.oracle_files.proofs.words.wide.Reads as wide-reads
 
 -- src/words.rt:23:9
 returns : tie.Need-returns

@@ -9,9 +9,6 @@ use lib.ListN.{drop}
 use Rattle.oracle_files.specs.Words.{digitsOf, wordOf}
 use Rattle.oracle_files.proofs.words.read_word.Statement.{statement}
 use Rattle.oracle_files.proofs.words.read_word.Tie as tie
-use Rattle.oracle_files.proofs.words.read_word.Reads as reads
-use Rattle.oracle_files.proofs.words.read_word.Lts as lts
-use Rattle.oracle_files.proofs.words.digit.Reads as digit-reads
 
 abbrev Inv-loop : tie.InvT-loop
 Inv-loop text value₀ i₀ value i = (i ≤ 16) × (value < 16 ^ i) × (digitsOf value (16 - i) (drop i text) ≡ wordOf text)

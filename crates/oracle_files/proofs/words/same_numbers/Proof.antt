@@ -9,9 +9,6 @@ use lib.ListN.{length, drop}
 use Rattle.oracle_files.specs.Words.{allAlike}
 use Rattle.oracle_files.proofs.words.same_numbers.Statement.{statement}
 use Rattle.oracle_files.proofs.words.same_numbers.Tie as tie
-use Rattle.oracle_files.proofs.words.same_numbers.Reads as reads
-use Rattle.oracle_files.proofs.words.same_numbers.Lts as lts
-use Rattle.oracle_files.proofs.words.is_same.Reads as is-same-reads
 
 abbrev Inv-loop : tie.InvT-loop
 Inv-loop a b i₀ i = (length a ≡ length b) × (i ≤ length a) × (allAlike (drop i a) (drop i b) ≡ allAlike a b)

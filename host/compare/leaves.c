@@ -1,0 +1,275 @@
+/* 01's leaf operations in plain C, written from its text, with the machine's root: what the soak sets the library beside. Points are x then y, matrices nine
+ * numbers row by row. Compiled by build.rs with gcc -O3. */
+#include <math.h>
+#include <stddef.h>
+#include <stdint.h>
+#include <string.h>
+
+typedef struct { double x, y; } point;
+
+/* The correctly rounded root. */
+double leaf_root(double x) { return sqrt(x); }
+
+/* Eight terms from the last coefficient on; 27 beyond 0.5. */
+int leaf_series(int first, double x, double *to) {
+    if (isnan(x) || fabs(x) > 0.5) return 27;
+    double table[16], factorial = 1.0;
+    for (int n = 0; n < 16; n++) {
+        if (n > 1) factorial *= n;
+        table[n] = n % 4 < 2 ? 1.0 / factorial : -1.0 / factorial;
+    }
+    double sum = table[first + 14];
+    for (int n = first + 12; n >= first; n -= 2) sum = sum * (x * x) + table[n];
+    *to = first == 1 ? sum * x : sum;
+    return 0;
+}
+
+point leaf_pixel_to_sensor(const double *k, point p) { return (point){(p.x - k[2]) / k[0], (p.y - k[3]) / k[1]}; }
+
+point leaf_sensor_to_pixel(const double *k, point p) { return (point){k[0] * p.x + k[2], k[1] * p.y + k[3]}; }
+
+static void product(const double *a, const double *b, double *to) {
+    for (int i = 0; i < 3; i++)
+        for (int j = 0; j < 3; j++) to[3 * i + j] = a[3 * i] * b[j] + a[3 * i + 1] * b[3 + j] + a[3 * i + 2] * b[6 + j];
+}
+
+/* P times R, R being the rotation about y times that about x. */
+void leaf_tilt_matrix(const double *t, double *to) {
+    double rot_x[9] = {1, 0, 0, 0, t[1], t[0], 0, -t[0], t[1]}, rot_y[9] = {t[3], 0, -t[2], 0, 1, 0, t[2], 0, t[3]}, r[9];
+    product(rot_y, rot_x, r);
+    double p[9] = {r[8], 0, -r[2], 0, r[8], -r[5], 0, 0, 1};
+    product(p, r, to);
+}
+
+/* The main diagonal's product minus the other one, without row i and column j. */
+static double minor(const double *m, int i, int j) {
+    int a = i == 0, b = i == 2 ? 1 : 2, c = j == 0, d = j == 2 ? 1 : 2;
+    return m[3 * a + c] * m[3 * b + d] - m[3 * a + d] * m[3 * b + c];
+}
+
+double leaf_determinant(const double *m) { return m[0] * minor(m, 0, 0) - m[1] * minor(m, 0, 1) + m[2] * minor(m, 0, 2); }
+
+/* The transposed cofactors by the determinant; 15 where it is 0. */
+int leaf_inverse(const double *m, double *to) {
+    double determinant = leaf_determinant(m);
+    if (determinant == 0.0) return 15;
+    for (int i = 0; i < 3; i++)
+        for (int j = 0; j < 3; j++) {
+            double entry = minor(m, j, i);
+            to[3 * i + j] = ((i + j) % 2 ? -entry : entry) / determinant;
+        }
+    return 0;
+}
+
+static point divided(const double *m, point p, int forward) {
+    double x = m[0] * p.x + m[1] * p.y + m[2] * 1.0, y = m[3] * p.x + m[4] * p.y + m[5] * 1.0, z = m[6] * p.x + m[7] * p.y + m[8] * 1.0;
+    double size = forward ? z : fabs(z);
+    double by = size > 1e-12 ? z : 1e-12;
+    return (point){x / by, y / by};
+}
+
+point leaf_apply_homography(const double *m, point p) { return divided(m, p, 1); }
+
+point leaf_apply_homography_inverse(const double *m, point p) { return divided(m, p, 0); }
+
+point leaf_distort(const double *d, point p) {
+    double x = p.x, y = p.y, k1 = d[0], k2 = d[1], k3 = d[2], p1 = d[3], p2 = d[4];
+    double r2 = x * x + y * y, r4 = r2 * r2, r6 = r4 * r2;
+    double radial = 1 + k1 * r2 + k2 * r4 + k3 * r6;
+    return (point){x * radial + (2 * p1 * x * y + p2 * (r2 + 2 * x * x)), y * radial + (p1 * (r2 + 2 * y * y) + 2 * p2 * x * y)};
+}
+
+/* xx, xy, yx, yy. */
+void leaf_jacobian(const double *d, point p, double *to) {
+    double x = p.x, y = p.y, k1 = d[0], k2 = d[1], k3 = d[2], p1 = d[3], p2 = d[4];
+    double r2 = x * x + y * y, r4 = r2 * r2;
+    double radial = 1 + k1 * r2 + k2 * r4 + k3 * r4 * r2, by_r2 = k1 + 2 * k2 * r2 + 3 * k3 * r4;
+    to[0] = radial + 2 * x * x * by_r2 + 2 * p1 * y + 6 * p2 * x;
+    to[1] = to[2] = 2 * x * y * by_r2 + 2 * p1 * x + 2 * p2 * y;
+    to[3] = radial + 2 * y * y * by_r2 + 6 * p1 * y + 2 * p2 * x;
+}
+
+/* A point, how far its distortion is from the target, and the derivatives there. */
+typedef struct { point at, error; double j[4], residual; } estimate;
+
+static estimate at(const double *d, point target, point p) {
+    estimate e = {.at = p};
+    point image = leaf_distort(d, p);
+    e.error = (point){image.x - target.x, image.y - target.y};
+    e.residual = e.error.x * e.error.x + e.error.y * e.error.y;
+    leaf_jacobian(d, p, e.j);
+    return e;
+}
+
+/* Newton's step, unless the determinant is 0 or not finite. */
+static int step_of(const estimate *e, point *to) {
+    double determinant = e->j[0] * e->j[3] - e->j[1] * e->j[2];
+    if (determinant == 0.0 || !isfinite(determinant)) return 0;
+    *to = (point){(e->j[3] * e->error.x - e->j[1] * e->error.y) / determinant, (e->j[0] * e->error.y - e->j[2] * e->error.x) / determinant};
+    return 1;
+}
+
+point leaf_undistort(const double *d, uint32_t iters, point target) {
+    estimate e = at(d, target, target);
+    point step;
+    for (uint32_t turn = 0; turn < (iters == 0 ? 20 : iters); turn++) {
+        if (e.residual == 0.0 || !step_of(&e, &step)) break;
+        int accepted = 0;
+        for (int trial = 0; trial < 30 && !accepted; trial++) {
+            estimate next = at(d, target, (point){e.at.x - step.x, e.at.y - step.y});
+            accepted = isfinite(next.residual) && next.residual < e.residual;
+            if (accepted) e = next;
+            else step = (point){step.x * 0.5, step.y * 0.5};
+        }
+        if (!accepted || step.x * step.x + step.y * step.y <= 0x1p-100 * (1 + e.at.x * e.at.x + e.at.y * e.at.y)) break;
+    }
+    return step_of(&e, &step) ? (point){e.at.x - step.x, e.at.y - step.y} : e.at;
+}
+
+/* Each pixel back through the tilt and, where d isn't null, the lens; 17, 15. */
+int leaf_map_points(const double *k, const double *d, uint32_t iters, const double *trig, const point *points, size_t count, point *to) {
+    double tilt[9], inverse[9];
+    if (count > 400) return 17;
+    leaf_tilt_matrix(trig, tilt);
+    if (leaf_inverse(tilt, inverse)) return 15;
+    for (size_t i = 0; i < count; i++) {
+        point p = leaf_apply_homography_inverse(inverse, leaf_pixel_to_sensor(k, points[i]));
+        to[i] = leaf_sensor_to_pixel(k, d ? leaf_undistort(d, iters, p) : p);
+    }
+    return 0;
+}
+
+static double distance(point p, point q) {
+    double dx = p.x - q.x, dy = p.y - q.y;
+    return sqrt(dx * dx + dy * dy);
+}
+
+/* The moved points, and the scale and the two offsets; 17, 19. */
+int leaf_normalize(const point *points, size_t count, point *to, double *three) {
+    if (count > 400) return 17;
+    if (count == 0) return 19;
+    point c = {0, 0};
+    for (size_t i = 0; i < count; i++) c = (point){c.x + points[i].x, c.y + points[i].y};
+    c = (point){c.x / (double)count, c.y / (double)count};
+    double sum = 0;
+    for (size_t i = 0; i < count; i++) sum += distance(points[i], c);
+    double mean = sum / (double)count;
+    if (mean <= 0x1p-52) return 19;
+    double scale = sqrt(2.0) / mean;
+    for (size_t i = 0; i < count; i++) to[i] = (point){(points[i].x - c.x) * scale, (points[i].y - c.y) * scale};
+    three[0] = scale;
+    three[1] = -scale * c.x;
+    three[2] = -scale * c.y;
+    return 0;
+}
+
+int leaf_collinear(const point *points, size_t count) {
+    if (count < 3) return 0;
+    point p0 = points[0], p1;
+    size_t i = 1;
+    while (i < count && !(distance(points[i], p0) > 1e-9)) i++;
+    if (i == count) return 1;
+    p1 = points[i];
+    for (i = 0; i < count; i++) {
+        point p = points[i];
+        double cross = (p1.x - p0.x) * (p.y - p0.y) - (p1.y - p0.y) * (p.x - p0.x);
+        if (!(distance(p, p0) <= 1e-9) && fabs(cross) > 1e-6) return 0;
+    }
+    return 1;
+}
+
+static int all_finite(const point *points, size_t count) {
+    for (size_t i = 0; i < count; i++)
+        if (!isfinite(points[i].x) || !isfinite(points[i].y)) return 0;
+    return 1;
+}
+
+/* Eighteen numbers a point; 17, 20 to 25. */
+int leaf_design_rows(const point *from, size_t count, const point *onto, size_t others, double *to) {
+    point a[400], b[400];
+    double unused[3];
+    if (count > 400 || others > 400) return 17;
+    if (!all_finite(from, count)) return 20;
+    if (!all_finite(onto, others)) return 21;
+    if (count < 4) return 22;
+    if (count != others) return 23;
+    if (leaf_collinear(from, count)) return 24;
+    if (leaf_collinear(onto, others)) return 25;
+    /* 02, E7: these can't fail. */
+    if (leaf_normalize(from, count, a, unused) || leaf_normalize(onto, others, b, unused)) return 26;
+    for (size_t i = 0; i < count; i++) {
+        double x = a[i].x, y = a[i].y, u = b[i].x, v = b[i].y;
+        double rows[18] = {-x, -y, -1, 0, 0, 0, u * x, u * y, u, 0, 0, 0, -x, -y, -1, v * x, v * y, v};
+        memcpy(to + 18 * i, rows, sizeof rows);
+    }
+    return 0;
+}
+
+/* b11, b12, b22, b13, b23, b33 to fx, fy, cx, cy; 16. */
+int leaf_conic_to_camera(const double *b, double *to) {
+    double b11 = b[0], b12 = b[1], b22 = b[2], b13 = b[3], b23 = b[4], b33 = b[5];
+    double denom = b11 * b22 - b12 * b12, norm = b11 * b11 + b22 * b22;
+    if (!(norm > 0 && denom / norm > 1e-6)) return 16;
+    if (fabs(b11) <= 1e-12) return 16;
+    double v0 = (b12 * b13 - b11 * b23) / denom;
+    double lambda = b33 - (b13 * b13 + v0 * (b12 * b13 - b11 * b23)) / b11;
+    if (!(lambda / b11 > 0)) return 16;
+    double alpha = sqrt(lambda / b11), beta = sqrt(lambda * b11 / denom);
+    double gamma = -b12 * alpha * alpha * beta / lambda;
+    to[0] = alpha;
+    to[1] = beta;
+    to[2] = gamma * v0 / beta - b13 * alpha * alpha / lambda;
+    to[3] = v0;
+    return 0;
+}
+
+point leaf_centre(const point *points, size_t count) {
+    double least[2] = {INFINITY, INFINITY}, most[2] = {-INFINITY, -INFINITY};
+    int any = 0;
+    for (size_t i = 0; i < count; i++) {
+        double c[2] = {points[i].x, points[i].y};
+        if (!isfinite(c[0]) || !isfinite(c[1])) continue;
+        any = 1;
+        for (int j = 0; j < 2; j++) {
+            if (c[j] < least[j]) least[j] = c[j];
+            if (c[j] > most[j]) most[j] = c[j];
+        }
+    }
+    if (!any) return (point){0, 0};
+    if (least[0] >= 0 && least[1] >= 0) return (point){0.5 * most[0], 0.5 * most[1]};
+    return (point){0.5 * (least[0] + most[0]), 0.5 * (least[1] + most[1])};
+}
+
+static double clamped(double p) { return p < -0.05 ? -0.05 : p > 0.05 ? 0.05 : p; }
+
+void leaf_damp(const double *d, double *to) {
+    to[0] = to[1] = to[2] = 0.0;
+    to[3] = clamped(d[3]);
+    to[4] = clamped(d[4]);
+}
+
+double leaf_distortion_penalty(const double *d) {
+    double radial = d[0] * d[0] + d[1] * d[1] + 0.25 * d[2] * d[2];
+    return 0.25 * (radial + (d[3] * d[3] + d[4] * d[4]));
+}
+
+double leaf_tilt_penalty(double x, double y) { return 0.25 * (x * x + y * y); }
+
+double leaf_centre_penalty(const double *k, point centre) {
+    double dx = (k[2] - centre.x) / (k[0] > 1.0 ? k[0] : 1.0), dy = (k[3] - centre.y) / (k[1] > 1.0 ? k[1] : 1.0);
+    return 0.0 * (dx * dx + dy * dy);
+}
+
+/* Whether one power of two makes whole numbers in 02's ranges of all four. */
+int leaf_has_plate(const double *k) {
+    for (int power = 1; power <= 256; power *= 2) {
+        int met = 1;
+        for (int i = 0; i < 4; i++) {
+            int found = 0;
+            for (int n = i < 2 ? 1 : -256; n <= 256; n++) found |= k[i] == (double)n * power;
+            met &= found;
+        }
+        if (met) return 1;
+    }
+    return 0;
+}
