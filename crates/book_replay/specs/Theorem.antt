@@ -88,6 +88,7 @@ noneWaiting r = record {
   «round_best» = r .«round_best»;
   «run_best» = r .«run_best»;
   last = r .last;
+  counts = r .counts;
 }
 
 -- the reply a says how the run s, with its list n, stands: who won, that nobody did, or the seed that waits or that Next hands out
