@@ -519,8 +519,9 @@ jc_replay_flat jc_replay(size_t views, jc_options options, const double *tilt_x_
 jc_resume_flat jc_resume(size_t views, jc_options options, const double *tilt_x_seeds, size_t tilt_x_seeds_len,
                          const double *tilt_y_seeds, size_t tilt_y_seeds_len, const double *decomposition, size_t decomposition_len,
                          jc_intrinsics base, jc_pt2 center, const uint8_t *bytes, size_t bytes_len, double *list, size_t list_len);
-/* The winner of two stretches of a run, the earlier one first: the one with the lower score, of equal scores the first; where found is 0, or a score
- * is NaN, the other. However a run's answers are cut into stretches, and however these are grouped, the winner of their winners is the run's. */
+/* The winner of two stretches of a run, the earlier one first: the one with the lower score, of equal scores the first; where found is 0 the other,
+ * and a score that is NaN loses to every number. However a run's answers are cut into stretches, and however these are grouped, the winner of their
+ * winners is the run's. */
 jc_best_record jc_winner(jc_best_record first, jc_best_record second);
 
 /* ---- for tests only: each struct as it came, to see that both sides lay it out alike ---- */
