@@ -36,6 +36,7 @@ mod line;
 mod replay;
 mod report;
 mod resume;
+mod stretches;
 mod writer;
 
 pub use checksum::sha256;
@@ -44,4 +45,5 @@ pub use line::{JournalError, Line, Lines, Recorded, ScoredFields, lines, read_li
 pub use replay::{Difference, Replayed, replay, what_differs};
 pub use report::write_report;
 pub use resume::{EndedBy, ResumeReport, Resumed};
+pub use stretches::{round_winners, stretch_winner};
 pub use writer::{JournalFileError, JournalWriter, JournaledRunError, ResumedJournal};

@@ -54,6 +54,7 @@ pub mod record;
 mod search;
 mod types;
 mod version;
+mod winner;
 
 pub use error::{
     AnswerError, ConicError, CountError, LineRefusal, NextError, NormalizeError, PlateError,
@@ -69,3 +70,4 @@ pub use types::{
     BrownConrady5, FxFyCxCy, PinholeCamera, Pt2, ScheimpflugParams, Seed, TiltTrig, Winner,
 };
 pub use version::{VERSION, VersionError, check_version};
+pub use winner::winner;
