@@ -33,11 +33,17 @@
 mod checksum;
 mod inputs;
 mod line;
+mod replay;
 mod report;
+mod resume;
+mod stretches;
 mod writer;
 
 pub use checksum::sha256;
 pub use inputs::{InputsError, StoredInputs, Views, inputs_path};
 pub use line::{JournalError, Line, Lines, Recorded, ScoredFields, lines, read_line, write_line};
+pub use replay::{Difference, Replayed, replay, what_differs};
 pub use report::write_report;
-pub use writer::{JournalFileError, JournalWriter, JournaledRunError};
+pub use resume::{EndedBy, ResumeReport, Resumed};
+pub use stretches::{round_winners, stretch_winner};
+pub use writer::{JournalFileError, JournalWriter, JournaledRunError, ResumedJournal};

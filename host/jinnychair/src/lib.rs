@@ -54,11 +54,12 @@ pub mod record;
 mod search;
 mod types;
 mod version;
+mod winner;
 
 pub use error::{
     AnswerError, ConicError, CountError, LineRefusal, NextError, NormalizeError, PlateError,
-    PointMapError, ResultError, RowsError, RunError, StartError, StopError, TiltError, TrigError,
-    WriteError,
+    PointMapError, ReplayError, ResultError, RowsError, RunError, StartError, StopError, TiltError,
+    TrigError, WriteError,
 };
 pub use record::{Counts, Progress};
 pub use search::{
@@ -69,3 +70,4 @@ pub use types::{
     BrownConrady5, FxFyCxCy, PinholeCamera, Pt2, ScheimpflugParams, Seed, TiltTrig, Winner,
 };
 pub use version::{VERSION, VersionError, check_version};
+pub use winner::winner;

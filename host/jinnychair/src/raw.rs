@@ -6,6 +6,7 @@
 #![allow(unsafe_code)]
 
 pub(crate) mod journal;
+pub(crate) mod replay;
 
 use crate::geometry::{Conic, DistortedPoint, Jacobian};
 use crate::record::{
@@ -288,6 +289,7 @@ unsafe extern "C" {
     safe fn jc_result(run: Run) -> ResultReply;
     pub(crate) safe fn jc_progress(run: Run) -> Progress;
     pub(crate) safe fn jc_counts(run: Run) -> Counts;
+    pub(crate) safe fn jc_winner(first: Best, second: Best) -> Best;
     fn jc_stop(run: Run, list: *const f64, list_len: usize) -> StopReply;
 }
 
@@ -499,7 +501,7 @@ mod tests {
             self.0
         }
 
-        fn float(&mut self) -> f64 {
+        pub(super) fn float(&mut self) -> f64 {
             f64::from(self.byte()) + 0.5
         }
 
@@ -579,7 +581,7 @@ mod tests {
             }
         }
 
-        fn waiting(&mut self) -> Waiting {
+        pub(super) fn waiting(&mut self) -> Waiting {
             let is_waiting = self.byte();
             Waiting { is_waiting, seed: Seed { reference_k: self.k(), sensor: self.sensor() } }
         }
@@ -612,7 +614,7 @@ mod tests {
             Counts { scored, host_failed, bad_camera, no_mean, no_number }
         }
 
-        fn run(&mut self) -> Run {
+        pub(super) fn run(&mut self) -> Run {
             Run {
                 options: self.options(),
                 center: self.pt2(),
