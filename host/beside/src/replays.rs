@@ -105,7 +105,7 @@ pub(crate) fn compare_run(
         compare(&another(inputs, random), &pair.journal, lent, tally)?;
     }
     compare(inputs, &pair.journal, &lent[..random.below(lent.len() + 1)], tally)?;
-    if pair.book.entries().len() < 4 {
+    if pair.book.entries().len() < 3 {
         for cut in 0..pair.journal.len() {
             compare(inputs, &pair.journal[..cut], lent, tally)?;
         }
