@@ -127,18 +127,3 @@ pub fn walk<'a>(inputs: &'a Inputs, journal: &[u8]) -> Walk<'a> {
     }
     walk
 }
-
-/// The report's line.
-#[inline(never)]
-pub fn write_report(counts: &[usize; 5], to: &mut [u8]) -> Option<usize> {
-    use std::io::Write;
-    let total = counts.iter().try_fold(0_usize, |sum, count| sum.checked_add(*count))?;
-    if to.len() < 24 || total > 656 {
-        return None;
-    }
-    let mut rest = &mut to[..];
-    let [a, b, c, d, e] = counts;
-    writeln!(rest, "{a},{b},{c},{d},{e},{total}").ok()?;
-    let left = rest.len();
-    Some(to.len() - left)
-}

@@ -5,7 +5,7 @@
 
 use compare::journal as plain_journal;
 use compare::plain::plain_c;
-use compare::walk::{walk, write_report};
+use compare::walk::walk;
 use jinnychair::journal::{self, Line, Recorded, Replayed, ScoredFields};
 use jinnychair::record::{self, answer, next, seed, start};
 use jinnychair::{
@@ -144,6 +144,7 @@ fn main() {
     }
     if goes("journal") {
         journals(&mut random);
+        reports();
         replays();
     }
     if goes("runs") {
@@ -476,7 +477,7 @@ fn run_lines(inputs: &record::Inputs) -> Vec<u8> {
     journal
 }
 
-/// Runs a journal again and goes on from it, beside plain Rust and beside the book; then the report's line.
+/// Runs a journal again and goes on from it, beside plain Rust and beside the book.
 fn replays() {
     let inputs = most_seeds();
     let for_library = compare::library::library_inputs(&inputs);
@@ -498,14 +499,18 @@ fn replays() {
     let book = || keep(book::replay(for_book.clone(), black_box(&journal), &mut lent));
     let replay = || keep(record::replay(&for_library, black_box(&journal), &mut list));
     report("running it again (the book)", medians(1, replay, book), None);
-    let counts = walked.counts;
+}
+
+/// Writes the morning report.
+fn reports() {
+    let counts = [530, 60, 40, 20, 6];
     let [scored, host_failed, bad_camera, no_mean, no_number] = counts;
     let for_library = Counts { scored, host_failed, bad_camera, no_mean, no_number };
-    let [mut to, mut also] = [[0; 24]; 2];
+    let [mut to, mut other] = [[0; 24]; 2];
     let library = || keep(journal::write_report(black_box(&for_library), &mut to));
-    let plain = || keep(write_report(black_box(&counts), &mut also));
+    let plain = || keep(plain_journal::write_report(black_box(&counts), &mut other));
     report("writing a report (plain Rust)", medians(1, library, plain), None);
-    assert_eq!(to, also);
+    assert_eq!(to, other);
 }
 
 fn book_inputs(inputs: &Inputs) -> book::Inputs {
