@@ -60,7 +60,7 @@ pub use error::{
     PointMapError, ResultError, RowsError, RunError, StartError, StopError, TiltError, TrigError,
     WriteError,
 };
-pub use record::Progress;
+pub use record::{Counts, Progress};
 pub use search::{
     Ended, Finding, Handed, Inputs, Options, Outcome, Rows, Search, SkipReason, Solution, Stopped,
     Tried,

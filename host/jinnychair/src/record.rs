@@ -100,6 +100,22 @@ pub struct LastLine {
     pub line: FlatLine,
 }
 
+/// How many candidates of a run are scored, and how many are skipped for each reason.
+#[derive(Clone, Copy, Debug, Default, PartialEq, Eq)]
+#[repr(C)]
+pub struct Counts {
+    /// Those with a score.
+    pub scored: usize,
+    /// Those for which the host sent Failed.
+    pub host_failed: usize,
+    /// Those whose camera isn't one.
+    pub bad_camera: usize,
+    /// Those with too few counted rows, or without a finite mean.
+    pub no_mean: usize,
+    /// Those whose score isn't a number.
+    pub no_number: usize,
+}
+
 /// A run.
 #[derive(Clone, Copy, Debug, PartialEq)]
 #[repr(C)]
@@ -118,6 +134,8 @@ pub struct Run {
     pub run_best: Best,
     /// The last answered line.
     pub last: LastLine,
+    /// How many answers had which outcome.
+    pub counts: Counts,
 }
 
 /// How far a search has come, in numbers for a progress bar. The answer to a round's last seed opens the next round, so that
@@ -248,4 +266,10 @@ pub fn stop(run: &Run, list: &[f64]) -> Result<Stopped, StopError> {
 pub fn last_line(run: &Run) -> Option<Line> {
     let reply = raw::journal::jc_last_line(*run);
     (reply.found != 0).then(|| reply.line.into())
+}
+
+/// How many candidates are scored, and how many skipped for each reason. Of a record that no search can have made all are 0.
+#[must_use]
+pub fn counts(run: &Run) -> Counts {
+    raw::jc_counts(*run)
 }

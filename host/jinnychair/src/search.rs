@@ -2,7 +2,7 @@
 
 use crate::error::{numbered, part};
 use crate::journal::Line;
-use crate::record::{self, Progress, Run};
+use crate::record::{self, Counts, Progress, Run};
 use crate::{
     AnswerError, FxFyCxCy, NextError, PinholeCamera, Pt2, ResultError, RunError, Seed, StartError,
     Winner,
@@ -432,6 +432,12 @@ impl Search {
     #[must_use]
     pub fn stop(&self) -> Stopped {
         record::stop(&self.run, &self.list).expect("a search lends its whole list")
+    }
+
+    /// How many candidates are scored, and how many skipped for each reason; they add up to [`Search::answered`].
+    #[must_use]
+    pub fn counts(&self) -> Counts {
+        record::counts(&self.run)
     }
 
     /// How many candidates are answered.
