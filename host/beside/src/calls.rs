@@ -4,9 +4,10 @@ use crate::findings::Sent;
 use crate::inputs::{for_library, on_one_axis};
 use crate::lines::{self, LineTally};
 use crate::record_words::*;
+use crate::reports;
 use crate::unsound;
 use book::{Book, Inputs};
-use jinnychair::record::{Run, answer, next, progress, result, seed, start, stop};
+use jinnychair::record::{Run, answer, counts, next, progress, result, seed, start, stop};
 use jinnychair::{Handed, Outcome, SkipReason};
 use random::Random;
 use words::{float_words, word};
@@ -94,6 +95,7 @@ pub fn play(mut inputs: Inputs, random: &mut Random, tally: &mut Tally) -> Resul
     if pair.book.is_over() {
         tally.results[usize::from(pair.book.run_best().is_none())] += 1;
     }
+    reports::compare_run(&pair.run, &pair.book, &pair.journal)?;
     lines::reread(&pair.journal, random, &mut tally.lines)
 }
 
@@ -192,6 +194,8 @@ impl Pair {
         differ("the run", of_run(&self.run), of_book(&self.book))?;
         let (library, book) = (progress(&self.run), self.book.progress());
         differ("the progress", of_progress(library), of_book_progress(book))?;
+        let (library, book) = (counts(&self.run), self.book.counts());
+        differ("the counts", of_counts(&library), of_book_counts(&book))?;
         let (library, book) = self.stop(self.list.len());
         differ("the stop call", library, book)?;
         differ("the list", float_words(&self.list), float_words(&self.book_list))

@@ -6,4 +6,5 @@ pub mod findings;
 pub mod inputs;
 pub mod lines;
 pub mod record_words;
+pub mod reports;
 pub mod unsound;
