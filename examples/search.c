@@ -67,5 +67,10 @@ int main(void) {
     jc_candidate winner = result.candidate;
     printf("no. %zu of %zu won: %+.4f %+.4f, %.3f px\n", winner.number, jc_progress(run).answered_in_run, winner.sensor.tilt_x,
            winner.sensor.tilt_y, winner.mean_reproj_error);
+
+    /* The morning report: how many were scored, how many skipped for each reason, and all of them. */
+    uint8_t report[JC_REPORT_LEN];
+    jc_write_flat written = jc_write_report(jc_counts(run), report, JC_REPORT_LEN);
+    fwrite(report, 1, written.len, stdout);
     return 0;
 }

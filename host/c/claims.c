@@ -198,6 +198,48 @@ static void counted(void) {
     claim(jc_start(3, more, TILTS, 2, TILTS, 2, TILTS, 0, K, center, list, 54).number == JC_SHARE_TOO_LARGE, "33");
 }
 
+static int as_text(const uint8_t *bytes, size_t len, const char *text) { return len == strlen(text) && memcmp(bytes, text, len) == 0; }
+
+static void counts(void) {
+    jc_options options = {0, 0, 0.02, 0, 0};
+    jc_pt2 center = {640, 480};
+    double list[54];
+    jc_run_record run = jc_start(3, options, TILTS, 2, TILTS, 2, TILTS, 0, K, center, list, 54).run;
+    jc_count_record c = jc_counts(run);
+    claim(c.scored + c.host_failed + c.bad_camera + c.no_mean + c.no_number == 0, "counts start at 0");
+    jc_pinhole_camera solved = {K, {0, 0, 0, 0, 0}}, bad = {{0, 0, 0, 0}, {0, 0, 0, 0, 0}};
+    const double row[] = {0, 0, 643, 484};
+    const uint8_t one[] = {1}, none[] = {0}, two[] = {2};
+    run = jc_next(run, list, 54).run;
+    claim(jc_counts(run).scored == 0, "a seed that waits counts nowhere");
+    claim(jc_counts(jc_answer(run, 1, solved, row, 4, two, 1, list, 54).run).scored == 0, "nor does a refused call");
+    run = jc_answer(run, 1, solved, row, 4, one, 1, list, 54).run;
+    run = jc_answer(jc_next(run, list, 54).run, 0, solved, row, 4, one, 1, list, 54).run;
+    run = jc_answer(jc_next(run, list, 54).run, 1, bad, row, 4, one, 1, list, 54).run;
+    run = jc_answer(jc_next(run, list, 54).run, 1, solved, row, 4, none, 1, list, 54).run;
+    c = jc_counts(run);
+    claim(c.scored == 1 && c.host_failed == 1 && c.bad_camera == 1 && c.no_mean == 1 && c.no_number == 0, "one of each");
+
+    uint8_t to[JC_REPORT_LEN + 1];
+    memset(to, 7, sizeof to);
+    jc_write_flat w = jc_write_report(c, to, JC_REPORT_LEN);
+    claim(w.number == 0 && as_text(to, w.len, "1,1,1,1,0,4\n") && to[w.len] == 7, "the report, and the rest stays");
+    claim(jc_write_report(c, to, JC_REPORT_LEN - 1).number == JC_NOT_WRITABLE && to[0] == '1', "28 below 24 bytes, and nothing is written");
+    jc_count_record longest = {100, 100, 100, 100, 100}, most = {656, 0, 0, 0, 0}, more = {656, 0, 0, 0, 1}, wrapped = {SIZE_MAX, 1, 0, 0, 0};
+    w = jc_write_report(longest, to, JC_REPORT_LEN);
+    claim(as_text(to, w.len, "100,100,100,100,100,500\n"), "24 bytes are enough");
+    claim(jc_write_report(most, to, JC_REPORT_LEN).number == 0, "a total of JC_MOST_ANSWERS");
+    claim(jc_write_report(more, to, JC_REPORT_LEN).number == JC_NOT_WRITABLE, "28 above it");
+    w = jc_write_report(wrapped, to, JC_REPORT_LEN);
+    claim(w.number == JC_NOT_WRITABLE && w.len == 0, "a total doesn't wrap round");
+
+    run.counts.scored = 2;
+    claim(jc_counts(run).scored == 0 && jc_next(run, list, 54).number == JC_NOTHING_SCORED, "counts that don't add up: no call returned this record");
+    run.counts.scored = (size_t)1 + SIZE_MAX / 2 + 1;
+    run.counts.host_failed = (size_t)1 + SIZE_MAX / 2 + 1;
+    claim(jc_counts(run).scored == 0 && jc_next(run, list, 54).number == JC_NOTHING_SCORED, "nor where they do so only by wrapping round");
+}
+
 /* Each limit is taken, and one more is refused. */
 static void limits(void) {
     static double list[JC_MOST_LIST], numbers[JC_ROW_NUMBERS * (JC_MOST_ROWS + 1)];
@@ -241,6 +283,7 @@ int main(void) {
     one_axis();
     progress();
     counted();
+    counts();
     stop();
     limits();
     if (!failed) printf("the header's words hold\n");
