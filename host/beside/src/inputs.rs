@@ -30,12 +30,17 @@ fn draw_two_axes(random: &mut Random) -> Inputs {
         (0..1 + random.below(5)).map(|_| tilt(max_abs_tilt, random)).collect()
     };
     let (tilt_x_seeds, tilt_y_seeds) = (tilts(random), tilts(random));
-    let base = [800.0, 790.0, 320.5, 239.25].map(|number| number + random.within(5.0));
+    let mut base = [800.0, 790.0, 320.5, 239.25].map(|number| number + random.within(5.0));
     let mut decomposition = vec![];
     for _ in 0..random.pick(&[0, 0, 0, 1, 2, 4]) {
         let apart = random.pick(&[0.0, 1e-10, 1e-8, 3.0]);
         decomposition.extend(base.map(|number| number + apart));
         decomposition.extend([0, 1].map(|_| random.within(max_abs_tilt)));
+    }
+    // It is taken as given, finite or not, and a journal has one NaN for all.
+    if random.once_in(8) {
+        let other_nan = f64::from_bits(0xfff0_0000_0000_0055);
+        base[random.below(4)] = random.pick(&[f64::NAN, other_nan, f64::INFINITY, -0.0]);
     }
     Inputs {
         views: 3 + random.below(4),

@@ -15,7 +15,7 @@ fn every_reply_every_list_and_every_record_are_the_books() {
             .unwrap_or_else(|fault| panic!("list of calls {i}, {inputs:?}: {fault}"));
     }
     // What was compared: runs on two axes and on one, to their end, each outcome, and each refusal of a search.
-    assert!(tally.runs[0] > 1000 && tally.runs[1] > 500, "{tally:?}");
+    assert!(tally.runs[0] > 1000 && tally.runs[1] > 400, "{tally:?}");
     assert!(tally.calls > 40_000 && tally.unsound > 2000, "{tally:?}");
     assert!(tally.results.iter().all(|&times| times > 0), "{tally:?}");
     // Later rounds with all their tilts within the bound, and with fewer.

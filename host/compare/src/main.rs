@@ -5,6 +5,7 @@
 use beside::calls::{Tally, play};
 use beside::inputs::{on_one_axis, share};
 use beside::lines::{LineTally, write_and_read};
+use beside::reports;
 use compare::blocks;
 use compare::library::answer_words;
 use oracle::generate::{Endless, endless};
@@ -50,6 +51,7 @@ fn main() -> ExitCode {
     compare_blocks(each, seed, &mut differences);
     compare_with_book(searches, seed, &mut differences);
     compare_lines(each, seed, &mut differences);
+    compare_reports(each, seed, &mut differences);
     println!("{} differences", differences.count);
     if differences.count == 0 { ExitCode::SUCCESS } else { ExitCode::FAILURE }
 }
@@ -167,4 +169,17 @@ fn compare_lines(count: usize, seed: &str, differences: &mut Differences) {
     println!(
         "  {lines} lines, {ends} ends and {not_lines} refusals read again, most of them damaged"
     );
+}
+
+/// Reports of any five counts.
+fn compare_reports(count: usize, seed: &str, differences: &mut Differences) {
+    let mut random = Random::named(&format!("reports, {seed}"));
+    let mut written = [0; 2];
+    for _ in 0..count {
+        match reports::compare_drawn(&mut random) {
+            Ok(is_written) => written[usize::from(is_written)] += 1,
+            Err(fault) => differences.add(&fault),
+        }
+    }
+    println!("{:28}{} written, {} refused", "reports", written[1], written[0]);
 }

@@ -4,6 +4,8 @@
 //! [`Line`], [`write_line`] and [`lines`] are the lines themselves. [`JournalWriter`] writes them to a file as a search goes on, each
 //! one on the disk before the next seed is asked for; [`StoredInputs`] is the file beside it.
 //!
+//! [`crate::Counts::of`] and [`write_report`] make the morning report of a journal.
+//!
 //! ```
 //! use jinnychair::{journal, *};
 //!

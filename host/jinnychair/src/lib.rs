@@ -33,7 +33,7 @@
 //!
 //! [`Search::run_watched`] also shows each tried seed, with how far the search has come, and [`Search::run_until`] can be stopped
 //! between two answers. [`Search::next`], [`Search::answer`], [`Search::progress`] and [`Search::stop`] are for a host with a
-//! loop of its own. Angles are in radians, pixels and focal lengths in pixels.
+//! loop of its own. [`Search::counts`] is for the morning report. Angles are in radians, pixels and focal lengths in pixels.
 //!
 //! # What is assumed of the machine
 //!

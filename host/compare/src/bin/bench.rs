@@ -8,7 +8,7 @@ use compare::plain::plain_c;
 use jinnychair::journal::{self, Line, Recorded, ScoredFields};
 use jinnychair::record::{self, answer, next, seed, start};
 use jinnychair::{
-    BrownConrady5, Finding as LibraryFinding, FxFyCxCy, Handed, PinholeCamera, Pt2, Rows,
+    BrownConrady5, Counts, Finding as LibraryFinding, FxFyCxCy, Handed, PinholeCamera, Pt2, Rows,
     ScheimpflugParams, Seed, SkipReason, TiltTrig, geometry,
 };
 use oracle::operations::search::{Inputs, run};
@@ -143,6 +143,7 @@ fn main() {
     }
     if goes("journal") {
         journals(&mut random);
+        reports();
     }
     if goes("runs") {
         whole_run("a whole run of 656 answers with 900 rows", &rows);
@@ -453,4 +454,16 @@ fn journals(random: &mut Random) {
         assert_eq!(at, text.len());
     };
     report("reading one (plain Rust)", medians(lines.len(), library, plain), None);
+}
+
+/// Writes the morning report.
+fn reports() {
+    let counts = [530, 60, 40, 20, 6];
+    let [scored, host_failed, bad_camera, no_mean, no_number] = counts;
+    let for_library = Counts { scored, host_failed, bad_camera, no_mean, no_number };
+    let [mut to, mut other] = [[0; 24]; 2];
+    let library = || keep(journal::write_report(black_box(&for_library), &mut to));
+    let plain = || keep(plain_journal::write_report(black_box(&counts), &mut other));
+    report("writing a report (plain Rust)", medians(1, library, plain), None);
+    assert_eq!(to, other);
 }
