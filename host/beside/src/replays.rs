@@ -94,14 +94,18 @@ pub(crate) fn compare_run(
     if !pair.is_changed {
         is_the_runs(pair, whole)?;
         cut_after_lines(pair, tally)?;
-        change_fields(pair, whole, random, tally)?;
+        if !pair.journal.is_empty() {
+            let place = random.below(pair.book.entries().len());
+            change_fields(pair, place, random, tally)?;
+            change_camera(pair, place, whole, tally)?;
+        }
     }
     for _ in 0..4 {
         compare(inputs, &damaged(&pair.journal, random), lent, tally)?;
         compare(&another(inputs, random), &pair.journal, lent, tally)?;
     }
     compare(inputs, &pair.journal, &lent[..random.below(lent.len() + 1)], tally)?;
-    if pair.book.entries().len() < 4 {
+    if pair.book.entries().len() < 3 {
         for cut in 0..pair.journal.len() {
             compare(inputs, &pair.journal[..cut], lent, tally)?;
         }
@@ -134,36 +138,50 @@ fn cut_after_lines(pair: &Pair, tally: &mut ReplayTally) -> Result<(), String> {
     Ok(())
 }
 
-/// Each field of a line in turn gets another value.
+/// The run's journal with another line at a place.
+fn with_line(pair: &Pair, place: usize, entry: Entry) -> Vec<u8> {
+    let mut entries = pair.book.entries().to_vec();
+    entries[place] = entry;
+    bytes(&entries)
+}
+
+/// Each field of a line in turn gets another value, and is found there.
 fn change_fields(
     pair: &Pair,
-    whole: book::Replayed,
+    place: usize,
     random: &mut Random,
     tally: &mut ReplayTally,
 ) -> Result<(), String> {
-    let entries = pair.book.entries();
-    if entries.is_empty() {
-        return Ok(());
-    }
-    let place = random.below(entries.len());
-    let changed =
-        |entry: Entry| bytes(&[&entries[..place], &[entry], &entries[place + 1..]].concat());
+    let entry = pair.book.entries()[place];
     for field in 0..tally.found.len() {
-        if let Some(entry) = with_another(entries[place], field, random) {
-            let reply = compare(pair.book.inputs(), &changed(entry), &pair.lent, tally)?;
-            let expected = book::Replayed::RefusedLine(30, place + 1);
-            differ(&format!("a change of field {field}"), of_book(reply), of_book(expected))?;
-            tally.found[field] += 1;
-        }
+        let Some(entry) = with_another(entry, field, random) else { continue };
+        let journal = with_line(pair, place, entry);
+        let reply = compare(pair.book.inputs(), &journal, &pair.lent, tally)?;
+        let expected = book::Replayed::RefusedLine(30, place + 1);
+        differ(&format!("a change of field {field}"), of_book(reply), of_book(expected))?;
+        tally.found[field] += 1;
     }
-    let Outcome::Scored(scored) = entries[place].outcome else { return Ok(()) };
-    for i in 0..4 {
+    Ok(())
+}
+
+/// The last bit of each number of a line's camera in turn: the reply is as before, or the next round's first line is refused.
+fn change_camera(
+    pair: &Pair,
+    place: usize,
+    whole: book::Replayed,
+    tally: &mut ReplayTally,
+) -> Result<(), String> {
+    let (entry, inputs) = (pair.book.entries()[place], pair.book.inputs());
+    // Around a far centre that bit can be too much for the square of the distance.
+    let is_far = inputs.centre.iter().any(|number| *number > 1e9);
+    let Outcome::Scored(scored) = entry.outcome else { return Ok(()) };
+    for i in 0..if is_far { 0 } else { 4 } {
         let mut camera = scored.camera;
         camera.k[i] = f64::from_bits(camera.k[i].to_bits() ^ 1);
         let outcome = Outcome::Scored(Scored { camera, ..scored });
-        let changed = changed(Entry { outcome, ..entries[place] });
-        let reply = compare(pair.book.inputs(), &changed, &pair.lent, tally)?;
-        let later = entries.iter().position(|entry| entry.round > entries[place].round);
+        let journal = with_line(pair, place, Entry { outcome, ..entry });
+        let reply = compare(inputs, &journal, &pair.lent, tally)?;
+        let later = pair.book.entries().iter().position(|other| other.round > entry.round);
         let is_found = later.is_some_and(|i| reply == book::Replayed::RefusedLine(30, i + 1));
         // A run whose next round has no line yet hands out the changed camera.
         let is_next = later.is_none() && matches!(reply, book::Replayed::Unfinished(_));
