@@ -38,6 +38,7 @@ mod inputs;
 mod line;
 mod replay;
 mod report;
+mod resume;
 mod writer;
 
 pub use checksum::sha256;
@@ -45,4 +46,5 @@ pub use inputs::{InputsError, StoredInputs, Views, inputs_path};
 pub use line::{JournalError, Line, Lines, Recorded, ScoredFields, lines, read_line, write_line};
 pub use replay::{Difference, Replayed, replay, what_differs};
 pub use report::write_report;
-pub use writer::{JournalFileError, JournalWriter, JournaledRunError};
+pub use resume::{EndedBy, ResumeReport, Resumed};
+pub use writer::{JournalFileError, JournalWriter, JournaledRunError, ResumedJournal};
