@@ -102,7 +102,7 @@ pub(crate) fn compare_run(
     for _ in 0..4 {
         cut(pair, random.below(journal.len() + 1), tally)?;
     }
-    if pair.book.entries().len() < 4 {
+    if pair.book.entries().len() < 3 {
         tally.cut += 1;
         for place in 0..=journal.len() {
             cut(pair, place, tally)?;
