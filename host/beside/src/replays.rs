@@ -1,10 +1,10 @@
 //! Journals run again on both sides: those of whole runs, cut, changed, damaged, and those of another Start.
 
 use crate::calls::{Pair, differ};
-use crate::inputs::for_library;
+use crate::inputs::{for_library, lent_to_search};
 use crate::lines::damaged;
 use book::{Entry, Inputs, Outcome, Scored};
-use jinnychair::journal::Replayed;
+use jinnychair::journal::{Difference, Replayed, what_differs};
 use jinnychair::{ReplayError, record};
 use random::Random;
 use words::{float_words, word};
@@ -159,9 +159,29 @@ fn change_fields(
         let reply = compare(pair.book.inputs(), &journal, &pair.lent, tally)?;
         let expected = book::Replayed::RefusedLine(30, place + 1);
         differ(&format!("a change of field {field}"), of_book(reply), of_book(expected))?;
+        let said = lent_to_search(pair.book.inputs(), |inputs| what_differs(inputs, &journal));
+        if !said.is_some_and(|difference| is_of_field(&difference, field)) {
+            return Err(format!("of a change of field {field} it is said that {said:?}"));
+        }
         tally.found[field] += 1;
     }
     Ok(())
+}
+
+/// Whether it is the field that is named; a factor that isn't finite is a fault of the camera.
+fn is_of_field(difference: &Difference, field: usize) -> bool {
+    match difference {
+        Difference::Number { .. } => field == 0,
+        Difference::Round { .. } => field == 1,
+        Difference::Seed { name, .. } => {
+            ["fx", "fy", "cx", "cy", "tilt x", "tilt y"].get(field.wrapping_sub(2)) == Some(name)
+        }
+        Difference::Score { .. } => field == 8 || field == 9,
+        Difference::Mean { .. } => field == 10,
+        Difference::Tangential { name, .. } => [(11, "p1"), (12, "p2")].contains(&(field, name)),
+        Difference::Camera => field == 11 || field == 12,
+        _ => false,
+    }
 }
 
 /// The last bit of each number of a line's camera in turn: the reply is as before, or the next round's first line is refused.

@@ -51,7 +51,8 @@ fn main() -> ExitCode {
     compare_blocks(each, seed, &mut differences);
     compare_with_book(searches, seed, &mut differences);
     compare_lines(each, seed, &mut differences);
-    compare_reports_and_winners(each, seed, &mut differences);
+    compare_reports(each, seed, &mut differences);
+    compare_winners(each, seed, &mut differences);
     println!("{} differences", differences.count);
     if differences.count == 0 { ExitCode::SUCCESS } else { ExitCode::FAILURE }
 }
@@ -181,20 +182,28 @@ fn compare_lines(count: usize, seed: &str, differences: &mut Differences) {
     );
 }
 
-/// Reports of any five counts, and winners of any two records.
-fn compare_reports_and_winners(count: usize, seed: &str, differences: &mut Differences) {
-    let mut random = Random::named(&format!("reports and winners, {seed}"));
-    let [mut reports, mut winners] = [[0; 2]; 2];
+/// Reports of any five counts.
+fn compare_reports(count: usize, seed: &str, differences: &mut Differences) {
+    let mut random = Random::named(&format!("reports, {seed}"));
+    let mut written = [0; 2];
     for _ in 0..count {
         match reports::compare_drawn(&mut random) {
-            Ok(is_written) => reports[usize::from(is_written)] += 1,
-            Err(fault) => differences.add(&fault),
-        }
-        match winners::compare_drawn(&mut random) {
-            Ok(is_found) => winners[usize::from(is_found)] += 1,
+            Ok(is_written) => written[usize::from(is_written)] += 1,
             Err(fault) => differences.add(&fault),
         }
     }
-    println!("{:28}{} written, {} refused", "reports", reports[1], reports[0]);
-    println!("{:28}{} found, {} times none", "winners of two", winners[1], winners[0]);
+    println!("{:28}{} written, {} refused", "reports", written[1], written[0]);
+}
+
+/// Winners of any two records.
+fn compare_winners(count: usize, seed: &str, differences: &mut Differences) {
+    let mut random = Random::named(&format!("winners, {seed}"));
+    let mut found = [0; 2];
+    for _ in 0..count {
+        match winners::compare_drawn(&mut random) {
+            Ok(is_found) => found[usize::from(is_found)] += 1,
+            Err(fault) => differences.add(&fault),
+        }
+    }
+    println!("{:28}{} found, {} times none", "winners of two", found[1], found[0]);
 }

@@ -2,7 +2,12 @@
 //! was given.
 //!
 //! [`Line`], [`write_line`] and [`lines`] are the lines themselves. [`JournalWriter`] writes them to a file as a search goes on, each
-//! one on the disk before the next seed is asked for; [`StoredInputs`] is the file beside it.
+//! one on the disk before the next seed is asked for; [`StoredInputs`] is the file beside it. After a power loss
+//! [`JournalWriter::resume`] goes on with the search from both.
+//!
+//! A journal and its inputs tell of a run without its host: [`replay`] gives the winner, or says which line isn't the run's, and
+//! [`what_differs`] why; [`crate::Counts::of`] and [`write_report`] make the morning report; [`stretch_winner`] and [`round_winners`]
+//! give the winners of its parts.
 //!
 //! ```
 //! use jinnychair::{journal, *};

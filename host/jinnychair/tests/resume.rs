@@ -186,5 +186,5 @@ fn nothing_is_cut_where_the_inputs_are_not_taken() {
     let told = fault(&path).to_string();
     assert!(told.contains("(27)"), "{told}");
     let missing = JournalWriter::resume(&path.with_file_name("day.journal")).unwrap_err();
-    assert!(matches!(missing, JournalFileError::Io(..)), "{missing}");
+    assert!(matches!(missing, JournalFileError::Missing(_)), "{missing}");
 }

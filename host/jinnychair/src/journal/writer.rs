@@ -71,7 +71,11 @@ impl JournalWriter {
     /// begins it.
     pub fn resume(path: &Path) -> Result<ResumedJournal, JournalFileError> {
         let fault = |error| JournalFileError::Io(path.into(), error);
-        let mut writer = Self::locked(OpenOptions::new().read(true).append(true).open(path), path)?;
+        let file = OpenOptions::new().read(true).append(true).open(path);
+        if file.as_ref().is_err_and(|error| error.kind() == io::ErrorKind::NotFound) {
+            return Err(JournalFileError::Missing(path.into()));
+        }
+        let mut writer = Self::locked(file, path)?;
         let beside = inputs_path(path);
         if writer.len == 0 && beside.symlink_metadata().is_err() {
             return Err(JournalFileError::NotBegun(path.into()));
@@ -181,7 +185,7 @@ impl Display for JournaledRunError {
 
 impl Error for JournaledRunError {}
 
-/// Why a journal can't be written.
+/// Why a journal can't be written, or its search can't go on.
 #[derive(Debug)]
 #[non_exhaustive]
 pub enum JournalFileError {
@@ -191,6 +195,8 @@ pub enum JournalFileError {
     InputsExist(PathBuf),
     /// Another process writes to it.
     InUse(PathBuf),
+    /// There is no journal of this name.
+    Missing(PathBuf),
     /// Its search was switched off before it began: the journal is empty, and has no inputs.
     NotBegun(PathBuf),
     /// The inputs beside it can't be read, or aren't as they were written.
@@ -221,6 +227,11 @@ impl Display for JournalFileError {
             Self::InUse(path) => write!(
                 f,
                 "{}: another process writes to this journal. Wait until it ends",
+                path.display()
+            ),
+            Self::Missing(path) => write!(
+                f,
+                "{}: there is no such journal. Name the one of the search that should go on",
                 path.display()
             ),
             Self::NotBegun(path) => write!(
