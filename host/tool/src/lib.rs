@@ -4,6 +4,7 @@
 //! |---|---|
 //! | [`commands`] | the sub-commands, their words and what they end with |
 //! | [`choices`] | what a lab chooses: tilts, bound, step, rounds, seeds, limits |
+//! | [`case`] | a search with all that it starts from: run, and judged |
 //! | [`plan`] | what will be tried and what can be missed, told before the search |
 //! | [`views`] | reads the views of a plate from a text file |
 //! | [`synthetic`] | makes views of a plate seen by a known camera |
@@ -24,6 +25,7 @@
 //! | [`files`], [`screen`], [`date`], [`angle`] | files, standard output, the date, angles with their unit |
 
 pub mod angle;
+pub mod case;
 pub mod chart;
 pub mod choices;
 pub mod commands;

@@ -1,7 +1,7 @@
 //! The winner in words: the numbers that people ask for first.
 
 use crate::angle::degrees;
-use crate::drive::{Finished, Stop, Tried, last_step, step_of};
+use crate::drive::{Finished, Stop, last_step, step_of};
 use crate::open::{Held, Open};
 use crate::residuals::Fit;
 use crate::table::source_text;
@@ -13,7 +13,7 @@ const WORST: usize = 3;
 
 /// The winner, its errors, and what is left open.
 #[must_use]
-pub fn winner(finished: &Finished, winner: &Winner, one: &Tried, fit: &Fit, open: &Open) -> String {
+pub fn winner(finished: &Finished, winner: &Winner, fit: &Fit, open: &Open) -> String {
     let (k, sensor) = (winner.camera.k, winner.sensor);
     let total = open.total();
     let tilt = |radians: f64, open: f64| {
@@ -25,7 +25,7 @@ pub fn winner(finished: &Finished, winner: &Winner, one: &Tried, fit: &Fit, open
             if finished.stop.is_some() { "best so far" } else { "winner" },
             winner.number,
             finished.tried.len(),
-            source_text(one.source)
+            finished.tried.get(winner.number).map_or(String::new(), |one| source_text(one.source))
         ),
         format!("tilt x          {}", tilt(sensor.tilt_x, total[0])),
         open.held
