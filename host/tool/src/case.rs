@@ -137,7 +137,7 @@ impl Case {
         Ok(finished)
     }
 
-    /// Shows the winner and what speaks against it, and gives the record of the search, with the points or, where
+    /// Shows the counts, the winner and what speaks against it, and gives the record of the search, with the points or, where
     /// there is no winner, why not.
     pub fn show(
         &self,
@@ -150,6 +150,8 @@ impl Case {
             }),
             Err(error) => Err(self.no_winner(&finished, error)),
         };
+        // A search never has more than the report takes.
+        screen.say(report::counts(&finished.counts).unwrap_or_default());
         let mut record = self.about.clone();
         if let Some(stop) = &finished.stop {
             screen.say(report::stop(stop, &self.options));

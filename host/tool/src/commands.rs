@@ -2,14 +2,16 @@
 
 mod chart;
 mod known_camera;
+mod report;
 mod search;
 mod show;
 
+use crate::journal::{Ending, Journal, check_beside};
 use crate::screen::{Screen, aside};
 use std::collections::VecDeque;
 use std::ffi::OsString;
 use std::os::unix::ffi::{OsStrExt, OsStringExt};
-use std::path::PathBuf;
+use std::path::{Path, PathBuf};
 use std::process::ExitCode;
 
 /// How a command ends when it does its work.
@@ -46,7 +48,7 @@ struct Command {
 }
 
 const COMMANDS: &[Command] =
-    &[search::COMMAND, show::COMMAND, chart::COMMAND, known_camera::COMMAND];
+    &[search::COMMAND, report::COMMAND, show::COMMAND, chart::COMMAND, known_camera::COMMAND];
 
 const EXIT_CODES: &str = "Exit codes: 0 good, 1 failed, 2 wrong words, 3 doubtful: a result, with a reason why it may \
                           be wrong.";
@@ -119,6 +121,23 @@ fn only_file(mut words: Words, what: &str) -> Result<PathBuf, Fault> {
         }
     }
     file.ok_or(Fault::Usage(format!("no {what} is named")))
+}
+
+/// Says what is strange about a journal that was shown: its inputs, or its end. A journal without inputs is none.
+fn end_of(path: &Path, journal: &Journal, screen: &mut Screen) -> Result<End, Fault> {
+    let beside = check_beside(path, &journal.lines);
+    if let Err(fault) = &beside {
+        screen.say(fault);
+    }
+    let told = journal.ending_text().map(|text| format!("{}: {text}", path.display()));
+    match (journal.ending, told) {
+        (Ending::Bad(_), Some(fault)) => Err(Fault::Failed(fault)),
+        (_, Some(text)) => {
+            screen.say(text);
+            Ok(End::Doubtful)
+        }
+        _ => Ok(if beside.is_ok() { End::Good } else { End::Doubtful }),
+    }
 }
 
 /// A word that no option and no file is.

@@ -4,8 +4,8 @@ use crate::residuals::{rms, row_errors};
 use jinnychair::geometry::ErrorCount;
 use jinnychair::journal::{Line, Recorded};
 use jinnychair::{
-    Ended, Inputs, Options, Outcome, PinholeCamera, Progress, ResultError, RunError, Search, Seed,
-    Solution, Stopped, Winner, geometry,
+    Counts, Ended, Inputs, Options, Outcome, PinholeCamera, Progress, ResultError, RunError,
+    Search, Seed, Solution, Stopped, Winner, geometry,
 };
 use std::ops::ControlFlow;
 
@@ -70,6 +70,8 @@ pub struct Finished {
     pub winner: Result<Winner, RunError>,
     /// How it stood when it was stopped, if it was.
     pub stop: Option<Stop>,
+    /// How many were scored, and skipped for each reason, as the library counts them.
+    pub counts: Counts,
 }
 
 /// A search that was stopped.
@@ -149,7 +151,7 @@ pub fn go_on(
         }
         Err(error) => (Err(error), None),
     };
-    Ok(Finished { tried, winner, stop })
+    Ok(Finished { tried, winner, stop, counts: search.counts() })
 }
 
 /// A tried tilt as it is kept.

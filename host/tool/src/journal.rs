@@ -107,6 +107,20 @@ pub fn check_belonging(inputs: &StoredInputs, lines: &[Line]) -> Result<(), Stri
     }
 }
 
+/// Whether the inputs beside a journal, if there are any, are whole and its own.
+///
+/// # Errors
+///
+/// Names their file, and what is wrong with it.
+pub fn check_beside(path: &Path, lines: &[Line]) -> Result<(), String> {
+    let beside = inputs_path(path);
+    if !beside.exists() {
+        return Ok(());
+    }
+    let named = |fault: String| format!("{}: {fault}", beside.display());
+    read_inputs(path).and_then(|inputs| check_belonging(&inputs, lines).map_err(named))
+}
+
 /// Bit by bit; any NaN is any other.
 #[must_use]
 pub fn is_same_seed(a: &Seed, b: &Seed) -> bool {

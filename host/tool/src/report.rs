@@ -1,12 +1,12 @@
-//! The winner in words: the numbers that people ask for first.
+//! The winner and the counts in words: the numbers that people ask for first.
 
 use crate::angle::degrees;
 use crate::drive::{Finished, Stop, last_step, step_of};
 use crate::open::{Held, Open};
 use crate::residuals::Fit;
-use crate::table::source_text;
+use crate::table::{SKIPS, source_text};
 use crate::verdict::Point;
-use jinnychair::{Options, Progress, Stopped, Winner};
+use jinnychair::{Counts, Options, Progress, Stopped, Winner};
 
 /// How many of the worst dots are shown.
 const WORST: usize = 3;
@@ -41,6 +41,28 @@ pub fn winner(finished: &Finished, winner: &Winner, fit: &Fit, open: &Open) -> S
         worst(fit),
     ];
     lines.join("\n")
+}
+
+/// How many tilts were scored and how many skipped for each reason, in words, and behind `report` as 02's line.
+///
+/// # Errors
+///
+/// There are more than a search can have.
+pub fn counts(counts: &Counts) -> Result<String, String> {
+    let (total, scored) = (counts.total(), counts.scored);
+    let mut text =
+        format!("tilts           {total} tried, {scored} scored, {} skipped", total - scored);
+    for &(reason, letter, words) in SKIPS {
+        text += &format!("\n  skipped {letter}     {}: {words}", counts.skipped(reason));
+    }
+    let line = counts.report_line().map_err(|error| {
+        let number = error.number();
+        format!(
+            "{total} lines, and a search tries at most 656 tilts ({number}). These are the lines of more than one: \
+             take the journal that the search wrote"
+        )
+    })?;
+    Ok(format!("{text}\nreport          {}", line.trim_end()))
 }
 
 /// By what a search was stopped, and where.

@@ -3,20 +3,13 @@
 
 mod common;
 
-use common::{assert_said, file, folder, names, program, said, small};
+use common::{assert_said, file, folder, names, program, said, searched, small};
 use jinnychair::Outcome;
 use std::fs;
 use std::path::Path;
 use tool::journal::{Ending, Journal, read_inputs};
 use tool::synthetic::BUILT_IN;
 use tool::table::Record;
-
-/// A search with a journal, in an empty folder.
-fn searched(name: &str) -> std::path::PathBuf {
-    let here = folder(name);
-    said(&here, &small(&["--journal=night"]), 0);
-    here
-}
 
 fn lines(folder: &Path, name: &str) -> Vec<String> {
     file(folder.join(name)).lines().map(str::to_owned).collect()

@@ -58,3 +58,10 @@ pub const SMALL: [&str; 4] =
 pub fn small<'a>(words: &[&'a str]) -> Vec<&'a str> {
     [&["search"], words, &SMALL].concat()
 }
+
+/// A search with a journal, `night`, in an empty folder.
+pub fn searched(name: &str) -> PathBuf {
+    let here = folder(name);
+    said(&here, &small(&["--journal=night"]), 0);
+    here
+}

@@ -1,0 +1,107 @@
+//! The morning report as a user meets it: the counts of a journal, in words and as a line.
+#![allow(missing_docs)]
+
+mod common;
+
+use common::{assert_said, file, folder, said, searched, small};
+use jinnychair::SkipReason;
+use jinnychair::journal::{Line, Recorded, write_line};
+use std::fs;
+use std::path::Path;
+use tool::journal::Journal;
+
+/// Writes lines as a journal.
+fn write_journal(path: &Path, lines: &[Line]) {
+    let mut bytes = vec![];
+    for line in lines {
+        let mut buffer = [0; 256];
+        let len = write_line(line, &mut buffer).unwrap();
+        bytes.extend(&buffer[..len]);
+    }
+    fs::write(path, bytes).unwrap();
+}
+
+/// The lines that say how many there are, without the progress beside them.
+fn counts(text: &str) -> Vec<&str> {
+    let is_count = |line: &&str| {
+        ["tilts   ", "  skipped ", "report  "].iter().any(|name| line.starts_with(name))
+    };
+    text.lines().filter(is_count).collect()
+}
+
+#[test]
+fn a_report_says_what_the_search_said_at_its_end() {
+    let here = folder("report");
+    let shown = said(&here, &small(&["--journal=night"]), 0);
+    let report = said(&here, &["report", "night"], 0);
+    assert!(report.starts_with("journal         night, 52 lines\n"), "{report}");
+    assert_eq!(counts(&report), counts(&shown));
+    assert_eq!(
+        counts(&report),
+        [
+            "tilts           52 tried, 52 scored, 0 skipped",
+            "  skipped H     0: the host found no camera",
+            "  skipped C     0: not a camera",
+            "  skipped E     0: too few dots counted, or no finite mean",
+            "  skipped N     0: the score is not a number",
+            "report          52,0,0,0,0,52",
+        ]
+    );
+    assert_said(&here, &["report"], 2, &["no journal is named"]);
+    assert_said(&here, &["report", "none"], 1, &["none: can't be read: "]);
+    assert_said(&here, &["report", "--help"], 0, &["jinnychair report JOURNAL"]);
+}
+
+#[test]
+fn each_reason_is_counted_for_itself() {
+    let here = searched("report-reasons");
+    let mut lines = Journal::read(&here.join("night")).unwrap().lines;
+    let reasons = [
+        (SkipReason::HostFailed, 1),
+        (SkipReason::BadCamera, 2),
+        (SkipReason::NoMean, 3),
+        (SkipReason::NoNumber, 4),
+    ];
+    let skipped = reasons.iter().flat_map(|(reason, count)| vec![*reason; *count]);
+    for (line, reason) in lines[7..].iter_mut().zip(skipped) {
+        line.outcome = Recorded::Skipped(reason);
+    }
+    write_journal(&here.join("night"), &lines);
+    let expected = [
+        "tilts           52 tried, 42 scored, 10 skipped\n",
+        "  skipped H     1: the host found no camera\n",
+        "  skipped C     2: not a camera\n",
+        "  skipped E     3: too few dots counted, or no finite mean\n",
+        "  skipped N     4: the score is not a number\n",
+        "report          42,1,2,3,4,52\n",
+    ];
+    assert_said(&here, &["report", "night"], 0, &expected);
+}
+
+#[test]
+fn what_is_strange_about_a_journal_is_told_behind_its_report() {
+    let here = searched("report-strange");
+    let whole = file(here.join("night"));
+    let ends: Vec<usize> = whole.match_indices('\n').map(|(at, _)| at + 1).collect();
+    fs::write(here.join("night"), &whole[..ends[4] + 30]).unwrap();
+    let told = "night: line 6 has no end: it was cut off, or is being written. It is left out";
+    assert_said(&here, &["report", "night"], 3, &["5 lines", "report          5,0,0,0,0,5", told]);
+    fs::write(here.join("night"), format!("{}x\n", &whole[..ends[4]])).unwrap();
+    let told = "night: line 6: this isn't a line of a journal (29)";
+    assert_said(&here, &["report", "night"], 1, &["report          5,0,0,0,0,5", told]);
+    fs::write(here.join("night"), "").unwrap();
+    assert_said(&here, &["report", "night"], 0, &["0 lines", "report          0,0,0,0,0,0"]);
+    // More lines than a search has are of more than one.
+    let lines = Journal::parse(whole.as_bytes()).lines;
+    write_journal(&here.join("night"), &lines.repeat(13));
+    let told = ["676 lines, and a search tries at most 656 tilts (28)", "take the journal that"];
+    assert_said(&here, &["report", "night"], 1, &told);
+    // Inputs of another journal.
+    fs::write(here.join("night"), &whole).unwrap();
+    said(&here, &["search", "--no-decomposition", "--rounds=0", "--journal=other"], 3);
+    fs::copy(here.join("other.inputs"), here.join("night.inputs")).unwrap();
+    assert_said(&here, &["report", "night"], 3, &["night.inputs: they belong to another journal"]);
+    // None are needed.
+    fs::remove_file(here.join("night.inputs")).unwrap();
+    said(&here, &["report", "night"], 0);
+}
