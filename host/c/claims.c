@@ -240,6 +240,83 @@ static void counts(void) {
     claim(jc_counts(run).scored == 0 && jc_next(run, list, 54).number == JC_NOTHING_SCORED, "nor where they do so only by wrapping round");
 }
 
+static const jc_options SHORT = {1, 0.005, 0.02, 1, 0};
+static const jc_pt2 CENTER = {640, 480};
+static const double LEVEL_TILT[] = {0};
+
+/* A search of two tilts and a round of three, with the journal's five lines; ends[i] is where line i ends. */
+typedef struct {
+    jc_run_record run;
+    double list[54];
+    uint8_t bytes[5 * JC_LINE_LEN];
+    size_t ends[6], len;
+} journaled;
+
+/* Answers until the run is over: an error of one pixel per 0.001 radians from 0.006. */
+static void go_on(journaled *j, size_t answered) {
+    jc_pinhole_camera solved = {{1001.0, 900, 640, 480}, {0, 0, 0, 0.01, 0}};
+    const uint8_t one[] = {1};
+    for (; answered < 5; answered++) {
+        jc_run_record run = jc_next(j->run, j->list, 54).run;
+        const double row[] = {0, 0, 640 + fabs(run.waiting.seed.sensor.tilt_x - 0.006) * 1000, 480};
+        j->run = jc_answer(run, 1, solved, row, 4, one, 1, j->list, 54).run;
+        uint8_t *to = j->bytes + j->ends[answered];
+        jc_write_flat w = jc_write_line(jc_last_line(j->run).line, to, JC_LINE_LEN);
+        j->len = j->ends[answered + 1] = j->ends[answered] + w.len;
+    }
+}
+
+static journaled searched(void) {
+    journaled j;
+    memset(&j, 0, sizeof j);
+    j.run = jc_start(3, SHORT, TILTS, 2, LEVEL_TILT, 1, TILTS, 0, K, CENTER, j.list, 54).run;
+    go_on(&j, 0);
+    return j;
+}
+
+static jc_replay_flat replayed(const uint8_t *bytes, size_t len, double *list) {
+    return jc_replay(3, SHORT, TILTS, 2, LEVEL_TILT, 1, TILTS, 0, K, CENTER, bytes, len, list, 54);
+}
+
+static void replay(void) {
+    journaled j = searched();
+    jc_candidate winner = jc_result(j.run).candidate;
+    double list[54] = {7}, before[54];
+    jc_replay_flat r = replayed(j.bytes, j.len, list);
+    claim(r.number == 0 && r.is_over == 1 && r.candidate == winner.number && same(r.score, winner.score), "a journal's winner is the search's");
+    claim(r.line_number == 0 && r.next.reference_k.fx == 0 && memcmp(list, j.list, 18 * sizeof *list) == 0, "the list is as all lines left it");
+    r = replayed(j.bytes, 0, list);
+    claim(r.number == 0 && r.is_over == 0 && r.candidate == 0 && r.next.sensor.tilt_x == -0.01, "where the lines run out, the seed that comes next");
+    r = replayed(j.bytes, j.ends[2], before);
+    claim(r.number == 0 && r.next.reference_k.fx == 1001 && r.next.sensor.tilt_x == 0.01 - 0.005, "at a round's end that of the next list");
+    r = replayed(j.bytes, j.ends[3] - 1, list);
+    claim(r.number == JC_NOT_A_LINE && r.line_number == 3 && r.score == 0 && r.next.reference_k.fx == 0, "29 with the line's number");
+    claim(memcmp(list, before, sizeof *list * 18) == 0, "and the list as the lines before left it");
+    r = replayed(j.bytes + j.ends[1], j.ends[2] - j.ends[1], list);
+    claim(r.number == JC_NOT_THE_RUN && r.line_number == 1 && list[4] == -0.01, "30 with the line's number");
+    list[0] = 7;
+    r = jc_replay(2, SHORT, TILTS, 2, LEVEL_TILT, 1, TILTS, 0, K, CENTER, j.bytes, j.len, list, 54);
+    claim(r.number == JC_TOO_FEW_VIEWS && r.line_number == 0 && list[0] == 7, "Start's own refusals come first, and leave the list");
+    jc_options narrow = {1, 0.005, 0.001, 1, 0};
+    r = jc_replay(3, narrow, TILTS, 2, LEVEL_TILT, 1, TILTS, 0, K, CENTER, j.bytes, 0, list, 54);
+    claim(r.number == JC_NOTHING_SCORED && r.is_over == 0, "11 where nothing was scored");
+}
+
+/* A line's camera counts for the next round's list alone. */
+static void changed_camera(void) {
+    for (size_t i = 0; i < 2; i++) {
+        journaled j = searched();
+        double list[54];
+        jc_line line = jc_read_line(j.bytes, j.len, j.ends[i]).line;
+        uint8_t to[JC_LINE_LEN];
+        line.k.fx = nextafter(line.k.fx, 2000);
+        memcpy(j.bytes + j.ends[i], to, jc_write_line(line, to, JC_LINE_LEN).len);
+        jc_replay_flat r = replayed(j.bytes, j.len, list);
+        if (i == 0) claim(r.number == 0 && r.candidate == jc_result(j.run).candidate.number, "another camera that isn't its round's best isn't found");
+        if (i == 1) claim(r.number == JC_NOT_THE_RUN && r.line_number == 3, "that of the best is found with the next round's first line");
+    }
+}
+
 /* Each limit is taken, and one more is refused. */
 static void limits(void) {
     static double list[JC_MOST_LIST], numbers[JC_ROW_NUMBERS * (JC_MOST_ROWS + 1)];
@@ -284,6 +361,8 @@ int main(void) {
     progress();
     counted();
     counts();
+    replay();
+    changed_camera();
     stop();
     limits();
     if (!failed) printf("the header's words hold\n");

@@ -4,6 +4,7 @@ use crate::findings::Sent;
 use crate::inputs::{for_library, on_one_axis};
 use crate::lines::{self, LineTally};
 use crate::record_words::*;
+use crate::replays::{self, ReplayTally};
 use crate::reports;
 use crate::unsound;
 use book::{Book, Inputs};
@@ -35,6 +36,8 @@ pub struct Tally {
     pub stops: [usize; 4],
     /// Journals that were read again.
     pub lines: LineTally,
+    /// Journals that were run again.
+    pub replays: ReplayTally,
 }
 
 impl Default for Tally {
@@ -50,20 +53,27 @@ impl Default for Tally {
             later_totals: [0; 10],
             stops: [0; 4],
             lines: LineTally::default(),
+            replays: ReplayTally::default(),
         }
     }
 }
 
 /// Both sides of one run.
-struct Pair {
+pub(crate) struct Pair {
     /// Whether the host's answers often tie.
     ties: bool,
-    run: Run,
-    list: Vec<f64>,
-    book: Book,
+    /// How seldom the host writes to the list.
+    change_once_in: usize,
+    pub(crate) run: Run,
+    pub(crate) list: Vec<f64>,
+    pub(crate) book: Book,
     book_list: Vec<f64>,
+    /// The list before Start.
+    pub(crate) lent: Vec<f64>,
+    /// Whether the host has written to the list.
+    pub(crate) is_changed: bool,
     /// The lines of all answers so far.
-    journal: Vec<u8>,
+    pub(crate) journal: Vec<u8>,
 }
 
 /// Plays a list of calls drawn from `random` on Start's inputs.
@@ -96,7 +106,11 @@ pub fn play(mut inputs: Inputs, random: &mut Random, tally: &mut Tally) -> Resul
         tally.results[usize::from(pair.book.run_best().is_none())] += 1;
     }
     reports::compare_run(&pair.run, &pair.book, &pair.journal)?;
-    lines::reread(&pair.journal, random, &mut tally.lines)
+    lines::reread(&pair.journal, random, &mut tally.lines)?;
+    if random.once_in(4) {
+        replays::compare_run(&pair, random, &mut tally.replays)?;
+    }
+    Ok(())
 }
 
 /// Inputs that Start may refuse.
@@ -170,8 +184,8 @@ impl Pair {
             2..5 => demand + 7,
             _ => demand,
         };
-        let mut list: Vec<f64> = (0..room).map(|_| f64::from_bits(random.bits())).collect();
-        let mut book_list = list.clone();
+        let lent: Vec<f64> = (0..room).map(|_| f64::from_bits(random.bits())).collect();
+        let (mut list, mut book_list) = (lent.clone(), lent.clone());
         let started = start(&for_library(inputs), &mut list).map_err(|e| e.number());
         let opened = Book::start(inputs.clone(), &mut book_list);
         differ("Start's number", started.as_ref().err(), opened.as_ref().err())?;
@@ -184,8 +198,10 @@ impl Pair {
                 return Ok(None);
             }
         };
-        let ties = random.once_in(3);
-        let pair = Self { ties, run, list, book, book_list, journal: vec![] };
+        let (ties, change_once_in) = (random.once_in(3), random.pick(&[25, 25, usize::MAX]));
+        let (is_changed, journal) = (false, vec![]);
+        let pair =
+            Self { ties, change_once_in, run, list, book, book_list, lent, is_changed, journal };
         pair.compare()?;
         Ok(Some(pair))
     }
@@ -224,7 +240,7 @@ impl Pair {
         let which = if random.once_in(4) { random.below(5) } else { due };
         let len = self.list.len();
         let lent = if random.once_in(15) { random.below(len + 1) } else { len };
-        if random.once_in(25) {
+        if random.once_in(self.change_once_in) {
             self.change_list(random);
         }
         let (library, book) = match which {
@@ -263,6 +279,7 @@ impl Pair {
             random.pick(&[0.01, -0.02, 0.5, 5.0, f64::NAN, f64::INFINITY, -0.0, 1e-13, 900.0]);
         self.list[place] = number;
         self.book_list[place] = number;
+        self.is_changed = true;
     }
 
     fn next(&mut self, lent: usize) -> (Reply, Reply) {

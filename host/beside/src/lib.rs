@@ -6,5 +6,6 @@ pub mod findings;
 pub mod inputs;
 pub mod lines;
 pub mod record_words;
+pub mod replays;
 pub mod reports;
 pub mod unsound;

@@ -26,5 +26,11 @@ fn every_reply_every_list_and_every_record_are_the_books() {
     assert!(tally.entered.iter().all(|&times| times > 100), "{tally:?}");
     // Lines of runs, whole and damaged.
     assert!(tally.lines.read.iter().all(|&times| times > 1000), "{tally:?}");
+    // Their journals run again.
+    let replays = tally.replays;
+    assert!(replays.ended.iter().all(|&times| times > 300), "{tally:?}");
+    assert!([8, 11, 27, 29, 30, 33].iter().all(|&number| replays.refused[number] > 5), "{tally:?}");
+    assert!(replays.found.iter().all(|&times| times > 50), "{tally:?}");
+    assert!(replays.cameras.iter().all(|&times| times > 20), "{tally:?}");
     assert!((1..15).chain([27, 31, 32, 33]).all(|number| tally.refused[number] > 0), "{tally:?}");
 }

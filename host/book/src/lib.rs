@@ -6,10 +6,12 @@ mod counts;
 mod journal;
 mod outcome;
 mod pages;
+mod replay;
 mod seeds;
 
 pub use counts::{Counts, write_report};
 pub use journal::{Reading, read_line, write_line};
 pub use outcome::{Camera, Errors, Finding, Outcome, Rows, Scored};
 pub use pages::{Answered, Book, Entry, Handed, Progress, Stopped, Winner};
+pub use replay::{Replayed, replay};
 pub use seeds::{Inputs, Seed};

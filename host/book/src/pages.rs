@@ -132,12 +132,18 @@ impl Book {
         if lent.len() < self.inputs.demand() {
             return Handed::Refused(10);
         }
-        if self.is_over {
-            return if self.run_best().is_some() { Handed::Over } else { Handed::Refused(11) };
+        self.waiting = self.next_seed(lent);
+        match (self.waiting, self.run_best()) {
+            (Some(_), _) => Handed::Candidate(self.entries.len()),
+            (None, Some(_)) => Handed::Over,
+            (None, None) => Handed::Refused(11),
         }
+    }
+
+    /// The seed that comes next, unless the run is over.
+    pub(crate) fn next_seed(&self, lent: &[f64]) -> Option<Seed> {
         let at = 6 * self.position();
-        self.waiting = Some(Seed::from_numbers(&lent[at..at + 6]));
-        Handed::Candidate(self.entries.len())
+        (!self.is_over).then(|| Seed::from_numbers(&lent[at..at + 6]))
     }
 
     /// The waiting seed's part of the lent list, or an empty part.
@@ -161,11 +167,16 @@ impl Book {
         let outcome = finding.outcome(seed, &self.inputs, rows);
         self.waiting = None;
         let number = self.entries.len();
-        self.entries.push(Entry { number, round: self.round, seed, outcome });
+        self.enter(Entry { number, round: self.round, seed, outcome }, lent);
+        Answered::Entered(outcome)
+    }
+
+    /// Enters an answered candidate; at the end of a round the next list is written.
+    pub(crate) fn enter(&mut self, entry: Entry, lent: &mut [f64]) {
+        self.entries.push(entry);
         while !self.is_over && self.position() == self.list_len {
             self.end_round(lent);
         }
-        Answered::Entered(outcome)
     }
 
     fn end_round(&mut self, lent: &mut [f64]) {

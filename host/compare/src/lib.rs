@@ -6,3 +6,4 @@ pub mod blocks;
 pub mod journal;
 pub mod library;
 pub mod plain;
+pub mod walk;

@@ -153,6 +153,12 @@ fn print_tally(tally: &Tally) {
     println!("  {} calls on records that no search can have made", tally.unsound);
     let [lines, ends, refused] = tally.lines.read;
     println!("  {lines} lines, {ends} ends and {refused} refusals read from their journals");
+    let ([winners, unfinished], refused) = (tally.replays.ended, &tally.replays.refused);
+    println!("  journals run again: {winners} winners, {unfinished} next seeds,");
+    println!("    {} times 11, {} times 29, {} times 30", refused[11], refused[29], refused[30]);
+    let [unseen, seen] = tally.replays.cameras;
+    println!("    each field changed {:?} times, and found there", tally.replays.found);
+    println!("    another camera found with the next round {seen} times, not found {unseen} times");
 }
 
 /// Lines with any numbers.

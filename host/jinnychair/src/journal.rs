@@ -4,7 +4,8 @@
 //! [`Line`], [`write_line`] and [`lines`] are the lines themselves. [`JournalWriter`] writes them to a file as a search goes on, each
 //! one on the disk before the next seed is asked for; [`StoredInputs`] is the file beside it.
 //!
-//! [`crate::Counts::of`] and [`write_report`] make the morning report of a journal.
+//! A journal and its inputs tell of a run without its host: [`replay`] gives the winner, or says which line isn't the run's, and
+//! [`what_differs`] why; [`crate::Counts::of`] and [`write_report`] make the morning report.
 //!
 //! ```
 //! use jinnychair::{journal, *};
@@ -35,11 +36,13 @@
 mod checksum;
 mod inputs;
 mod line;
+mod replay;
 mod report;
 mod writer;
 
 pub use checksum::sha256;
 pub use inputs::{InputsError, StoredInputs, Views, inputs_path};
 pub use line::{JournalError, Line, Lines, Recorded, ScoredFields, lines, read_line, write_line};
+pub use replay::{Difference, Replayed, replay, what_differs};
 pub use report::write_report;
 pub use writer::{JournalFileError, JournalWriter, JournaledRunError};

@@ -1,8 +1,9 @@
 //! The proved sensor-tilt search, as safe Rust over its static library (x86-64 Linux).
 //!
 //! [`Search`] runs a search one seed at a time: the host solves for a camera at each tilt that it is handed, and the search
-//! scores, compares and refines. [`geometry`] has the operations that a host needs beside it, [`journal`] keeps every answer in a
-//! file. [`record`] has the same search for a host that keeps the run's record itself.
+//! scores, compares and refines. [`geometry`] has the operations that a host needs beside it. [`journal`] keeps every answer in a
+//! file, by which a search can be run again without its host. [`record`] has the same search for a host that keeps the run's record
+//! itself.
 //!
 //! What these functions compute is proved: each equals a definition that is written down in the repository's `specs/`
 //! folders, for all inputs. What stands in this crate is not proved: it passes numbers on, and names them.
@@ -57,8 +58,8 @@ mod version;
 
 pub use error::{
     AnswerError, ConicError, CountError, LineRefusal, NextError, NormalizeError, PlateError,
-    PointMapError, ResultError, RowsError, RunError, StartError, StopError, TiltError, TrigError,
-    WriteError,
+    PointMapError, ReplayError, ResultError, RowsError, RunError, StartError, StopError, TiltError,
+    TrigError, WriteError,
 };
 pub use record::{Counts, Progress};
 pub use search::{

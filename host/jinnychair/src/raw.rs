@@ -6,6 +6,7 @@
 #![allow(unsafe_code)]
 
 pub(crate) mod journal;
+pub(crate) mod replay;
 
 use crate::geometry::{Conic, DistortedPoint, Jacobian};
 use crate::record::{
@@ -499,7 +500,7 @@ mod tests {
             self.0
         }
 
-        fn float(&mut self) -> f64 {
+        pub(super) fn float(&mut self) -> f64 {
             f64::from(self.byte()) + 0.5
         }
 
@@ -579,7 +580,7 @@ mod tests {
             }
         }
 
-        fn waiting(&mut self) -> Waiting {
+        pub(super) fn waiting(&mut self) -> Waiting {
             let is_waiting = self.byte();
             Waiting { is_waiting, seed: Seed { reference_k: self.k(), sensor: self.sensor() } }
         }

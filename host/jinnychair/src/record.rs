@@ -4,10 +4,10 @@
 //! scored. But the theorem about whole runs speaks of a record and a list that are handed on as the calls before left them.
 //! [`crate::Search`] keeps both where nothing else reaches them.
 
-use crate::journal::Line;
+use crate::journal::{Line, Replayed};
 use crate::{
-    AnswerError, Finding, FxFyCxCy, Handed, NextError, Outcome, Pt2, ResultError, Seed, SkipReason,
-    StartError, StopError, Stopped, Winner, check_version, raw,
+    AnswerError, Finding, FxFyCxCy, Handed, NextError, Outcome, Pt2, ReplayError, ResultError,
+    Seed, SkipReason, StartError, StopError, Stopped, Winner, check_version, raw,
 };
 
 /// The numbers of a search's options; the tilts of its grid stand beside them.
@@ -185,11 +185,16 @@ pub struct Inputs<'a> {
 ///
 /// The linked library isn't of this crate's version.
 pub fn start(inputs: &Inputs, list: &mut [f64]) -> Result<Run, StartError> {
+    demand_version();
+    let reply = raw::start(inputs, list);
+    StartError::check(reply.number).map(|()| reply.run)
+}
+
+/// An archive of another version has other structs.
+fn demand_version() {
     if let Err(error) = check_version() {
         panic!("{error}");
     }
-    let reply = raw::start(inputs, list);
-    StartError::check(reply.number).map(|()| reply.run)
 }
 
 /// Hands out the list's next seed.
@@ -272,4 +277,27 @@ pub fn last_line(run: &Run) -> Option<Line> {
 #[must_use]
 pub fn counts(run: &Run) -> Counts {
     raw::jc_counts(*run)
+}
+
+/// Runs a journal again: its lines stand for the host's answers.
+///
+/// # Errors
+///
+/// The inputs are refused, and the list is as it was; or a line isn't taken, and the list is as the lines before left it.
+///
+/// # Panics
+///
+/// The linked library isn't of this crate's version.
+pub fn replay(inputs: &Inputs, journal: &[u8], list: &mut [f64]) -> Result<Replayed, ReplayError> {
+    demand_version();
+    let reply = raw::replay::replay(inputs, journal, list);
+    let line = reply.line_number;
+    match reply.number {
+        0 if reply.is_over == 0 => Ok(Replayed::Unfinished(reply.next)),
+        0 => Ok(Replayed::Winner { number: reply.candidate, score: reply.score }),
+        11 => Ok(Replayed::NothingScored),
+        29 => Err(ReplayError::NotALine { line }),
+        30 => Err(ReplayError::NotTheRun { line }),
+        number => Err(ReplayError::Start(StartError::of_number(number))),
+    }
 }
