@@ -1,7 +1,9 @@
 //! The sub-commands. Each reads its own words and ends good, failed or doubtful.
 
 mod chart;
+mod compare;
 mod known_camera;
+mod replay;
 mod report;
 mod search;
 mod show;
@@ -47,8 +49,15 @@ struct Command {
     run: fn(Words, &mut Screen) -> Result<End, Fault>,
 }
 
-const COMMANDS: &[Command] =
-    &[search::COMMAND, report::COMMAND, show::COMMAND, chart::COMMAND, known_camera::COMMAND];
+const COMMANDS: &[Command] = &[
+    search::COMMAND,
+    report::COMMAND,
+    show::COMMAND,
+    chart::COMMAND,
+    replay::COMMAND,
+    compare::COMMAND,
+    known_camera::COMMAND,
+];
 
 const EXIT_CODES: &str = "Exit codes: 0 good, 1 failed, 2 wrong words, 3 doubtful: a result, with a reason why it may \
                           be wrong.";
@@ -111,16 +120,23 @@ fn utf8(word: OsString) -> Result<String, Fault> {
 }
 
 /// The only word, which names a file.
-fn only_file(mut words: Words, what: &str) -> Result<PathBuf, Fault> {
-    let mut file = None;
+fn only_file(words: Words, what: &str) -> Result<PathBuf, Fault> {
+    let [file] = only_files(words, [&format!("no {what} is named")])?;
+    Ok(file)
+}
+
+/// The only words, which name files; for each what is said where it is missing.
+fn only_files<const N: usize>(mut words: Words, missing: [&str; N]) -> Result<[PathBuf; N], Fault> {
+    let mut files = vec![];
     while let Some(word) = words.next()? {
         match word {
-            Word::File(path) if file.is_none() => file = Some(PathBuf::from(path)),
+            Word::File(path) if files.len() < N => files.push(PathBuf::from(path)),
             Word::File(path) => return Err(unknown(&path.display().to_string())),
             Word::Option(option) => return Err(unknown(&option)),
         }
     }
-    file.ok_or(Fault::Usage(format!("no {what} is named")))
+    let named = files.len();
+    files.try_into().map_err(|_| Fault::Usage(missing[named].into()))
 }
 
 /// Says what is strange about a journal that was shown: its inputs, or its end. A journal without inputs is none.

@@ -35,10 +35,7 @@ impl Journal {
     ///
     /// Names the file and why it can't be read.
     pub fn read(path: &Path) -> Result<Self, String> {
-        let bytes = fs::read(path).map_err(|error| {
-            format!("{}: can't be read: {error}. Check the name", path.display())
-        })?;
-        Ok(Self::parse(&bytes))
+        Ok(Self::parse(&read_bytes(path)?))
     }
 
     /// Reads a journal's bytes.
@@ -68,6 +65,16 @@ impl Journal {
             Ending::Bad(error) => Some(format!("{error} It and all that follows are left out")),
         }
     }
+}
+
+/// A journal's bytes.
+///
+/// # Errors
+///
+/// Names the file and why it can't be read.
+pub fn read_bytes(path: &Path) -> Result<Vec<u8>, String> {
+    fs::read(path)
+        .map_err(|error| format!("{}: can't be read: {error}. Check the name", path.display()))
 }
 
 /// The inputs beside a journal.

@@ -17,6 +17,7 @@
 //! | [`progress`] | how far the search has come, and the time left |
 //! | [`stop`] | stops it after some minutes, or by Enter |
 //! | [`journal`] | reads a journal, and what stands beside it |
+//! | [`compare`] | where two journals part |
 //! | [`residuals`] | the errors, dot by dot and view by view |
 //! | [`open`] | how far the winner's tilts are left open |
 //! | [`verdict`] | what speaks against the winner, and what to do |
@@ -29,6 +30,7 @@ pub mod case;
 pub mod chart;
 pub mod choices;
 pub mod commands;
+pub mod compare;
 pub mod date;
 pub mod drive;
 pub mod files;

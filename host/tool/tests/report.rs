@@ -3,23 +3,11 @@
 
 mod common;
 
-use common::{assert_said, file, folder, said, searched, small};
+use common::{assert_said, file, folder, said, searched, small, write_journal};
 use jinnychair::SkipReason;
-use jinnychair::journal::{Line, Recorded, write_line};
+use jinnychair::journal::Recorded;
 use std::fs;
-use std::path::Path;
 use tool::journal::Journal;
-
-/// Writes lines as a journal.
-fn write_journal(path: &Path, lines: &[Line]) {
-    let mut bytes = vec![];
-    for line in lines {
-        let mut buffer = [0; 256];
-        let len = write_line(line, &mut buffer).unwrap();
-        bytes.extend(&buffer[..len]);
-    }
-    fs::write(path, bytes).unwrap();
-}
 
 /// The lines that say how many there are, without the progress beside them.
 fn counts(text: &str) -> Vec<&str> {
