@@ -317,6 +317,49 @@ static void changed_camera(void) {
     }
 }
 
+static jc_resume_flat resumed(const uint8_t *bytes, size_t len, double *list) {
+    return jc_resume(3, SHORT, TILTS, 2, LEVEL_TILT, 1, TILTS, 0, K, CENTER, bytes, len, list, 54);
+}
+
+/* After each byte a search can be switched off. */
+static void power_loss(void) {
+    const journaled whole = searched();
+    for (size_t cut = 0; cut <= whole.len; cut++) {
+        journaled j = whole;
+        memset(j.list, 0, sizeof j.list);
+        memset(j.bytes + cut, 0, sizeof j.bytes - cut);
+        jc_resume_flat r = resumed(j.bytes, cut, j.list);
+        size_t lines = 0;
+        while (lines < 5 && whole.ends[lines + 1] <= cut) lines++;
+        claim(r.number == 0 && r.lines == lines && r.kept == whole.ends[lines] && r.dropped == cut - r.kept, "only the line is lost that the cut fell in");
+        claim(r.ended_by == (r.dropped ? JC_ENDED_BY_MISSING_NEWLINE : JC_ENDED_BY_NOTHING), "by a missing newline, or by nothing");
+        claim(r.run.waiting.is_waiting == 0 && jc_counts(r.run).scored == lines && jc_last_line(r.run).found == (lines > 0), "no seed waits");
+        j.run = r.run;
+        go_on(&j, lines);
+        jc_candidate a = jc_result(j.run).candidate, b = jc_result(whole.run).candidate;
+        claim(j.len == whole.len && memcmp(j.bytes, whole.bytes, whole.len) == 0, "with the same answers the journal is the same");
+        claim(a.number == b.number && same(a.score, b.score) && memcmp(j.list, whole.list, sizeof j.list) == 0, "and so are winner and list");
+    }
+}
+
+static void resume(void) {
+    const journaled j = searched();
+    double list[54];
+    jc_resume_flat r = resumed((const uint8_t *)"x\n0,0", 5, list);
+    claim(r.number == 0 && r.ended_by == JC_NOT_A_LINE && r.lines == 0 && r.kept == 0 && r.dropped == 5, "29 ends the lines, and refuses nothing");
+    claim(r.run.place.len == 2 && list[4] == -0.01, "a run with no line kept is as Start leaves it");
+    uint8_t twice[2 * JC_LINE_LEN];
+    size_t line = j.ends[1];
+    memcpy(twice, j.bytes, line);
+    memcpy(twice + line, j.bytes, line);
+    r = resumed(twice, 2 * line, list);
+    claim(r.number == 0 && r.ended_by == JC_NOT_THE_RUN && r.lines == 1 && r.kept == line && r.dropped == line, "30 does too");
+    list[0] = 7;
+    jc_options degrees = {1, 0.005, 3, 1, 0};
+    r = jc_resume(3, degrees, TILTS, 2, LEVEL_TILT, 1, TILTS, 0, K, CENTER, j.bytes, j.len, list, 54);
+    claim(r.number == JC_TILT_TOO_LARGE && r.lines + r.kept + r.dropped == 0 && r.run.place.demand == 0 && list[0] == 7, "Start's refusals leave the list");
+}
+
 /* Each limit is taken, and one more is refused. */
 static void limits(void) {
     static double list[JC_MOST_LIST], numbers[JC_ROW_NUMBERS * (JC_MOST_ROWS + 1)];
@@ -363,6 +406,8 @@ int main(void) {
     counts();
     replay();
     changed_camera();
+    resume();
+    power_loss();
     stop();
     limits();
     if (!failed) printf("the header's words hold\n");

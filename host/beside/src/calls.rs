@@ -6,6 +6,7 @@ use crate::lines::{self, LineTally};
 use crate::record_words::*;
 use crate::replays::{self, ReplayTally};
 use crate::reports;
+use crate::resumes::{self, ResumeTally};
 use crate::unsound;
 use book::{Book, Inputs};
 use jinnychair::record::{Run, answer, counts, next, progress, result, seed, start, stop};
@@ -38,6 +39,8 @@ pub struct Tally {
     pub lines: LineTally,
     /// Journals that were run again.
     pub replays: ReplayTally,
+    /// Runs that went on from their journals.
+    pub resumes: ResumeTally,
 }
 
 impl Default for Tally {
@@ -54,6 +57,7 @@ impl Default for Tally {
             stops: [0; 4],
             lines: LineTally::default(),
             replays: ReplayTally::default(),
+            resumes: ResumeTally::default(),
         }
     }
 }
@@ -72,7 +76,9 @@ pub(crate) struct Pair {
     pub(crate) lent: Vec<f64>,
     /// Whether the host has written to the list.
     pub(crate) is_changed: bool,
-    /// The lines of all answers so far.
+    /// All answers that were taken so far.
+    pub(crate) answers: Vec<Sent>,
+    /// Their lines.
     pub(crate) journal: Vec<u8>,
 }
 
@@ -109,6 +115,7 @@ pub fn play(mut inputs: Inputs, random: &mut Random, tally: &mut Tally) -> Resul
     lines::reread(&pair.journal, random, &mut tally.lines)?;
     if random.once_in(4) {
         replays::compare_run(&pair, random, &mut tally.replays)?;
+        resumes::compare_run(&pair, random, &mut tally.resumes)?;
     }
     Ok(())
 }
@@ -199,9 +206,18 @@ impl Pair {
             }
         };
         let (ties, change_once_in) = (random.once_in(3), random.pick(&[25, 25, usize::MAX]));
-        let (is_changed, journal) = (false, vec![]);
-        let pair =
-            Self { ties, change_once_in, run, list, book, book_list, lent, is_changed, journal };
+        let pair = Self {
+            ties,
+            change_once_in,
+            run,
+            list,
+            book,
+            book_list,
+            lent,
+            is_changed: false,
+            answers: vec![],
+            journal: vec![],
+        };
         pair.compare()?;
         Ok(Some(pair))
     }
@@ -322,6 +338,9 @@ impl Pair {
             differ("the counted errors", &library, &counted)?;
             tally.errors[0] += 1;
             tally.errors[1] += usize::from(book == [1, 3] && counted.last() != Some(&0));
+        }
+        if book[0] != 2 {
+            self.answers.push(sent);
         }
         Ok((library, book))
     }

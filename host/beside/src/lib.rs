@@ -8,4 +8,5 @@ pub mod lines;
 pub mod record_words;
 pub mod replays;
 pub mod reports;
+pub mod resumes;
 pub mod unsound;

@@ -32,5 +32,9 @@ fn every_reply_every_list_and_every_record_are_the_books() {
     assert!([8, 11, 27, 29, 30, 33].iter().all(|&number| replays.refused[number] > 5), "{tally:?}");
     assert!(replays.found.iter().all(|&times| times > 50), "{tally:?}");
     assert!(replays.cameras.iter().all(|&times| times > 20), "{tally:?}");
+    // Runs that went on from them.
+    let resumes = tally.resumes;
+    assert!(resumes.ended.iter().all(|&times| times > 100), "{tally:?}");
+    assert!(resumes.refused > 50 && resumes.gone_on > 1000 && resumes.cut > 20, "{tally:?}");
     assert!((1..15).chain([27, 31, 32, 33]).all(|number| tally.refused[number] > 0), "{tally:?}");
 }

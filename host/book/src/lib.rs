@@ -7,6 +7,7 @@ mod journal;
 mod outcome;
 mod pages;
 mod replay;
+mod resume;
 mod seeds;
 
 pub use counts::{Counts, write_report};
@@ -14,4 +15,5 @@ pub use journal::{Reading, read_line, write_line};
 pub use outcome::{Camera, Errors, Finding, Outcome, Rows, Scored};
 pub use pages::{Answered, Book, Entry, Handed, Progress, Stopped, Winner};
 pub use replay::{Replayed, replay};
+pub use resume::{EndedBy, Resumed, resume};
 pub use seeds::{Inputs, Seed};

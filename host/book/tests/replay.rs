@@ -1,49 +1,10 @@
 //! A journal run again, by 02's words: what is taken, what is 29 and what is 30.
 #![allow(missing_docs)]
 
-use book::{
-    Book, Camera, Entry, Finding, Handed, Inputs, Outcome, Replayed, Rows, Scored, Seed, replay,
-    write_line,
-};
+mod common;
 
-/// Three tilts about x, then a round of nine around the best.
-fn inputs() -> Inputs {
-    Inputs {
-        views: 3,
-        tilt_x_seeds: vec![-0.125, 0.0, 0.125],
-        tilt_y_seeds: vec![0.0],
-        rounds: 1,
-        refine_step: 0.0625,
-        max_abs_tilt: 0.25,
-        one_axis: false,
-        min_counted: 0,
-        decomposition: vec![],
-        base: [2.0, 2.0, 0.0, 0.0],
-        centre: [0.0, 0.0],
-    }
-}
-
-/// The host's camera, which isn't the seeds'.
-const K: [f64; 4] = [4.0, 4.0, 1.0, -1.0];
-
-/// A run with a row that is off by the tilts' distance from 0.125, 0; every fourth candidate failed.
-fn run(inputs: Inputs) -> Book {
-    let mut lent = [0.0; 54];
-    let mut book = Book::start(inputs, &mut lent).unwrap();
-    while let Handed::Candidate(number) = book.next(&lent) {
-        let [x, y] = book.waiting().unwrap().tilts;
-        let camera = Camera { k: K, radial: [0.0; 3], tangential: [0.01, 0.0] };
-        let error = (x - 0.125).abs() + y.abs();
-        let finding = if number % 4 == 3 { Finding::Failed } else { Finding::Solved(camera) };
-        let numbers = [0.0, 0.0, K[2] + error, K[3]];
-        book.answer(&finding, Rows { numbers: &numbers, flags: &[1] }, &mut lent);
-    }
-    book
-}
-
-fn bytes(entries: &[Entry]) -> Vec<u8> {
-    entries.iter().flat_map(|entry| write_line(entry, 256).unwrap()).collect()
-}
+use book::{Camera, Entry, Inputs, Outcome, Replayed, Scored, Seed, replay};
+use common::{K, bytes, inputs, run};
 
 /// The reply, and the list afterwards, which was all 7 before.
 fn replayed(inputs: Inputs, journal: &[u8]) -> (Replayed, Vec<f64>) {

@@ -159,6 +159,10 @@ fn print_tally(tally: &Tally) {
     let [unseen, seen] = tally.replays.cameras;
     println!("    each field changed {:?} times, and found there", tally.replays.found);
     println!("    another camera found with the next round {seen} times, not found {unseen} times");
+    let [whole, newline, not_lines, not_runs] = tally.resumes.ended;
+    println!("  journals kept whole {whole} times, ended by a missing newline {newline} times,");
+    println!("    by 29 {not_lines} times, by 30 {not_runs} times");
+    println!("    {} runs went on to where they had been", tally.resumes.gone_on);
 }
 
 /// Lines with any numbers.

@@ -2,8 +2,8 @@
 //!
 //! [`Search`] runs a search one seed at a time: the host solves for a camera at each tilt that it is handed, and the search
 //! scores, compares and refines. [`geometry`] has the operations that a host needs beside it. [`journal`] keeps every answer in a
-//! file, by which a search can be run again without its host. [`record`] has the same search for a host that keeps the run's record
-//! itself.
+//! file, from which a search goes on after a power loss, and by which it can be run again without its host. [`record`] has the same
+//! search for a host that keeps the run's record itself.
 //!
 //! What these functions compute is proved: each equals a definition that is written down in the repository's `specs/`
 //! folders, for all inputs. What stands in this crate is not proved: it passes numbers on, and names them.

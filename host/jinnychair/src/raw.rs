@@ -613,7 +613,7 @@ mod tests {
             Counts { scored, host_failed, bad_camera, no_mean, no_number }
         }
 
-        fn run(&mut self) -> Run {
+        pub(super) fn run(&mut self) -> Run {
             Run {
                 options: self.options(),
                 center: self.pt2(),

@@ -4,7 +4,7 @@
 //! scored. But the theorem about whole runs speaks of a record and a list that are handed on as the calls before left them.
 //! [`crate::Search`] keeps both where nothing else reaches them.
 
-use crate::journal::{Line, Replayed};
+use crate::journal::{EndedBy, Line, Replayed, ResumeReport};
 use crate::{
     AnswerError, Finding, FxFyCxCy, Handed, NextError, Outcome, Pt2, ReplayError, ResultError,
     Seed, SkipReason, StartError, StopError, Stopped, Winner, check_version, raw,
@@ -300,4 +300,27 @@ pub fn replay(inputs: &Inputs, journal: &[u8], list: &mut [f64]) -> Result<Repla
         30 => Err(ReplayError::NotTheRun { line }),
         number => Err(ReplayError::Start(StartError::of_number(number))),
     }
+}
+
+/// Goes on with the run of a journal that may be cut off: gives the run as the longest front of lines that [`replay`] takes leaves
+/// it, with no seed waiting, and says what was kept and what was dropped. The list is then that run's.
+///
+/// # Errors
+///
+/// The inputs are refused, and the list is as it was.
+///
+/// # Panics
+///
+/// The linked library isn't of this crate's version.
+pub fn resume(
+    inputs: &Inputs,
+    journal: &[u8],
+    list: &mut [f64],
+) -> Result<(Run, ResumeReport), StartError> {
+    demand_version();
+    let reply = raw::replay::resume(inputs, journal, list);
+    StartError::check(reply.number)?;
+    let ended_by = EndedBy::of_number(reply.ended_by);
+    let (lines, kept, dropped) = (reply.lines, reply.kept, reply.dropped);
+    Ok((reply.run, ResumeReport { lines, kept, dropped, ended_by }))
 }

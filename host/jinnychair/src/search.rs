@@ -295,6 +295,11 @@ impl Search {
         Ok(Self { run: started?, list })
     }
 
+    /// A run with the list that belongs to it.
+    pub(crate) fn of_parts(run: Run, list: Vec<f64>) -> Self {
+        Self { run, list }
+    }
+
     /// Runs the search to its end: `solve` is asked for a solution at each seed, or for nothing where it finds none.
     ///
     /// # Errors

@@ -477,7 +477,7 @@ fn run_lines(inputs: &record::Inputs) -> Vec<u8> {
     journal
 }
 
-/// Runs a journal again, beside plain Rust and beside the book.
+/// Runs a journal again and goes on from it, beside plain Rust and beside the book.
 fn replays() {
     let inputs = most_seeds();
     let for_library = compare::library::library_inputs(&inputs);
@@ -489,9 +489,12 @@ fn replays() {
     let replayed = record::replay(&for_library, &journal, &mut list);
     assert_eq!(replayed, Ok(Replayed::Winner { number: best.number, score: best.score }));
     assert_eq!((walked.lines, walked.bytes), (656, journal.len()));
+    let mut other = list.clone();
     let plain = || assert_eq!(black_box(walk(&for_book, black_box(&journal))).lines, 656);
     let replay = || keep(record::replay(&for_library, black_box(&journal), &mut list));
     report("running a journal of 656 lines again (plain Rust)", medians(1, replay, plain), None);
+    let resume = || keep(record::resume(&for_library, black_box(&journal), &mut other));
+    report("going on from it (plain Rust)", medians(1, resume, plain), None);
     let mut lent = vec![0.0; 6 * 512];
     let book = || keep(book::replay(for_book.clone(), black_box(&journal), &mut lent));
     let replay = || keep(record::replay(&for_library, black_box(&journal), &mut list));

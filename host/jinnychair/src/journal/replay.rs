@@ -1,8 +1,9 @@
 //! A journal run again, without its host.
 
-use super::line::{LEAST_ROOM, Line, Recorded, ScoredFields, lines, write_line};
+use super::line::{Line, Recorded, ScoredFields, read_line};
+use super::resume::{EndedBy, Resumed};
 use crate::geometry::{principal_point_complexity, tilt_complexity};
-use crate::{Inputs, ReplayError, Seed, SkipReason, record};
+use crate::{Handed, Inputs, ReplayError, Search, Seed, record};
 use std::fmt::{Display, Formatter, Result as FmtResult};
 
 /// How a journal's run ends, from its lines alone.
@@ -96,29 +97,19 @@ pub enum Difference {
 /// the replay is what decides.
 #[must_use]
 pub fn what_differs(inputs: &Inputs, journal: &[u8]) -> Option<Difference> {
-    let Err(ReplayError::NotTheRun { line }) = replay(inputs, journal) else { return None };
-    let mut lines = lines(journal);
-    let number = lines.by_ref().take(line - 1).count();
-    let front = &journal[..lines.position()];
-    let recorded = lines.next()?.ok()?;
-    let Ok(Replayed::Unfinished(seed)) = replay(inputs, front) else {
+    let Resumed { mut search, report } = Search::resume(inputs, journal).ok()?;
+    if report.ended_by != EndedBy::NotTheRun {
+        return None;
+    }
+    let (recorded, _) = read_line(journal, report.kept).ok()??;
+    let Ok(Handed::Candidate { number, seed }) = search.next() else {
         return Some(Difference::RunOver);
     };
-    let outcome = Recorded::Skipped(SkipReason::HostFailed);
-    let of_round = |round| Line { number, round, seed, outcome };
-    let expected = (0..=16).map(of_round).find(|line| is_taken(inputs, front, line))?;
-    let of_place = || of_place(&recorded, &expected);
-    of_place().or_else(|| match recorded.outcome {
+    let expected = Line { number, round: search.round(), seed, ..recorded };
+    of_place(&recorded, &expected).or_else(|| match recorded.outcome {
         Recorded::Scored(fields) => of_fields(&fields, seed, inputs),
         Recorded::Skipped(_) => None,
     })
-}
-
-/// Whether a line can follow the lines before it.
-fn is_taken(inputs: &Inputs, front: &[u8], line: &Line) -> bool {
-    let mut buffer = [0; LEAST_ROOM];
-    let len = write_line(line, &mut buffer).unwrap_or(0);
-    replay(inputs, &[front, &buffer[..len]].concat()).is_ok()
 }
 
 const SEED: [&str; 6] = ["fx", "fy", "cx", "cy", "tilt x", "tilt y"];
