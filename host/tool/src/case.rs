@@ -17,8 +17,10 @@ use crate::stop::Stopper;
 use crate::table::{self, Record};
 use crate::verdict::{self, Point};
 use crate::views::Plate;
-use jinnychair::journal::{JournalWriter, Line, StoredInputs, Views};
-use jinnychair::{FxFyCxCy, Inputs, Options, Progress, RunError, Seed, Winner};
+use jinnychair::journal::{
+    JournalFileError, JournalWriter, Line, StoredInputs, Views, inputs_path,
+};
+use jinnychair::{FxFyCxCy, Inputs, Options, Progress, Pt2, RunError, Search, Seed, Winner};
 use std::io::IsTerminal;
 use std::ops::ControlFlow;
 use std::path::Path;
@@ -30,6 +32,7 @@ pub struct Case {
     host: Host,
     is_guessed: bool,
     base: FxFyCxCy,
+    center: Pt2,
     choices: Choices,
     options: Options,
     seeds: Vec<(Source, Seed)>,
@@ -75,12 +78,70 @@ impl Case {
         let base = host.base().ok_or_else(nothing)?;
         let options = choices.options();
         let seeds = seeds(&host, choices, base, &options, screen)?;
-        let (plan, choices) = (Plan::new(&options, &seeds), choices.clone());
-        let about = Record::default();
-        let mut case =
-            Self { input, views, host, is_guessed, base, choices, options, seeds, plan, about };
+        let mut case = Self {
+            is_guessed,
+            base,
+            center: host.observed_centre(),
+            choices: choices.clone(),
+            plan: Plan::new(&options, &seeds),
+            about: Record::default(),
+            input,
+            views,
+            host,
+            options,
+            seeds,
+        };
         case.about = case.asked();
         Ok(case)
+    }
+
+    /// The search that a journal's inputs began, with its views found again; `input` names them in words. All that the
+    /// search started from is as it was, bit by bit.
+    ///
+    /// # Errors
+    ///
+    /// Says why the views or the notes beside the inputs aren't taken.
+    pub fn of_inputs(
+        stored: &StoredInputs,
+        (mut plate, input): (Plate, String),
+        minutes: Option<f64>,
+    ) -> Result<Self, String> {
+        let choices = Choices { minutes, ..journal::choices(stored)? };
+        plate.centre = choices.centre.or(plate.centre);
+        let (is_guessed, views) = (plate.centre.is_none(), plate.views.len());
+        if views != stored.views {
+            let began = stored.views;
+            return Err(format!("{input}: {views} views, and the search began with {began}"));
+        }
+        let host = Host::new(plate).map_err(|fault| format!("{input}: {fault}"))?;
+        let sources = journal::sources(stored);
+        let seeds: Vec<_> = sources.into_iter().zip(stored.decomposition.iter().copied()).collect();
+        let mut about = journal::about(stored);
+        if stored.library != library_version() {
+            about.add("resumed", &format!("with jinnychair {}", library_version()));
+        }
+        Ok(Self {
+            input,
+            views: stored.plate.clone(),
+            host,
+            is_guessed,
+            base: stored.base,
+            center: stored.center,
+            choices,
+            plan: Plan::new(&stored.options, &seeds),
+            options: stored.options.clone(),
+            seeds,
+            about,
+        })
+    }
+
+    /// Whether this program works out from the views what the search began with. Another version or another computer may
+    /// not, in the last bits; what it finds for a seed may then differ as well.
+    #[must_use]
+    pub fn is_as_begun(&self) -> bool {
+        let bits = |k: FxFyCxCy, c: Pt2| [k.fx, k.fy, k.cx, k.cy, c.x, c.y].map(f64::to_bits);
+        let again = self.host.base().map(|base| bits(base, self.host.observed_centre()));
+        again == Some(bits(self.base, self.center))
     }
 
     /// What will be tried.
@@ -95,8 +156,8 @@ impl Case {
     }
 
     fn inputs<'a>(&'a self, decomposition: &'a [Seed]) -> Inputs<'a> {
-        let (views, center) = (self.host.plate().views.len(), self.host.observed_centre());
-        Inputs { views, options: &self.options, decomposition, base: self.base, center }
+        let (views, base, center) = (self.host.plate().views.len(), self.base, self.center);
+        Inputs { views, options: &self.options, decomposition, base, center }
     }
 
     /// Begins a journal, with what the search starts from beside it.
@@ -106,7 +167,7 @@ impl Case {
         let date = self.about.about("date").unwrap_or_default();
         let mut stored = StoredInputs::new(&inputs, self.views.clone(), date);
         journal::add_notes(&mut stored, &self.about, &sources, &self.choices);
-        JournalWriter::create(path, &stored).map_err(|error| error.to_string())
+        JournalWriter::create(path, &stored).map_err(|error| not_begun(&error))
     }
 
     /// Searches; a journal is begun once it is known that the search can start.
@@ -115,14 +176,50 @@ impl Case {
     ///
     /// Says why the search can't start, or why the journal can't be written.
     pub fn search(&self, journal: Option<&Path>) -> Result<Finished, String> {
+        let search = drive::start(&self.inputs(&self.sources_and_seeds().1))?;
+        let journal = journal.map(|path| self.begin_journal(path)).transpose()?;
+        self.run(search, vec![], journal)
+    }
+
+    /// Goes on with a search behind the lines of its journal.
+    ///
+    /// # Errors
+    ///
+    /// Says why the journal can't be written.
+    pub fn go_on(
+        &self,
+        search: Search,
+        lines: &[Line],
+        journal: JournalWriter,
+    ) -> Result<Finished, String> {
+        self.run(search, self.tried(lines), Some(journal))
+    }
+
+    /// The tilts of a journal's lines, with what only the views tell.
+    #[must_use]
+    pub fn tried(&self, lines: &[Line]) -> Vec<Tried> {
         let (sources, decomposition) = self.sources_and_seeds();
-        let search = drive::start(&self.inputs(&decomposition))?;
-        let mut journal = journal.map(|path| self.begin_journal(path)).transpose()?;
+        let mut tried = drive::of_lines(lines, (&decomposition, &sources));
+        for one in &mut tried {
+            if let Some(solution) = self.host.solve(&one.seed) {
+                drive::complete(one, &solution);
+            }
+        }
+        tried
+    }
+
+    fn run(
+        &self,
+        search: Search,
+        tried: Vec<Tried>,
+        mut journal: Option<JournalWriter>,
+    ) -> Result<Finished, String> {
+        let (sources, decomposition) = self.sources_and_seeds();
         let keep = |line: &Line| match &mut journal {
             Some(journal) => journal.write(line).map_err(|error| error.to_string()),
             None => Ok(()),
         };
-        let mut bar = Bar::new(&self.options, std::io::stderr().is_terminal());
+        let mut bar = Bar::new(&self.options, &tried, std::io::stderr().is_terminal());
         let mut stopper = Stopper::new(self.choices.minutes);
         if stopper.hears_enter() {
             aside("Enter stops the search after the tilt that is being tried.\n");
@@ -131,7 +228,7 @@ impl Case {
             bar.show(one, before);
             stopper.asks().map_or(ControlFlow::Continue(()), ControlFlow::Break)
         };
-        let given = (&decomposition[..], &sources[..]);
+        let (search, given) = ((search, tried), (&decomposition[..], &sources[..]));
         let finished = drive::go_on(search, given, |seed| self.host.solve(seed), keep, watch)?;
         bar.end(finished.tried.len());
         Ok(finished)
@@ -216,8 +313,7 @@ impl Case {
     /// What was asked, for table, chart and inputs; the date is that of the search's begin.
     fn asked(&self) -> Record {
         let mut record = Record::default();
-        let [_, major, minor, patch] = jinnychair::VERSION.to_be_bytes();
-        record.add("library", &format!("jinnychair {major}.{minor}.{patch}"));
+        record.add("library", &format!("jinnychair {}", library_version()));
         record.add("date", &now());
         record.add(
             "input",
@@ -252,6 +348,29 @@ impl Case {
             options.refine_rounds,
             if self.seeds.len() > own { "decomposition seed" } else { "no decomposition seed" },
             if own > 0 { format!("; {own} seeds of a file") } else { String::new() }
+        )
+    }
+}
+
+/// The version of the library, as inputs have it.
+#[must_use]
+pub fn library_version() -> String {
+    let [_, major, minor, patch] = jinnychair::VERSION.to_be_bytes();
+    format!("{major}.{minor}.{patch}")
+}
+
+/// Why a journal isn't begun, and what to do.
+fn not_begun(error: &JournalFileError) -> String {
+    let JournalFileError::Exists(path) = error else { return error.to_string() };
+    let name = path.display();
+    if inputs_path(path).exists() {
+        format!(
+            "{name}: there is a journal of this name, and no journal is written over. `jinnychair resume {name}` goes on \
+             with it; or name another with --journal"
+        )
+    } else {
+        format!(
+            "{name}: there is a file of this name, without the inputs of a search beside it. Name another with --journal"
         )
     }
 }

@@ -5,6 +5,7 @@ mod compare;
 mod known_camera;
 mod replay;
 mod report;
+mod resume;
 mod search;
 mod show;
 
@@ -51,6 +52,7 @@ struct Command {
 
 const COMMANDS: &[Command] = &[
     search::COMMAND,
+    resume::COMMAND,
     report::COMMAND,
     show::COMMAND,
     chart::COMMAND,

@@ -163,9 +163,20 @@ pub fn sources(inputs: &StoredInputs) -> Vec<Source> {
     (0..all).map(source).collect()
 }
 
-/// The record of a journal, as a chart is drawn from it.
+/// The choices that the search's host needs again.
+///
+/// # Errors
+///
+/// Says which of them this version doesn't know.
+pub fn choices(inputs: &StoredInputs) -> Result<Choices, String> {
+    let lines = inputs.notes.iter().filter(|note| note.0 == CHOICE).map(|note| note.1.as_str());
+    Choices::parse(&lines.collect::<Vec<_>>().join("\n"))
+        .map_err(|fault| format!("a `choice` of its notes can't be taken: {fault}"))
+}
+
+/// What the search was asked, as table and chart have it.
 #[must_use]
-pub fn record(inputs: &StoredInputs, lines: &[Line]) -> Record {
+pub fn about(inputs: &StoredInputs) -> Record {
     let mut record = Record::default();
     for (name, text) in &inputs.notes {
         if let Some(name) = name.strip_prefix(ABOUT) {
@@ -175,6 +186,13 @@ pub fn record(inputs: &StoredInputs, lines: &[Line]) -> Record {
     if record.about("bound_rad").is_none() {
         record.add("bound_rad", &inputs.options.max_abs_tilt.to_string());
     }
+    record
+}
+
+/// The record of a journal, as a chart is drawn from it.
+#[must_use]
+pub fn record(inputs: &StoredInputs, lines: &[Line]) -> Record {
+    let mut record = about(inputs);
     record.tried = of_lines(lines, (&inputs.decomposition, &sources(inputs)));
     record
 }

@@ -4,7 +4,7 @@
 //! |---|---|
 //! | [`commands`] | the sub-commands, their words and what they end with |
 //! | [`choices`] | what a lab chooses: tilts, bound, step, rounds, seeds, limits |
-//! | [`case`] | a search with all that it starts from: run, and judged |
+//! | [`case`] | a search with all that it starts from: run, gone on with, and judged |
 //! | [`plan`] | what will be tried and what can be missed, told before the search |
 //! | [`views`] | reads the views of a plate from a text file |
 //! | [`synthetic`] | makes views of a plate seen by a known camera |
@@ -18,6 +18,7 @@
 //! | [`stop`] | stops it after some minutes, or by Enter |
 //! | [`journal`] | reads a journal, and what stands beside it |
 //! | [`compare`] | where two journals part |
+//! | [`again`] | finds the views of a search that began earlier |
 //! | [`residuals`] | the errors, dot by dot and view by view |
 //! | [`open`] | how far the winner's tilts are left open |
 //! | [`verdict`] | what speaks against the winner, and what to do |
@@ -25,6 +26,7 @@
 //! | [`table`], [`chart`] | the search as text, and as a picture drawn from that |
 //! | [`files`], [`screen`], [`date`], [`angle`] | files, standard output, the date, angles with their unit |
 
+pub mod again;
 pub mod angle;
 pub mod case;
 pub mod chart;

@@ -53,11 +53,12 @@ fn views_are_named_with_their_checksum() {
 fn no_journal_is_written_over() {
     let here = searched("journal-kept");
     let before = file(here.join("night"));
-    let told = "night: there is a journal of this name";
-    assert_said(&here, &small(&["--journal=night", "--rounds=1"][..1]), 1, &[told]);
+    let told = "night: there is a journal of this name, and no journal is written over. `jinnychair resume night` goes on";
+    assert_said(&here, &small(&["--journal=night"]), 1, &[told, "or name another with --journal"]);
     assert_eq!(file(here.join("night")), before);
     fs::write(here.join("views.txt"), BUILT_IN.plate().text()).unwrap();
-    assert_said(&here, &small(&["--journal=views.txt"]), 1, &["views.txt: there is a journal"]);
+    let told = "views.txt: there is a file of this name, without the inputs of a search beside it";
+    assert_said(&here, &small(&["--journal=views.txt"]), 1, &[told]);
     assert!(!here.join("views.txt.inputs").exists());
     // Inputs of a journal that was moved away.
     fs::rename(here.join("night"), here.join("moved")).unwrap();

@@ -44,6 +44,10 @@ fn run(words: Words, screen: &mut Screen) -> Result<End, Fault> {
         }
         Replayed::Unfinished(next) => {
             screen.say(unfinished(&inputs, &journal.lines, &next));
+            screen.say(format!(
+                "to do           `jinnychair resume {}` goes on with it",
+                path.display()
+            ));
             Ok(End::Doubtful)
         }
     }
@@ -93,7 +97,8 @@ fn fault(
             format!("{}: no search can start from them: {error}", beside.display())
         }
         ReplayError::NotALine { line } if journal.ending == Ending::Cut(line) => format!(
-            "{name}: line {line} has no end (29): it was cut off, or is being written. The lines before it are good"
+            "{name}: line {line} has no end (29): it was cut off, or is being written. The lines before it are good: \
+             `jinnychair resume {name}` goes on behind them"
         ),
         ReplayError::NotTheRun { line } => {
             let refusal = LineRefusal::NotTheRun;

@@ -2,13 +2,13 @@
 //! table and a chart.
 
 use super::{Command, End, Fault, Word, Words, unknown};
-use crate::angle::degrees;
 use crate::case::Case;
 use crate::chart::{self, chart};
 use crate::choices::Choices;
+use crate::drive::Finished;
 use crate::files::{check_free, read, read_with_checksum, with_ending, write};
 use crate::screen::Screen;
-use crate::synthetic::BUILT_IN;
+use crate::synthetic::{BUILT_IN, built_in_text};
 use crate::table::{self, Record};
 use crate::views::{self, Plate};
 use jinnychair::journal::Views;
@@ -78,14 +78,6 @@ impl Asked {
         Ok(())
     }
 
-    /// The names of table and chart: nothing of the given name is cut off but an ending that is added again.
-    fn outputs(&self) -> [PathBuf; 2] {
-        let name = self.out.clone().unwrap_or("tilts".into());
-        let is_ending = name.extension().is_some_and(|ending| ending == "csv" || ending == "svg");
-        let name = if is_ending { name.with_extension("") } else { name };
-        [with_ending(&name, ".csv"), with_ending(&name, ".svg")]
-    }
-
     fn inputs(&self) -> Vec<&Path> {
         let all = [&self.views, &self.choices_file, &self.choices.seeds];
         all.into_iter().flatten().map(PathBuf::as_path).collect()
@@ -100,32 +92,51 @@ fn run(words: Words, screen: &mut Screen) -> Result<End, Fault> {
         screen.say(format!("written: {}", path.display()));
         return Ok(End::Good);
     }
-    let [csv, svg] = asked.outputs();
+    let [csv, svg] = outputs(asked.out.as_deref());
     check_free(&csv, &asked.inputs(), table::HEAD)?;
     check_free(&svg, &asked.inputs(), chart::HEAD)?;
     let journal = asked.journal.as_deref();
-    journal.map_or(Ok(()), |path| check_journal(path, [&csv, &svg]))?;
+    journal.map_or(Ok(()), |path| {
+        check_journal(path, [&csv, &svg]).map_err(|text| Fault::Usage(format!("--journal: {text}")))
+    })?;
     let (plate, from) = plate(&asked)?;
     let case = Case::new(plate, from, &asked.choices, screen)?;
     screen.say(case.plan().text());
     let finished = case.search(journal)?;
+    conclude(&case, finished, journal, [&csv, &svg], screen)
+}
+
+/// The names of table and chart: nothing of the given name is cut off but an ending that is added again.
+pub(super) fn outputs(name: Option<&Path>) -> [PathBuf; 2] {
+    let name = name.unwrap_or(Path::new("tilts"));
+    let is_ending = name.extension().is_some_and(|ending| ending == "csv" || ending == "svg");
+    let name = if is_ending { name.with_extension("") } else { name.into() };
+    [with_ending(&name, ".csv"), with_ending(&name, ".svg")]
+}
+
+/// Shows how a search ended, and writes table and chart.
+pub(super) fn conclude(
+    case: &Case,
+    finished: Finished,
+    journal: Option<&Path>,
+    [csv, svg]: [&Path; 2],
+    screen: &mut Screen,
+) -> Result<End, Fault> {
     if let Some(path) = journal {
         screen.say(format!("journal         {}, {} lines", path.display(), finished.tried.len()));
     }
     let (record, against) = case.show(finished, screen);
-    save(&record, &csv, &svg, screen)?;
+    save(&record, csv, svg, screen)?;
     let against = against?;
     Ok(if against.is_empty() { End::Good } else { End::Doubtful })
 }
 
 /// Table and chart would be written over a journal of the same name.
-fn check_journal(journal: &Path, outputs: [&Path; 2]) -> Result<(), Fault> {
+pub(super) fn check_journal(journal: &Path, outputs: [&Path; 2]) -> Result<(), String> {
     let full = |path: &Path| std::path::absolute(path).unwrap_or(path.into());
     if outputs.iter().any(|output| full(output) == full(journal)) {
         let name = journal.display();
-        return Err(Fault::Usage(format!(
-            "--journal: {name} is the table's or the chart's name. Name another"
-        )));
+        return Err(format!("{name} is the table's or the chart's name. Name another"));
     }
     Ok(())
 }
@@ -145,7 +156,7 @@ fn save(record: &Record, csv: &Path, svg: &Path, screen: &mut Screen) -> Result<
 /// The views, where they come from, and what they are in words.
 fn plate(asked: &Asked) -> Result<(Plate, (Views, String)), Fault> {
     let (mut plate, from, input) = match &asked.views {
-        None => (BUILT_IN.plate(), Views::BuiltIn, built_in()),
+        None => (BUILT_IN.plate(), Views::BuiltIn, built_in_text()),
         Some(path) => {
             let fault = |fault: views::ViewsError| format!("{}: {fault}", path.display());
             let (text, sha256) = read_with_checksum(path)?;
@@ -166,9 +177,4 @@ fn plate(asked: &Asked) -> Result<(Plate, (Views, String)), Fault> {
         }
         _ => Ok((plate, (from, input))),
     }
-}
-
-fn built_in() -> String {
-    let [x, y] = [BUILT_IN.sensor.tilt_x, BUILT_IN.sensor.tilt_y].map(degrees);
-    format!("the built-in plate (planted tilts {x}° {y}°, noise {} px)", BUILT_IN.noise)
 }
