@@ -360,6 +360,33 @@ static void resume(void) {
     claim(r.number == JC_TILT_TOO_LARGE && r.lines + r.kept + r.dropped == 0 && r.run.place.demand == 0 && list[0] == 7, "Start's refusals leave the list");
 }
 
+static jc_best_record best_of(uint8_t found, size_t number, double score) {
+    jc_best_record best;
+    memset(&best, 0, sizeof best);
+    best.found = found;
+    best.candidate.number = number;
+    best.candidate.score = score;
+    return best;
+}
+
+static void winners(void) {
+    jc_best_record none = best_of(0, 9, 0.25), two = best_of(1, 2, 0.5), five = best_of(7, 5, 0.5), lost = best_of(1, 1, NAN);
+    claim(jc_winner(two, five).candidate.number == 2 && jc_winner(five, two).candidate.number == 5, "the first of equal ones wins");
+    claim(jc_winner(two, best_of(1, 6, 0.25)).candidate.number == 6, "the lower one wins");
+    claim(jc_winner(none, two).candidate.number == 2 && jc_winner(two, none).candidate.number == 2, "none is left out");
+    claim(jc_winner(none, none).found == 0 && jc_winner(none, none).candidate.number == 0, "none of none");
+    claim(jc_winner(lost, five).candidate.number == 5 && jc_winner(five, lost).found == 1, "a score that isn't a number never wins");
+    claim(jc_winner(lost, lost).found == 0, "and isn't one");
+
+    const journaled j = searched();
+    jc_best_record won = none;
+    for (size_t i = 0; i < 5; i++) {
+        jc_line line = jc_read_line(j.bytes, j.len, j.ends[i]).line;
+        won = jc_winner(won, best_of(1, line.number, line.score));
+    }
+    claim(won.candidate.number == jc_result(j.run).candidate.number, "over all lines it is the run's winner");
+}
+
 /* Each limit is taken, and one more is refused. */
 static void limits(void) {
     static double list[JC_MOST_LIST], numbers[JC_ROW_NUMBERS * (JC_MOST_ROWS + 1)];
@@ -408,6 +435,7 @@ int main(void) {
     changed_camera();
     resume();
     power_loss();
+    winners();
     stop();
     limits();
     if (!failed) printf("the header's words hold\n");

@@ -7,7 +7,7 @@ use crate::record_words::*;
 use crate::replays::{self, ReplayTally};
 use crate::reports;
 use crate::resumes::{self, ResumeTally};
-use crate::unsound;
+use crate::{unsound, winners};
 use book::{Book, Inputs};
 use jinnychair::record::{Run, answer, counts, next, progress, result, seed, start, stop};
 use jinnychair::{Handed, Outcome, SkipReason};
@@ -112,6 +112,7 @@ pub fn play(mut inputs: Inputs, random: &mut Random, tally: &mut Tally) -> Resul
         tally.results[usize::from(pair.book.run_best().is_none())] += 1;
     }
     reports::compare_run(&pair.run, &pair.book, &pair.journal)?;
+    winners::compare_run(&pair, random)?;
     lines::reread(&pair.journal, random, &mut tally.lines)?;
     if random.once_in(4) {
         replays::compare_run(&pair, random, &mut tally.replays)?;

@@ -10,3 +10,4 @@ pub mod replays;
 pub mod reports;
 pub mod resumes;
 pub mod unsound;
+pub mod winners;

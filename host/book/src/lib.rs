@@ -9,6 +9,7 @@ mod pages;
 mod replay;
 mod resume;
 mod seeds;
+mod stretches;
 
 pub use counts::{Counts, write_report};
 pub use journal::{Reading, read_line, write_line};
@@ -17,3 +18,4 @@ pub use pages::{Answered, Book, Entry, Handed, Progress, Stopped, Winner};
 pub use replay::{Replayed, replay};
 pub use resume::{EndedBy, Resumed, resume};
 pub use seeds::{Inputs, Seed};
+pub use stretches::{stretch_winner, winner_of};

@@ -5,7 +5,7 @@
 use beside::calls::{Tally, play};
 use beside::inputs::{on_one_axis, share};
 use beside::lines::{LineTally, write_and_read};
-use beside::reports;
+use beside::{reports, winners};
 use compare::blocks;
 use compare::library::answer_words;
 use oracle::generate::{Endless, endless};
@@ -52,6 +52,7 @@ fn main() -> ExitCode {
     compare_with_book(searches, seed, &mut differences);
     compare_lines(each, seed, &mut differences);
     compare_reports(each, seed, &mut differences);
+    compare_winners(each, seed, &mut differences);
     println!("{} differences", differences.count);
     if differences.count == 0 { ExitCode::SUCCESS } else { ExitCode::FAILURE }
 }
@@ -192,4 +193,17 @@ fn compare_reports(count: usize, seed: &str, differences: &mut Differences) {
         }
     }
     println!("{:28}{} written, {} refused", "reports", written[1], written[0]);
+}
+
+/// Winners of any two records.
+fn compare_winners(count: usize, seed: &str, differences: &mut Differences) {
+    let mut random = Random::named(&format!("winners, {seed}"));
+    let mut found = [0; 2];
+    for _ in 0..count {
+        match winners::compare_drawn(&mut random) {
+            Ok(is_found) => found[usize::from(is_found)] += 1,
+            Err(fault) => differences.add(&fault),
+        }
+    }
+    println!("{:28}{} found, {} times none", "winners of two", found[1], found[0]);
 }

@@ -6,7 +6,8 @@
 //! [`JournalWriter::resume`] goes on with the search from both.
 //!
 //! A journal and its inputs tell of a run without its host: [`replay`] gives the winner, or says which line isn't the run's, and
-//! [`what_differs`] why; [`crate::Counts::of`] and [`write_report`] make the morning report.
+//! [`what_differs`] why; [`crate::Counts::of`] and [`write_report`] make the morning report; [`stretch_winner`] and [`round_winners`]
+//! give the winners of its parts.
 //!
 //! ```
 //! use jinnychair::{journal, *};
@@ -40,6 +41,7 @@ mod line;
 mod replay;
 mod report;
 mod resume;
+mod stretches;
 mod writer;
 
 pub use checksum::sha256;
@@ -48,4 +50,5 @@ pub use line::{JournalError, Line, Lines, Recorded, ScoredFields, lines, read_li
 pub use replay::{Difference, Replayed, replay, what_differs};
 pub use report::write_report;
 pub use resume::{EndedBy, ResumeReport, Resumed};
+pub use stretches::{round_winners, stretch_winner};
 pub use writer::{JournalFileError, JournalWriter, JournaledRunError, ResumedJournal};

@@ -34,7 +34,8 @@
 //!
 //! [`Search::run_watched`] also shows each tried seed, with how far the search has come, and [`Search::run_until`] can be stopped
 //! between two answers. [`Search::next`], [`Search::answer`], [`Search::progress`] and [`Search::stop`] are for a host with a
-//! loop of its own. [`Search::counts`] is for the morning report. Angles are in radians, pixels and focal lengths in pixels.
+//! loop of its own. [`Search::counts`] is for the morning report, [`winner`] for who looks at a run in stretches. Angles are in
+//! radians, pixels and focal lengths in pixels.
 //!
 //! # What is assumed of the machine
 //!
@@ -55,6 +56,7 @@ pub mod record;
 mod search;
 mod types;
 mod version;
+mod winner;
 
 pub use error::{
     AnswerError, ConicError, CountError, LineRefusal, NextError, NormalizeError, PlateError,
@@ -70,3 +72,4 @@ pub use types::{
     BrownConrady5, FxFyCxCy, PinholeCamera, Pt2, ScheimpflugParams, Seed, TiltTrig, Winner,
 };
 pub use version::{VERSION, VersionError, check_version};
+pub use winner::winner;

@@ -289,6 +289,7 @@ unsafe extern "C" {
     safe fn jc_result(run: Run) -> ResultReply;
     pub(crate) safe fn jc_progress(run: Run) -> Progress;
     pub(crate) safe fn jc_counts(run: Run) -> Counts;
+    pub(crate) safe fn jc_winner(first: Best, second: Best) -> Best;
     fn jc_stop(run: Run, list: *const f64, list_len: usize) -> StopReply;
 }
 

@@ -324,3 +324,10 @@ pub fn resume(
     let (lines, kept, dropped) = (reply.lines, reply.kept, reply.dropped);
     Ok((reply.run, ResumeReport { lines, kept, dropped, ended_by }))
 }
+
+/// The better of two bests, the first one where their scores are equal; one that isn't found, or whose score isn't a number, counts
+/// as none.
+#[must_use]
+pub fn winner(first: Best, second: Best) -> Best {
+    raw::jc_winner(first, second)
+}
