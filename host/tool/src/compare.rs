@@ -1,11 +1,11 @@
 //! Where two journals part: in what their searches started from, in their seeds, outcomes, scores and cameras, and in
 //! their winners.
 
-use crate::angle::degrees;
 use crate::journal::is_same_seed;
+use crate::stretches::winner_text;
 use crate::table::letter;
-use jinnychair::Outcome;
-use jinnychair::journal::{Line, Recorded, ScoredFields, StoredInputs};
+use jinnychair::Winner;
+use jinnychair::journal::{Line, Recorded, ScoredFields, StoredInputs, stretch_winner};
 
 /// What was found, line by line in words, and whether anything differs.
 #[derive(Clone, Debug, Default, PartialEq, Eq)]
@@ -182,23 +182,11 @@ fn differing(a: &[f64], b: &[f64], names: &[&str]) -> [String; 2] {
 
 /// Compares the winners; where a run isn't over, its best so far.
 pub fn winners(a: &[Line], b: &[Line], found: &mut Comparison) {
-    let best = |lines: &[Line]| {
-        let scored = lines.iter().filter_map(|line| Some((*line, line.outcome().score()?)));
-        scored.reduce(|best, new| if new.1 < best.1 { new } else { best })
+    let (a, b) = (stretch_winner(a), stretch_winner(b));
+    let text = |won: &Option<Winner>| {
+        won.map_or("none".into(), |won| format!("{} ({:?})", winner_text(&won), won.score))
     };
-    let text = |won: &Option<(Line, f64)>| {
-        won.map_or("none".into(), |(line, score)| {
-            let [x, y] = [line.seed.sensor.tilt_x, line.seed.sensor.tilt_y].map(degrees);
-            format!("no. {} with {score:?} at {x}° {y}°", line.number)
-        })
-    };
-    let (a, b) = (best(a), best(b));
-    let outcome = |won: &Option<(Line, f64)>| {
-        won.map(|(line, score)| {
-            (line.number, line.seed.numbers().map(f64::to_bits), Outcome::Scored(score))
-        })
-    };
-    if outcome(&a) == outcome(&b) {
+    if a == b {
         found.say("winners", &format!("the same: {}", text(&a)));
     } else {
         found.say("winners", &format!("{}, and {}", text(&a), text(&b)));

@@ -17,6 +17,7 @@
 //! | [`progress`] | how far the search has come, and the time left |
 //! | [`stop`] | stops it after some minutes, or by Enter |
 //! | [`journal`] | reads a journal, and what stands beside it |
+//! | [`stretches`] | winners of a journal's stretches and rounds |
 //! | [`compare`] | where two journals part |
 //! | [`again`] | finds the views of a search that began earlier |
 //! | [`residuals`] | the errors, dot by dot and view by view |
@@ -48,6 +49,7 @@ pub mod residuals;
 pub mod screen;
 pub mod solve;
 pub mod stop;
+pub mod stretches;
 pub mod synthetic;
 pub mod table;
 pub mod verdict;

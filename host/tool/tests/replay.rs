@@ -73,13 +73,13 @@ fn what_is_left_of_a_run_is_told() {
         write_journal(&here.join("night"), &lines[..kept]);
         let sensor = lines[kept].seed.sensor;
         let [x, y] = [sensor.tilt_x, sensor.tilt_y].map(tool::angle::degrees);
-        let next = format!("next            candidate {kept} at {x}° {y}°\n");
+        let next = format!("next            no. {kept} at {x}° {y}°\n");
         let best = lines[..kept].iter().min_by(|a, b| {
             let [a, b] = [a, b].map(|line| line.outcome().score().unwrap());
             a.total_cmp(&b)
         });
         let best = best.map_or("nothing is scored yet".into(), |line| {
-            format!("best so far     candidate {}, score 0.07", line.number)
+            format!("best so far     no. {}, score 0.07", line.number)
         });
         assert_said(
             &here,

@@ -5,7 +5,7 @@ mod common;
 
 use common::{assert_said, file, folder, said, searched, small, write_journal};
 use jinnychair::SkipReason;
-use jinnychair::journal::Recorded;
+use jinnychair::journal::{Line, Recorded};
 use std::fs;
 use tool::journal::Journal;
 
@@ -92,4 +92,74 @@ fn what_is_strange_about_a_journal_is_told_behind_its_report() {
     // None are needed.
     fs::remove_file(here.join("night.inputs")).unwrap();
     said(&here, &["report", "night"], 0);
+}
+
+/// The winner in words, by hand: the earliest of the lowest.
+fn winner(lines: &[Line]) -> String {
+    let mut best: Option<(&Line, f64)> = None;
+    for line in lines {
+        if let Some(score) = line.outcome().score() {
+            if best.is_none_or(|(_, lowest)| score < lowest) {
+                best = Some((line, score));
+            }
+        }
+    }
+    let (line, score) = best.unwrap();
+    let [x, y] = [line.seed.sensor.tilt_x, line.seed.sensor.tilt_y].map(tool::angle::degrees);
+    format!("no. {}, score {score:.5} at {x}° {y}°\n", line.number)
+}
+
+#[test]
+fn winners_of_stretches_and_rounds_are_told_and_the_winner_of_those() {
+    let here = searched("report-stretches");
+    let mut lines = Journal::read(&here.join("night")).unwrap().lines;
+    // Equal scores, and lines of which none was scored.
+    let best = lines.iter().map(|line| line.outcome().score().unwrap()).fold(f64::MAX, f64::min);
+    for (i, line) in lines.iter_mut().enumerate() {
+        match &mut line.outcome {
+            _ if (20..30).contains(&i) => {
+                line.outcome = Recorded::Skipped(SkipReason::HostFailed);
+            }
+            Recorded::Scored(fields) if [9, 12, 40].contains(&i) => fields.score = best,
+            _ => {}
+        }
+    }
+    write_journal(&here.join("night"), &lines);
+    let all = winner(&lines);
+    let text = said(&here, &["report", "night", "--stretches=1-9,10-20,21-30,31-52,60-70"], 0);
+    for expected in [
+        format!("winners of stretches\n  lines 1 to 9    {}", winner(&lines[..9])),
+        format!("\n  lines 10 to 20  {}", winner(&lines[9..20])),
+        "\n  lines 21 to 30  none: no tilt in it was scored\n".into(),
+        format!("\n  lines 31 to 52  {}", winner(&lines[30..])),
+        "\n  lines 60 to 70  none: the journal has 52 lines\n".into(),
+        format!("\n  all of these    {all}winners of rounds\n  round 0         "),
+        format!("\n  round 5         {}", winner(&lines[43..])),
+    ] {
+        assert!(text.contains(&expected), "{expected}\n{text}");
+    }
+    assert!(text.ends_with(&format!("\n  all of these    {all}")), "{text}");
+    assert!(!text.contains("in no stretch"), "{text}");
+    // However it is cut, ties included.
+    for cut in ["1-52", "1-10,11-11,12-52", "1-5,6-41,42-60", "1-9,10,11-12,13,14-40,41-52"] {
+        let text = said(&here, &["report", "night", "--stretches", cut], 0);
+        assert_eq!(text.matches(&format!("\n  all of these    {all}")).count(), 2, "{text}");
+    }
+    let text = said(&here, &["report", "night", "--stretches=5-8,12-40"], 0);
+    for gap in ["lines 1 to 4", "lines 9 to 11", "lines 41 to 52"] {
+        assert!(text.contains(&format!("\n  left out        {gap}: in no stretch\n")), "{text}");
+    }
+    fs::write(here.join("night"), "").unwrap();
+    let told = [
+        "  lines 1 to 2    none: the journal has 0 lines",
+        "  all of these    none: nothing was scored",
+    ];
+    assert_said(&here, &["report", "night", "--stretches=1-2"], 0, &told);
+    for (stretches, fault) in [
+        ("--stretches=3-1", "--stretches: `3-1` isn't a stretch: write its first and last line"),
+        ("--stretches=1-5,5-9", "--stretches: `5-9` doesn't lie behind the stretch before it"),
+        ("--stretches", "--stretches lacks a value"),
+    ] {
+        assert_said(&here, &["report", "night", stretches], 2, &[fault]);
+    }
 }

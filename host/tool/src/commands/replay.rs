@@ -2,10 +2,12 @@
 
 use super::{Command, End, Fault, Words, only_file};
 use crate::angle::degrees;
-use crate::drive::best;
-use crate::journal::{Ending, Journal, read_bytes, read_inputs, record};
+use crate::journal::{Ending, Journal, read_bytes, read_inputs};
 use crate::screen::Screen;
-use jinnychair::journal::{Line, Replayed, StoredInputs, inputs_path, replay, what_differs};
+use crate::stretches::winner_text;
+use jinnychair::journal::{
+    Line, Replayed, StoredInputs, inputs_path, replay, stretch_winner, what_differs,
+};
 use jinnychair::{LineRefusal, ReplayError, ResultError, Seed};
 use std::path::Path;
 
@@ -43,7 +45,7 @@ fn run(words: Words, screen: &mut Screen) -> Result<End, Fault> {
             Err(Fault::Failed(format!("{}: no winner: {cause}", path.display())))
         }
         Replayed::Unfinished(next) => {
-            screen.say(unfinished(&inputs, &journal.lines, &next));
+            screen.say(unfinished(&journal.lines, &next));
             screen.say(format!(
                 "to do           `jinnychair resume {}` goes on with it",
                 path.display()
@@ -68,18 +70,14 @@ fn winner(number: usize, score: f64, lines: &[Line]) -> Result<String, String> {
 }
 
 /// What is left of a run that isn't over.
-fn unfinished(inputs: &StoredInputs, lines: &[Line], next: &Seed) -> String {
-    let at =
-        |seed: &Seed| format!("{}° {}°", degrees(seed.sensor.tilt_x), degrees(seed.sensor.tilt_y));
-    let tried = record(inputs, lines).tried;
-    let so_far = best(&tried).map_or("nothing is scored yet".into(), |one| {
-        let score = one.outcome.score().unwrap_or(f64::NAN);
-        format!("candidate {}, score {score:.5} at {}", one.number, at(&one.seed))
-    });
+fn unfinished(lines: &[Line], next: &Seed) -> String {
+    let [x, y] = [next.sensor.tilt_x, next.sensor.tilt_y].map(degrees);
+    let best = stretch_winner(lines);
+    let best = best.map_or("nothing is scored yet".into(), |best| winner_text(&best));
     [
         "unfinished      the journal ends before the run is over".into(),
-        format!("next            candidate {} at {}", lines.len(), at(next)),
-        format!("best so far     {so_far}"),
+        format!("next            no. {} at {x}° {y}°", lines.len()),
+        format!("best so far     {best}"),
     ]
     .join("\n")
 }
