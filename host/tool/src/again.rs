@@ -27,11 +27,7 @@ pub fn plate(
         };
     };
     let path = given.map_or_else(|| named(name, journal), Path::to_owned);
-    let missing = |fault: String| match given {
-        None => format!("{fault}; or name the views' file behind the journal"),
-        Some(_) => fault,
-    };
-    let (text, found) = read_with_checksum(&path).map_err(missing)?;
+    let (text, found) = read_with_checksum(&path)?;
     if found != *sha256 {
         return Err(format!(
             "{}: these aren't the views that the search began with: their SHA-256 is {found}, and {} has {sha256}. \

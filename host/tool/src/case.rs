@@ -301,11 +301,12 @@ impl Case {
         let against = [
             stop.map(verdict::of_stop).into_iter().collect(),
             verdict::of_centre(self.host.held_centre(), self.is_guessed, middle, half),
-            verdict::of_plan(&self.plan, &self.options),
+            verdict::of_plan(&self.plan),
             verdict::of_search(finished, winner, &self.options, apart),
             verdict::of_held(&open).into_iter().collect(),
             verdict::of_fit(&self.host, &fit),
             verdict::of_limits(winner, &open, self.choices.limits()),
+            verdict::of_noise(&open).into_iter().collect(),
         ];
         Ok(Judged { fit, open, against: against.concat() })
     }

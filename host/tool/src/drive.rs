@@ -85,6 +85,9 @@ pub struct Stop {
     pub progress: Progress,
 }
 
+/// By what a search is stopped that is looked at in a journal, and isn't over there.
+pub const JOURNAL_END: &str = "the end of the journal";
+
 /// For a search that runs to its end, whatever is tried.
 pub fn to_the_end(_: &Tried, _: &Progress) -> ControlFlow<String> {
     ControlFlow::Continue(())
@@ -151,6 +154,21 @@ pub fn go_on(
         Err(error) => (Err(error), None),
     };
     Ok(Finished { tried, winner, stop, counts: search.counts() })
+}
+
+/// How a search stands that was taken up from its journal: it is over, or the journal's end stops it.
+#[must_use]
+pub fn as_it_stands(search: &Search, tried: Vec<Tried>) -> Finished {
+    let counts = search.counts();
+    let (winner, stop) = match search.result() {
+        Err(ResultError::NotOver) => {
+            let (stopped, progress) = (search.stop(), search.progress());
+            let stop = Stop { why: JOURNAL_END.into(), stopped, progress };
+            (stopped.best.ok_or(ResultError::NotOver), Some(stop))
+        }
+        result => (result, None),
+    };
+    Finished { tried, winner: winner.map_err(RunError::Result), stop, counts }
 }
 
 /// A tried tilt as it is kept.

@@ -25,6 +25,7 @@
 //! | [`verdict`] | what speaks against the winner, and what to do |
 //! | [`report`] | the winner in words |
 //! | [`table`], [`chart`] | the search as text, and as a picture drawn from that |
+//! | [`page`] | a journal as one page of HTML |
 //! | [`files`], [`screen`], [`date`], [`angle`] | files, standard output, the date, angles with their unit |
 
 pub mod again;
@@ -41,6 +42,7 @@ pub mod homography;
 pub mod journal;
 pub mod linear;
 pub mod open;
+pub mod page;
 pub mod plan;
 pub mod pose;
 pub mod progress;

@@ -208,7 +208,7 @@ fn only_the_views_that_it_began_with_are_taken() {
         &format!("night.inputs has {}", sum("moved.txt")),
     ];
     assert_said(&here, &["resume", "night", "other.txt"], 1, &told);
-    let told = ["views.txt: can't be read: ", "name the views' file behind the journal"];
+    let told = ["views.txt: can't be read: ", "Name the views' file behind the journal"];
     assert_said(&here, &["resume", "night"], 1, &told);
     assert_eq!(file(here.join("night")), cut);
     // The limits and the centre's tolerance are those that the search began with.

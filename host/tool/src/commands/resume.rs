@@ -91,7 +91,11 @@ fn run(words: Words, screen: &mut Screen) -> Result<End, Fault> {
         return Err(Fault::Failed(not_resumed(&JournalFileError::NotBegun(path.into()))));
     }
     let stored = read_inputs(path)?;
-    let plate = again::plate(&stored, path, asked.views.as_deref())?;
+    let named = |fault: String| match asked.views {
+        None => format!("{fault}. Name the views' file behind the journal if it was moved"),
+        Some(_) => fault,
+    };
+    let plate = again::plate(&stored, path, asked.views.as_deref()).map_err(named)?;
     screen.say(format!("views           {}: those that the search began with", plate.1));
     let case = Case::of_inputs(&stored, plate, asked.minutes)?;
     say_if_changed(&case, &stored, screen);
