@@ -26,10 +26,9 @@ impl Comparison {
     }
 }
 
-/// The lines of an inputs file that say what was searched. Neither the date nor the views' name does, nor what is told
-/// about them.
+/// The lines of an inputs file that say what was searched. Neither the version nor the date nor the views' name does, nor
+/// what is told about them.
 const NAMES: &[&str] = &[
-    "library",
     "views-sha256",
     "views",
     "rounds",
@@ -55,8 +54,11 @@ const NAMES: &[&str] = &[
     "note choice",
 ];
 
-/// Compares what two searches started from.
+/// Compares what two searches started from. Versions are told, but of the same search they needn't differ in anything.
 pub fn inputs(a: &StoredInputs, b: &StoredInputs, found: &mut Comparison) {
+    if a.library != b.library {
+        found.say("versions", &format!("{} and {}", a.library, b.library));
+    }
     let texts = [a.text(), b.text()];
     let mut is_same = true;
     for name in NAMES {

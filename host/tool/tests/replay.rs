@@ -5,7 +5,7 @@ mod common;
 
 use common::{assert_said, file, folder, names, said, searched, small, write_journal};
 use jinnychair::SkipReason;
-use jinnychair::journal::{Line, Recorded};
+use jinnychair::journal::{Line, Recorded, StoredInputs};
 use std::fs;
 use std::path::Path;
 use tool::journal::Journal;
@@ -184,6 +184,18 @@ fn journals_that_are_the_same_are_told_so() {
     assert_said(&here, &["compare"], 2, &["no journal is named"]);
     assert_said(&here, &["compare", "a", "b", "c"], 2, &["what is `c`?"]);
     assert_said(&here, &["compare", "night", "none"], 1, &["none: can't be read"]);
+}
+
+#[test]
+fn versions_are_told_but_part_nothing() {
+    let here = searched("compare-versions");
+    fs::copy(here.join("night"), here.join("other")).unwrap();
+    let mut inputs = StoredInputs::load(&here.join("night")).unwrap();
+    let version = std::mem::replace(&mut inputs.library, "0.8.0".into());
+    inputs.save(&here.join("other")).unwrap();
+    let versions = format!("versions        {version} and 0.8.0\n");
+    let told = [&versions[..], "inputs          the same\n", "the same, bit by bit\n"];
+    assert_said(&here, &["compare", "night", "other"], 0, &told);
 }
 
 #[test]

@@ -15,8 +15,8 @@ use jinnychair::journal::{
     what_differs,
 };
 use jinnychair::{LineRefusal, Search};
-use std::fs::OpenOptions;
-use std::io::Write;
+use std::fs::{File, OpenOptions};
+use std::io::{self, Write};
 use std::path::{Path, PathBuf};
 
 pub(super) const COMMAND: Command = Command {
@@ -152,17 +152,23 @@ fn keep_dropped(
         ));
     }
     let aside = with_ending(path, ".dropped");
-    let written = OpenOptions::new().write(true).create_new(true).open(&aside);
-    written
-        .and_then(|mut file| file.write_all(&bytes[report.kept..]).and_then(|()| file.sync_all()))
-        .map_err(|error| {
-            format!(
-                "{}: can't be written, and what {} would lose isn't dropped without it: {error}. Move an older one away",
-                aside.display(),
-                path.display()
-            )
-        })?;
+    write_aside(&aside, &bytes[report.kept..]).map_err(|error| {
+        format!(
+            "{}: can't be written, and what {} would lose isn't dropped without it: {error}. Move an older one away",
+            aside.display(),
+            path.display()
+        )
+    })?;
     Ok(Some(format!("{why}. They are in {}", aside.display())))
+}
+
+/// Writes a new file, and returns when it and its name are on the disk.
+fn write_aside(path: &Path, bytes: &[u8]) -> io::Result<()> {
+    let mut file = OpenOptions::new().write(true).create_new(true).open(path)?;
+    file.write_all(bytes)?;
+    file.sync_all()?;
+    let folder = path.parent().filter(|folder| !folder.as_os_str().is_empty());
+    File::open(folder.unwrap_or(Path::new(".")))?.sync_all()
 }
 
 /// What was kept and what was dropped, in words.
