@@ -10,7 +10,7 @@ use crate::case::{Case, library_version};
 use crate::chart::chart;
 use crate::date::now;
 use crate::drive::{self, Finished, last_step};
-use crate::journal::{self, Ending, Journal};
+use crate::journal::{self, Journal};
 use crate::open::Open;
 use crate::plan::Plan;
 use crate::report::{self, Row};
@@ -18,7 +18,7 @@ use crate::residuals::Fit;
 use crate::stretches::{self, Stretch, Won};
 use crate::table::{Record, SKIPS};
 use crate::verdict::{self, ONLY_BY_VIEWS, Point};
-use html::{element, escaped, facts, list, part, section};
+use html::{element, escaped, facts, list, paragraph, part, section};
 use jinnychair::journal::{
     EndedBy, Line, Resumed, StoredInputs, Views, inputs_path, sha256, what_differs,
 };
@@ -30,6 +30,9 @@ pub const HEAD: &str = "<!DOCTYPE html>\n<!-- A page of jinnychair. -->";
 
 /// Nothing is fetched: a page has all that it shows.
 const POLICY: &str = "default-src 'none'; style-src 'unsafe-inline'; script-src 'unsafe-inline'";
+
+/// What is said where nothing speaks against the winner, as far as can be said.
+const NOT_WHOLE: &str = "nothing that can be looked at without the views speaks against the winner";
 
 /// How good a result is.
 #[derive(Clone, Copy, Debug, PartialEq, Eq)]
@@ -92,17 +95,13 @@ impl<'a> Told<'a> {
             Err(_) => drive::of_lines(&journal.lines, (&inputs.decomposition, &sources)),
         };
         let seeds: Vec<_> = sources.into_iter().zip(inputs.decomposition.iter().copied()).collect();
-        let remark = match journal.ending {
-            Ending::Whole => None,
-            _ => journal.ending_text(),
-        };
         let mut told = Self {
             name: path.file_name().unwrap_or(path.as_os_str()).display().to_string(),
             sums: [sha256(bytes), sha256(inputs.text().as_bytes())],
             len: bytes.len(),
             inputs,
+            remark: journal.ending_text(),
             lines: journal.lines,
-            remark,
             plan: Plan::new(&inputs.options, &seeds),
             finished: drive::as_it_stands(&search, tried),
             fit: None,
@@ -145,14 +144,11 @@ impl<'a> Told<'a> {
                 (self.open, self.no_views) = (Some(open), Some(why));
             }
         }
+        let head = report::verdict_head(&self.against);
         (self.kind, self.head) = match (&self.no_views, self.against.is_empty()) {
-            (None, true) => (Kind::Good, report::verdict_head(&self.against)),
-            (_, false) => (Kind::Doubtful, report::verdict_head(&self.against)),
-            (Some(_), true) => {
-                let head =
-                    "nothing that can be looked at without the views speaks against the winner";
-                (Kind::Part, head.into())
-            }
+            (None, true) => (Kind::Good, without_word(&head)),
+            (_, false) => (Kind::Doubtful, without_word(&head)),
+            (Some(_), true) => (Kind::Part, NOT_WHOLE.into()),
         };
         Ok(())
     }
@@ -191,21 +187,15 @@ impl<'a> Told<'a> {
         )
     }
 
-    fn about(&self, name: &str) -> Option<String> {
-        journal::about(self.inputs).about(name).map(str::to_owned)
-    }
-
     fn heading(&self) -> String {
-        let about = ["input", "centre"].map(|name| {
-            self.about(name).map_or(String::new(), |text| {
-                let name = if name == "centre" { "Optical centre " } else { "Views: " };
-                element("p", &format!("{name}{text}")).replacen("<p>", "<p class=\"sub\">", 1)
-            })
-        });
         let begun = format!("Begun {} with jinnychair {}", self.inputs.date, self.inputs.library);
-        let begun = element("p", &begun).replacen("<p>", "<p class=\"sub\">", 1);
+        let about = |name: &str, words: &str| {
+            let text = journal::about(self.inputs).about(name).map(|text| format!("{words}{text}"));
+            text.map_or(String::new(), |text| paragraph("sub", &text))
+        };
         let title = element("h1", &format!("Tilt search: {}", self.name));
-        format!("<header>\n{title}{begun}{}</header>\n", about.concat())
+        let (views, centre) = (about("input", "Views: "), about("centre", "Optical centre "));
+        format!("<header>\n{title}{}{views}{centre}</header>\n", paragraph("sub", &begun))
     }
 
     /// The verdict, by a word and a sign, and what speaks against the winner.
@@ -218,8 +208,7 @@ impl<'a> Told<'a> {
         };
         let mut text =
             format!("<section class=\"verdict {class}\">\n<p class=\"sign\">{sign}</p>\n");
-        let head = self.head.split_once(": ").filter(|_| self.kind != Kind::Failed);
-        text += &element("p", head.map_or(self.head.as_str(), |(_, head)| head));
+        text += &element("p", &self.head);
         if !self.against.is_empty() {
             let points = self.against.iter().map(|point| element("li", &point.to_string()));
             text += &format!("<ol>\n{}</ol>\n", points.collect::<String>());
@@ -402,9 +391,13 @@ impl<'a> Told<'a> {
         }
         let text = "The journal was run again from its inputs for this page: every line has the number, round and seed \
                     that the search hands out, bit by bit, and the score that its own numbers give.";
-        let text = facts(&rows) + &element("p", text).replacen("<p>", "<p class=\"note\">", 1);
-        section("keep", "Versions and checksums", &text)
+        section("keep", "Versions and checksums", &(facts(&rows) + &paragraph("note", text)))
     }
+}
+
+/// A verdict without the word that stands above it.
+fn without_word(head: &str) -> String {
+    head.split_once(": ").map_or(head, |(_, head)| head).into()
 }
 
 /// The search as a journal's whole lines leave it.

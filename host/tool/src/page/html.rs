@@ -21,6 +21,11 @@ pub fn element(name: &str, text: &str) -> String {
     format!("<{name}>{}</{name}>\n", escaped(text))
 }
 
+/// A paragraph that looks as its class says.
+pub fn paragraph(class: &str, text: &str) -> String {
+    format!("<p class=\"{class}\">{}</p>\n", escaped(text))
+}
+
 /// A section with its heading; what it holds is HTML.
 pub fn section(class: &str, heading: &str, holds: &str) -> String {
     format!("<section class=\"{class}\">\n<h2>{}</h2>\n{holds}</section>\n", escaped(heading))
