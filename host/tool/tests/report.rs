@@ -96,14 +96,8 @@ fn what_is_strange_about_a_journal_is_told_behind_its_report() {
 
 /// The winner in words, by hand: the earliest of the lowest.
 fn winner(lines: &[Line]) -> String {
-    let mut best: Option<(&Line, f64)> = None;
-    for line in lines {
-        if let Some(score) = line.outcome().score() {
-            if best.is_none_or(|(_, lowest)| score < lowest) {
-                best = Some((line, score));
-            }
-        }
-    }
+    let scored = lines.iter().filter_map(|line| Some((line, line.outcome().score()?)));
+    let best = scored.reduce(|best, new| if new.1 < best.1 { new } else { best });
     let (line, score) = best.unwrap();
     let [x, y] = [line.seed.sensor.tilt_x, line.seed.sensor.tilt_y].map(tool::angle::degrees);
     format!("no. {}, score {score:.5} at {x}° {y}°\n", line.number)

@@ -67,17 +67,19 @@ fn ended_before(child: &mut Child, mut has_come: impl FnMut() -> bool) -> bool {
 /// last line. The moments come after some time, also before the search has begun, or after some lines and a little time.
 fn killed_until_it_ends(here: &Path, words: &[&str], lines: usize, turn: u64) -> usize {
     let (journal, mut chance, mut within) = (here.join("night"), Chance(turn), 0);
+    let by_lines = turn.is_multiple_of(2);
     for kills in 0.. {
         let begun = here.join("night.inputs").exists();
         let words: &[&str] = if begun { &["resume", "night"] } else { words };
         let mut child = dated(here, words).spawn().unwrap();
         let started = Instant::now();
-        let time = Duration::from_micros(chance.below(if turn % 2 == 0 { 2_000 } else { 100_000 }));
+        let most = if by_lines { 2_000 } else { 100_000 };
+        let time = Duration::from_micros(chance.below(most));
         let until = line_count(&journal) as u64 + chance.below(10);
         let has_come = || {
             // After many kills it may end in peace.
             let is_time = kills < 12 && started.elapsed() >= time;
-            is_time && (turn % 2 == 1 || line_count(&journal) as u64 > until)
+            is_time && (!by_lines || line_count(&journal) as u64 > until)
         };
         if ended_before(&mut child, has_come) {
             assert_eq!(child.wait().unwrap().code(), Some(0));
