@@ -51,7 +51,7 @@ use Rattle.book.proofs.Opening.{opens}
 use Rattle.book.proofs.Ending.{run-ends}
 
 -- ---- a run that gives a result
-result-over : (i : Inputs) (b : Book) (w : Candidate) → Good i b → resultDef (runOf b) ≡ Result w → (b .over ≡ true) × (runBest b ≡ chosen w)
+pub result-over : (i : Inputs) (b : Book) (w : Candidate) → Good i b → resultDef (runOf b) ≡ Result w → (b .over ≡ true) × (runBest b ≡ chosen w)
 unfolding resultDef
 result-over i b w g h =
     let t = sound-run i b g in
