@@ -74,13 +74,18 @@ fn what_is_left_of_a_run_is_told() {
         let sensor = lines[kept].seed.sensor;
         let [x, y] = [sensor.tilt_x, sensor.tilt_y].map(tool::angle::degrees);
         let next = format!("next            candidate {kept} at {x}° {y}°\n");
-        let best =
-            if kept == 0 { "nothing is scored yet" } else { "best so far     candidate 0, " };
+        let best = lines[..kept].iter().min_by(|a, b| {
+            let [a, b] = [a, b].map(|line| line.outcome().score().unwrap());
+            a.total_cmp(&b)
+        });
+        let best = best.map_or("nothing is scored yet".into(), |line| {
+            format!("best so far     candidate {}, score 0.07", line.number)
+        });
         assert_said(
             &here,
             &["replay", "night"],
             3,
-            &["unfinished      the journal ends", &next, best],
+            &["unfinished      the journal ends", &next, &best],
         );
     }
     // A run without a winner.
