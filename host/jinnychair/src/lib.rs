@@ -57,8 +57,8 @@ mod version;
 
 pub use error::{
     AnswerError, ConicError, CountError, LineRefusal, NextError, NormalizeError, PlateError,
-    PointMapError, ResultError, RowsError, RunError, StartError, StopError, TiltError, TrigError,
-    WriteError,
+    PointMapError, ReportError, ResultError, RowsError, RunError, StartError, StopError, TiltError,
+    TrigError, WriteError,
 };
 pub use record::{Counts, Progress};
 pub use search::{
