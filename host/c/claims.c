@@ -374,9 +374,9 @@ static void winners(void) {
     claim(jc_winner(two, five).candidate.number == 2 && jc_winner(five, two).candidate.number == 5, "the first of equal ones wins");
     claim(jc_winner(two, best_of(1, 6, 0.25)).candidate.number == 6, "the lower one wins");
     claim(jc_winner(none, two).candidate.number == 2 && jc_winner(two, none).candidate.number == 2, "none is left out");
-    claim(jc_winner(none, none).found == 0 && jc_winner(none, none).candidate.number == 0, "none of none");
-    claim(jc_winner(lost, five).candidate.number == 5 && jc_winner(five, lost).found == 1, "a score that isn't a number never wins");
-    claim(jc_winner(lost, lost).found == 0, "and isn't one");
+    claim(jc_winner(none, none).found == 0, "none of none");
+    claim(jc_winner(none, five).found == 1, "any found but 0 is found, and is written as 1");
+    claim(jc_winner(lost, five).candidate.number == 5 && jc_winner(five, lost).candidate.number == 5, "a score that isn't a number loses");
 
     const journaled j = searched();
     jc_best_record won = none;

@@ -60,10 +60,10 @@ pub fn compare_drawn(random: &mut Random) -> Result<bool, String> {
     let [first, second] = [draw(random), draw(random)];
     let won = record::winner(first, second);
     let book = winner_of(&[for_book(&first), for_book(&second)]);
-    // A flag comes back as 0 or 1, and a record without a winner as zeros.
-    let expected = book.as_ref().map_or(vec![0; 15], |w| [vec![1], of_book_candidate(w)].concat());
-    let words = [vec![won.found.into()], of_candidate(&won.candidate)].concat();
-    differ(&format!("the winner of {first:?} and {second:?}"), words, expected)?;
+    // A flag comes back as 0 or 1.
+    differ("whether there is a winner", won.found, book.is_some().into())?;
+    let library = of_library(&(won.found != 0).then_some(won.candidate));
+    differ(&format!("the winner of {first:?} and {second:?}"), library, of_book(&book))?;
     Ok(book.is_some())
 }
 

@@ -12,5 +12,5 @@ fn every_winner_is_the_books() {
         let is_found = compare_drawn(&mut random).unwrap_or_else(|fault| panic!("{i}: {fault}"));
         found[usize::from(is_found)] += 1;
     }
-    assert!(found.iter().all(|&times| times > 1000), "{found:?}");
+    assert!(found.iter().all(|&times| times > 300), "{found:?}");
 }

@@ -91,19 +91,15 @@ fn write(list: &[Seed], lent: &mut [f64]) {
     }
 }
 
-/// Lower replaces, equal doesn't.
-pub(crate) fn lowest(winners: impl Iterator<Item = Winner>) -> Option<Winner> {
-    winners.reduce(|best, new| if new.scored.score < best.scored.score { new } else { best })
-}
-
-/// The lowest of the scored candidates. No score is NaN: its candidate is left out.
+/// Lower replaces, equal doesn't. No score is NaN: its candidate is left out.
 pub(crate) fn best<'a>(entries: impl Iterator<Item = &'a Entry>) -> Option<Winner> {
-    lowest(entries.filter_map(|entry| match entry.outcome {
+    let scored = entries.filter_map(|entry| match entry.outcome {
         Outcome::Skipped(_) => None,
         Outcome::Scored(scored) => {
             Some(Winner { number: entry.number, tilts: entry.seed.tilts, scored })
         }
-    }))
+    });
+    scored.reduce(|best, new| if new.scored.score < best.scored.score { new } else { best })
 }
 
 impl Book {

@@ -66,15 +66,18 @@ fn none_is_left_out_and_the_first_of_equal_ones_wins() {
 }
 
 #[test]
-fn a_score_that_is_not_a_number_never_wins() {
-    let all = entries(&[Some(5.0), Some(f64::NAN), Some(3.0)]);
-    let mut lost = stretch_winner(&all[..1]);
+fn a_score_that_is_not_a_number_loses_to_every_number() {
+    let all = entries(&[Some(f64::INFINITY), Some(3.0)]);
+    let [infinite, three] = [0, 1].map(|i| stretch_winner(&all[i..=i]));
+    let mut lost = three;
     if let Some(winner) = &mut lost {
-        winner.scored.score = f64::NAN;
+        (winner.number, winner.scored.score) = (9, f64::NAN);
     }
-    let three = stretch_winner(&all[2..]);
-    for order in [[lost, three], [three, lost]] {
-        assert_eq!(winner_of(&order), three);
+    for number in [infinite, three] {
+        assert_eq!(winner_of(&[lost, number]), number);
+        assert_eq!(winner_of(&[number, lost]), number);
+        assert_eq!(winner_of(&[lost, number, lost]), number);
     }
-    assert_eq!(winner_of(&[lost, lost]), None);
+    // None is left out, also beside it.
+    assert_eq!(number(winner_of(&[None, lost, None])), Some(9));
 }

@@ -32,7 +32,8 @@ macro_rules! refusal {
     (24 $part:ident) => { part!($part "the source points lie on a line", "Use dots from more than one row of the plate.") };
     (25 $part:ident) => { part!($part "the destination points lie on a line", "The plate was seen edge on: drop the view.") };
     (27 $part:ident) => { part!($part "`max_abs_tilt` is above 0.5 radians, which is 28.6 degrees, or a tilt is NaN or beyond that", "Were degrees typed for radians? 3 degrees are 0.052. From Answer: the list was changed between the calls; Failed moves the run on.") };
-    (28 $part:ident) => { part!($part "a line's buffer is below 256 bytes, its number above 655, its round above 16, or its score isn't a number; or a report's buffer is below 24 bytes, or its total above 656", "Lend 256 bytes for a line and 24 for a report, and write what the search gave.") };
+    (28 $part:ident) => { part!($part "the buffer is below 256 bytes, the number above 655, the round above 16, or a score isn't a number", "Lend 256 bytes, and write the line that the search gave.") };
+    (28 report $part:ident) => { part!($part "the buffer is below 24 bytes, or the five counts add up to more than 656", "Lend 24 bytes, and report the counts that the search gave, of one run.") };
     (29 $part:ident) => { part!($part "this isn't a line of a journal", "Look whether the file is a journal, and whether it was cut off or changed here. The lines before it are good.") };
     (30 $part:ident) => { part!($part "the line isn't the run's: its number, round or seed isn't the next one, its camera, mean or score can't be that of an answer, or the run was over before it", "Look whether the inputs are this journal's, and whether it was changed here or before. The lines before it were taken.") };
     (31 $part:ident) => { part!($part "the search has one axis, and its y list isn't the single value 0", "Give `0` alone for y; or search both axes.") };
@@ -52,14 +53,15 @@ macro_rules! part {
 }
 pub(crate) use part;
 
-/// Declares an enum of numbers, whose texts are those of the macro named before it.
+/// Declares an enum of numbers, whose texts are those of the macro named before it. Where two operations have other words for one
+/// number, the word after `of` says which they are.
 macro_rules! numbered {
-    ($texts:ident $(#[$doc:meta])* $name:ident { $($variant:ident = $number:tt;)+ }) => {
+    ($texts:ident $(#[$doc:meta])* $name:ident { $($variant:ident = $number:tt $(of $which:ident)?;)+ }) => {
         $(#[$doc])*
         #[derive(Clone, Copy, Debug, PartialEq, Eq)]
         #[non_exhaustive]
         pub enum $name {
-            $(#[doc = concat!($number, ": ", $texts!($number fault), ". ", $texts!($number remedy))] $variant,)+
+            $(#[doc = concat!($number, ": ", $texts!($number $($which)? fault), ". ", $texts!($number $($which)? remedy))] $variant,)+
         }
 
         impl $name {
@@ -78,7 +80,7 @@ macro_rules! numbered {
             #[must_use]
             pub fn fault(self) -> &'static str {
                 match self {
-                    $(Self::$variant => $texts!($number fault),)+
+                    $(Self::$variant => $texts!($number $($which)? fault),)+
                 }
             }
 
@@ -86,7 +88,7 @@ macro_rules! numbered {
             #[must_use]
             pub fn remedy(self) -> &'static str {
                 match self {
-                    $(Self::$variant => $texts!($number remedy),)+
+                    $(Self::$variant => $texts!($number $($which)? remedy),)+
                 }
             }
 
@@ -180,6 +182,13 @@ refusals! {
     /// Why nothing is written. The buffer is unchanged.
     WriteError {
         NotWritable = 28;
+    }
+}
+
+refusals! {
+    /// Why no report is written. The buffer is unchanged.
+    ReportError {
+        NotWritable = 28 of report;
     }
 }
 

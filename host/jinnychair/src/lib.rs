@@ -60,8 +60,8 @@ mod winner;
 
 pub use error::{
     AnswerError, ConicError, CountError, LineRefusal, NextError, NormalizeError, PlateError,
-    PointMapError, ReplayError, ResultError, RowsError, RunError, StartError, StopError, TiltError,
-    TrigError, WriteError,
+    PointMapError, ReplayError, ReportError, ResultError, RowsError, RunError, StartError,
+    StopError, TiltError, TrigError, WriteError,
 };
 pub use record::{Counts, Progress};
 pub use search::{

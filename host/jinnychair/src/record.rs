@@ -325,8 +325,8 @@ pub fn resume(
     Ok((reply.run, ResumeReport { lines, kept, dropped, ended_by }))
 }
 
-/// The better of two bests, the first one where their scores are equal; one that isn't found, or whose score isn't a number, counts
-/// as none.
+/// The better of two bests, the first one where their scores are equal; one that isn't found leaves the other. A score that isn't a
+/// number, which no best of a run has, loses to every number.
 #[must_use]
 pub fn winner(first: Best, second: Best) -> Best {
     raw::jc_winner(first, second)

@@ -178,7 +178,7 @@ fn numbered() -> Vec<(String, u8, &'static str, &'static str)> {
             })+
         };
     }
-    add!("JC": StartError NextError AnswerError ResultError StopError WriteError LineRefusal PointMapError TrigError CountError TiltError ConicError PlateError NormalizeError RowsError);
+    add!("JC": StartError NextError AnswerError ResultError StopError WriteError ReportError LineRefusal PointMapError TrigError CountError TiltError ConicError PlateError NormalizeError RowsError);
     add!("JC_SKIP": SkipReason);
     all
 }
@@ -186,23 +186,21 @@ fn numbered() -> Vec<(String, u8, &'static str, &'static str)> {
 #[test]
 fn refusals_and_skips_have_the_headers_names_and_the_documents_words() {
     let (constants, document) = (constants(), read("../../docs/NUMBERS.md"));
-    let mut told = BTreeSet::new();
+    let (mut told, mut numbers) = (BTreeSet::new(), BTreeSet::new());
     for (name, number, fault, remedy) in numbered() {
         assert_eq!(constants.get(&name), Some(&u32::from(number)), "{name}");
         let is_skip = name.starts_with("JC_SKIP");
-        let row = document.lines().find(|line| {
-            let of_number = line.starts_with(&format!("| {number} |"));
-            let of_reason = line.starts_with(&format!("| {number} ("));
-            if is_skip { of_reason } else { of_number }
-        });
-        let row = row.unwrap_or_else(|| panic!("docs/NUMBERS.md has no row {number}"));
-        assert!(row.contains(fault) && row.contains(remedy), "{number}: {fault}. {remedy}");
-        told.insert((is_skip, number));
+        let start = if is_skip { format!("| {number} (") } else { format!("| {number} |") };
+        let mut rows = document.lines().filter(|line| line.starts_with(&start));
+        let is_told = rows.any(|row| row.contains(fault) && row.contains(remedy));
+        assert!(is_told, "docs/NUMBERS.md doesn't say of {number}: {fault}. {remedy}");
+        told.insert((is_skip, number, fault));
+        numbers.insert((is_skip, number));
     }
     let rows = document.lines().filter(|l| l.starts_with("| ") && l.as_bytes()[2].is_ascii_digit());
     assert_eq!(rows.count(), told.len(), "docs/NUMBERS.md has numbers that the crate hasn't");
     let refusals = constants.keys().filter(|name| numbered().iter().any(|n| n.0 == **name)).count();
-    assert_eq!(refusals, told.len(), "two names for a number");
+    assert_eq!(refusals, numbers.len(), "two names for a number");
 }
 
 #[test]

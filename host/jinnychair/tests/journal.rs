@@ -303,14 +303,14 @@ fn a_report_that_cannot_be_written_leaves_the_buffer() {
     assert_eq!(write_report(&all(100), &mut buffer), Ok(24));
     assert_eq!((&buffer[..24], &buffer[24..]), (&b"100,100,100,100,100,500\n"[..], &[7; 6][..]));
     let mut buffer = [7; 24];
-    assert_eq!(write_report(&Counts::default(), &mut buffer[..23]), Err(WriteError::NotWritable));
+    assert_eq!(write_report(&Counts::default(), &mut buffer[..23]), Err(ReportError::NotWritable));
     for counts in [
         Counts { scored: 657, ..Counts::default() },
         Counts { scored: usize::MAX, no_number: 1, ..Counts::default() },
         all(usize::MAX),
     ] {
-        assert_eq!(write_report(&counts, &mut buffer), Err(WriteError::NotWritable));
-        assert_eq!(counts.report_line(), Err(WriteError::NotWritable));
+        assert_eq!(write_report(&counts, &mut buffer), Err(ReportError::NotWritable));
+        assert_eq!(counts.report_line(), Err(ReportError::NotWritable));
     }
     assert_eq!((buffer, all(usize::MAX).total()), ([7; 24], usize::MAX));
 }

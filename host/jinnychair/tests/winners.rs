@@ -47,5 +47,5 @@ fn the_first_of_equal_ones_wins_and_a_score_that_is_no_number_never() {
     assert_eq!(winner(of(7, 0.5), of(3, 0.25)), of(3, 0.25));
     assert_eq!(winner(of(7, f64::NAN), of(3, 0.5)), of(3, 0.5));
     assert_eq!(winner(of(7, 0.5), of(3, f64::NAN)), of(7, 0.5));
-    assert!(winner(of(7, f64::NAN), None).is_none());
+    assert_eq!(winner(of(7, f64::NAN), of(3, f64::INFINITY)), of(3, f64::INFINITY));
 }

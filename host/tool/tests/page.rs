@@ -235,6 +235,7 @@ fn runs_without_a_winner_and_unfinished_ones_have_a_page() {
         "<td>none of the typed ones</td>",
     ];
     assert_has(&none, &parts);
+    assert!(!none.contains("<h2>Candidates</h2>"));
     let here = searched("page-unfinished", &[]);
     let whole = file(here.join("night"));
     fs::write(here.join("night"), &whole[..whole.len() / 2]).unwrap();

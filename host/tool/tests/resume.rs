@@ -322,9 +322,10 @@ fn another_version_or_computer_is_told() {
     assert!(file(here.join("tilts.csv")).contains("\n# resumed: with jinnychair "));
 }
 
+/// Sends a signal to a process.
 fn signal(child: &Child, name: &str) {
-    let words = [format!("-{name}"), child.id().to_string()];
-    assert!(Command::new("kill").args(words).status().unwrap().success());
+    let words = ["-c".into(), format!("kill -{name} {}", child.id())];
+    assert!(Command::new("sh").args(words).status().unwrap().success());
 }
 
 #[test]

@@ -2,7 +2,7 @@
 
 use super::line::Line;
 use crate::record::Counts;
-use crate::{Outcome, SkipReason, WriteError, raw};
+use crate::{Outcome, ReportError, SkipReason, raw};
 use std::borrow::Borrow;
 
 /// How many bytes a buffer needs for a report, however short that is.
@@ -61,7 +61,7 @@ impl Counts {
     /// # Errors
     ///
     /// The total is above the 656 answers that a search can have.
-    pub fn report_line(&self) -> Result<String, WriteError> {
+    pub fn report_line(&self) -> Result<String, ReportError> {
         let mut buffer = [0; REPORT_ROOM];
         let len = write_report(self, &mut buffer)?;
         Ok(buffer[..len].iter().copied().map(char::from).collect())
@@ -73,7 +73,7 @@ impl Counts {
 /// # Errors
 ///
 /// The buffer is too short or the total above 656, and the buffer is as it was.
-pub fn write_report(counts: &Counts, to: &mut [u8]) -> Result<usize, WriteError> {
+pub fn write_report(counts: &Counts, to: &mut [u8]) -> Result<usize, ReportError> {
     let reply = raw::journal::write_report(*counts, to);
-    WriteError::check(reply.number).map(|()| reply.len)
+    ReportError::check(reply.number).map(|()| reply.len)
 }

@@ -27,8 +27,11 @@ const COLUMNS: [(&str, &str, bool); 16] = [
 /// What stands in a cell, and the number by which it is sorted: of a column of numbers nothing where it has none.
 struct Cell(String, Option<f64>);
 
-/// The table.
+/// The table; nothing where no tilt was tried.
 pub fn table(finished: &Finished) -> String {
+    if finished.tried.is_empty() {
+        return String::new();
+    }
     let winner = finished.winner.as_ref().ok().map(|winner| winner.number);
     let rows: String =
         finished.tried.iter().map(|one| row(one, winner == Some(one.number))).collect();

@@ -1,6 +1,7 @@
 // Sorts the table of candidates by a heading that is clicked, or that is named behind the page's address, as #sort=score or #sort=-score.
 (function () {
-  var table = document.getElementById('candidates'), body = table.tBodies[0];
+  var table = document.getElementById('candidates'), body = table && table.tBodies[0];
+  if (!table) { return; }
   var heads = Array.prototype.slice.call(table.tHead.rows[0].cells);
   function value(row, column) {
     var cell = row.cells[column], number = cell.getAttribute('data-v');
