@@ -43,8 +43,8 @@ extern "C" {
 
 /* ---- version ---- */
 
-/* The version that this header is for: 65,536 times the major, 256 times the minor, and the patch number, here 0.8.0. */
-#define JC_VERSION 0x0800u
+/* The version that this header is for: 65,536 times the major, 256 times the minor, and the patch number, here 0.12.0. */
+#define JC_VERSION 0x0c00u
 
 /* That of the linked archive. */
 uint32_t jc_version(void);
@@ -85,6 +85,7 @@ enum {
     JC_NOT_WRITABLE = 28,          /* a line's buffer is below JC_LINE_LEN bytes, or the line isn't one that a journal has; or a report's is below
                                       JC_REPORT_LEN bytes, or its total above JC_MOST_ANSWERS */
     JC_NOT_A_LINE = 29,            /* the bytes at the place aren't those of a line */
+    JC_NOT_THE_RUN = 30,           /* a journal's line isn't the run's next answer */
     JC_TILTS_OFF_AXIS = 31,        /* a one-axis run's y tilts aren't the single value 0, of either sign */
     JC_SEED_OFF_AXIS = 32,         /* a decomposition seed of a one-axis run has a tilt y other than 0 */
     JC_SHARE_TOO_LARGE = 33,       /* min_counted is above 100 */
@@ -97,6 +98,12 @@ enum {
     JC_SKIP_BAD_CAMERA = 2,  /* a number of the camera isn't finite, or a focal length isn't above 0 */
     JC_SKIP_NO_MEAN = 3,     /* less than min_counted of the rows count, or the mean error isn't finite */
     JC_SKIP_NO_NUMBER = 4    /* the score isn't a number */
+};
+
+/* What ended the lines that jc_resume keeps; else JC_NOT_A_LINE or JC_NOT_THE_RUN. */
+enum {
+    JC_ENDED_BY_NOTHING = 0,        /* nothing stands behind them */
+    JC_ENDED_BY_MISSING_NEWLINE = 1 /* a line without its newline */
 };
 
 /* Limits. */
@@ -356,6 +363,23 @@ typedef struct {
     size_t next;
 } jc_read_flat;
 
+/* 0 and, where is_over is 1, the winner's number and score, else the seed that comes next; or 11, or a refusal of jc_start's; or JC_NOT_A_LINE or
+ * JC_NOT_THE_RUN and the line's number, from 1. */
+typedef struct {
+    uint8_t number, is_over;
+    size_t line_number, candidate;
+    double score;
+    jc_candidate_seed next;
+} jc_replay_flat;
+
+/* 0, how many lines and bytes are kept, how many bytes aren't, what ended the kept ones (JC_ENDED_BY_..., JC_NOT_A_LINE, JC_NOT_THE_RUN), and the
+ * run; or a refusal of jc_start's. */
+typedef struct {
+    uint8_t number, ended_by;
+    size_t lines, kept, dropped;
+    jc_run_record run;
+} jc_resume_flat;
+
 /* ---- root, camera, tilt, distortion ---- */
 
 /* The correctly rounded square root. */
@@ -479,6 +503,27 @@ jc_write_flat jc_write_report(jc_count_record counts, uint8_t *to, size_t to_len
  * jc_write_line writes. */
 jc_read_flat jc_read_line(const uint8_t *bytes, size_t bytes_len, size_t at);
 
+/* Runs a journal again from jc_start's arguments, without a host: who won, or the seed that comes next, as it would be after these answers. Each
+ * line is held against the run: number, round and the seed's six numbers bit by bit (any NaN is any other); of a scored one also the camera (finite,
+ * focal lengths above 0), p1 and p2 (at most 0.05 in size), the mean (finite, not below 0), and that the score is, bit by bit, the one that they
+ * give. fx, fy, cx and cy of a line enter the score with weight 0, and of a skip nothing is asked: a journal isn't authenticated by this. 11 where
+ * the run ended with nothing scored; jc_start's refusals, which leave the list; and line by line, with the line's number, 29 where the bytes aren't a
+ * line and then 30 where the line isn't the run's next answer, or follows the end. The list is left as the lines before left it; after all others as
+ * all lines left it. */
+jc_replay_flat jc_replay(size_t views, jc_options options, const double *tilt_x_seeds, size_t tilt_x_seeds_len,
+                         const double *tilt_y_seeds, size_t tilt_y_seeds_len, const double *decomposition, size_t decomposition_len,
+                         jc_intrinsics base, jc_pt2 center, const uint8_t *bytes, size_t bytes_len, double *list, size_t list_len);
+/* Goes on from a journal that stops anywhere, as a power loss leaves it: keeps the longest front of whole lines that jc_replay would take, and gives
+ * the run and the list as they leave them, no seed waiting. Hand them to jc_next. Cut the file to the kept bytes before a line is added. A run that
+ * is over is given back too. jc_start's refusals, which leave the list. */
+jc_resume_flat jc_resume(size_t views, jc_options options, const double *tilt_x_seeds, size_t tilt_x_seeds_len,
+                         const double *tilt_y_seeds, size_t tilt_y_seeds_len, const double *decomposition, size_t decomposition_len,
+                         jc_intrinsics base, jc_pt2 center, const uint8_t *bytes, size_t bytes_len, double *list, size_t list_len);
+/* The winner of two stretches of a run, the earlier one first: the one with the lower score, of equal scores the first; where found is 0 the other,
+ * and a score that is NaN loses to every number. However a run's answers are cut into stretches, and however these are grouped, the winner of their
+ * winners is the run's. */
+jc_best_record jc_winner(jc_best_record first, jc_best_record second);
+
 /* ---- for tests only: each struct as it came, to see that both sides lay it out alike ---- */
 
 jc_pt2 jc_echo_pt2(jc_pt2 x);
@@ -509,7 +554,9 @@ jc_line jc_echo_line(jc_line x);
 jc_last_line_record jc_echo_last_line_record(jc_last_line_record x);
 jc_write_flat jc_echo_write_flat(jc_write_flat x);
 jc_read_flat jc_echo_read_flat(jc_read_flat x);
-jc_count_record jc_echo_counts(jc_count_record x);
+jc_count_record jc_echo_count_record(jc_count_record x);
+jc_replay_flat jc_echo_replay_flat(jc_replay_flat x);
+jc_resume_flat jc_echo_resume_flat(jc_resume_flat x);
 jc_run_record jc_echo_run_record(jc_run_record x);
 jc_start_flat jc_echo_start_flat(jc_start_flat x);
 jc_next_flat jc_echo_next_flat(jc_next_flat x);
@@ -630,6 +677,18 @@ JC_ASSERT(offsetof(jc_read_flat, end) == 1);
 JC_ASSERT(offsetof(jc_read_flat, line_number) == 8);
 JC_ASSERT(offsetof(jc_read_flat, line) == 16);
 JC_ASSERT(offsetof(jc_read_flat, next) == 152);
+JC_ASSERT(sizeof(jc_replay_flat) == 80);
+JC_ASSERT(offsetof(jc_replay_flat, is_over) == 1);
+JC_ASSERT(offsetof(jc_replay_flat, line_number) == 8);
+JC_ASSERT(offsetof(jc_replay_flat, candidate) == 16);
+JC_ASSERT(offsetof(jc_replay_flat, score) == 24);
+JC_ASSERT(offsetof(jc_replay_flat, next) == 32);
+JC_ASSERT(sizeof(jc_resume_flat) == 624);
+JC_ASSERT(offsetof(jc_resume_flat, ended_by) == 1);
+JC_ASSERT(offsetof(jc_resume_flat, lines) == 8);
+JC_ASSERT(offsetof(jc_resume_flat, kept) == 16);
+JC_ASSERT(offsetof(jc_resume_flat, dropped) == 24);
+JC_ASSERT(offsetof(jc_resume_flat, run) == 32);
 JC_ASSERT(sizeof(jc_count_record) == 40);
 JC_ASSERT(offsetof(jc_count_record, host_failed) == 8);
 JC_ASSERT(offsetof(jc_count_record, bad_camera) == 16);

@@ -23,6 +23,8 @@ use capi_records::record::OptionsRecord;
 use capi_records::record::PlaceRecord;
 use capi_records::record::RunRecord;
 use capi_records::record::WaitingRecord;
+use capi_records::replay::ReplayFlat;
+use capi_records::replay::ResumeFlat;
 use capi_records::run::AnswerFlat;
 use capi_records::run::NextFlat;
 use capi_records::run::ResultFlat;
@@ -283,7 +285,21 @@ pub extern "C" fn jc_echo_last_line_record(x: LastRecord) -> LastRecord
 }
 
 #[no_mangle]
-pub extern "C" fn jc_echo_counts(x: Counts) -> Counts
+pub extern "C" fn jc_echo_count_record(x: Counts) -> Counts
+    ensures { λ r. ⌜ r ≡ x ⌝ }
+{
+    x
+}
+
+#[no_mangle]
+pub extern "C" fn jc_echo_replay_flat(x: ReplayFlat) -> ReplayFlat
+    ensures { λ r. ⌜ r ≡ x ⌝ }
+{
+    x
+}
+
+#[no_mangle]
+pub extern "C" fn jc_echo_resume_flat(x: ResumeFlat) -> ResumeFlat
     ensures { λ r. ⌜ r ≡ x ⌝ }
 {
     x

@@ -6,6 +6,7 @@ pub mod echo;
 pub mod journal;
 pub mod lists;
 pub mod plate;
+pub mod replay;
 pub mod run;
 pub mod scoring;
 pub mod version;

@@ -8,13 +8,17 @@ ghost use Rattle.search_calls.specs.Progress.{progressDef};
 ghost use Rattle.search_calls.specs.Stop.{stopDef};
 ghost use Rattle.search_calls.specs.Last.{lastDef};
 ghost use Rattle.search_calls.specs.Counts.{countsDef};
-ghost use Rattle.capi_records.specs.Record.{optionsFrom, runFrom};
+ghost use Rattle.score_best.specs.Winners.{winnerOfBests};
+ghost use Rattle.capi_records.specs.Record.{optionsFrom, bestFrom, flatBest, runFrom};
 ghost use Rattle.capi_records.specs.Run.{flatStarted, flatNext, flatAnswer, flatResult, flatStopped, flatLastLine, findingOf, copied, copyCount};
 use camera_models::intrinsics::FxFyCxCy;
 use camera_models::math::Pt2;
+use capi_records::record::BestRecord;
 use capi_records::record::LastRecord;
 use capi_records::record::OptionsRecord;
 use capi_records::record::RunRecord;
+use capi_records::record::best_of;
+use capi_records::record::best_record;
 use capi_records::record::options_of;
 use capi_records::record::run_of;
 use capi_records::run::AnswerFlat;
@@ -138,4 +142,12 @@ pub extern "C" fn jc_counts(run: RunRecord) -> Counts
     ensures { λ r. ⌜ r ≡ countsDef (runFrom run) ⌝ }
 {
     search_calls::counts::counts(run_of(run))
+}
+
+// 02, E14: the winner of two stretches of candidates, the earlier one first.
+#[no_mangle]
+pub extern "C" fn jc_winner(first: BestRecord, second: BestRecord) -> BestRecord
+    ensures { λ r. ⌜ r ≡ flatBest (winnerOfBests (bestFrom first) (bestFrom second)) ⌝ }
+{
+    best_record(score_best::winner(best_of(first), best_of(second)))
 }

@@ -6,5 +6,5 @@ ghost use Rattle.capi.specs.Version.{version};
 pub extern "C" fn jc_version() -> u32
     ensures { λ r. ⌜ r ≡ version ⌝ }
 {
-    0x0800
+    0x0c00
 }

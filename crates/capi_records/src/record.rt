@@ -145,7 +145,7 @@ fn waiting_record(w: Waiting) -> WaitingRecord
     }
 }
 
-fn best_of(b: BestRecord) -> Best
+pub fn best_of(b: BestRecord) -> Best
     ensures { λ r. ⌜ r ≡ bestFrom b ⌝ }
 {
     let candidate = b.candidate;
@@ -155,7 +155,7 @@ fn best_of(b: BestRecord) -> Best
     }
 }
 
-fn best_record(b: Best) -> BestRecord
+pub fn best_record(b: Best) -> BestRecord
     ensures { λ r. ⌜ r ≡ flatBest b ⌝ }
 {
     let candidate = b.candidate;

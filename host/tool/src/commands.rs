@@ -1,15 +1,20 @@
 //! The sub-commands. Each reads its own words and ends good, failed or doubtful.
 
 mod chart;
+mod compare;
 mod known_camera;
+mod replay;
+mod report;
+mod resume;
 mod search;
 mod show;
 
+use crate::journal::{Ending, Journal, check_beside};
 use crate::screen::{Screen, aside};
 use std::collections::VecDeque;
 use std::ffi::OsString;
 use std::os::unix::ffi::{OsStrExt, OsStringExt};
-use std::path::PathBuf;
+use std::path::{Path, PathBuf};
 use std::process::ExitCode;
 
 /// How a command ends when it does its work.
@@ -45,8 +50,16 @@ struct Command {
     run: fn(Words, &mut Screen) -> Result<End, Fault>,
 }
 
-const COMMANDS: &[Command] =
-    &[search::COMMAND, show::COMMAND, chart::COMMAND, known_camera::COMMAND];
+const COMMANDS: &[Command] = &[
+    search::COMMAND,
+    resume::COMMAND,
+    report::COMMAND,
+    show::COMMAND,
+    chart::COMMAND,
+    replay::COMMAND,
+    compare::COMMAND,
+    known_camera::COMMAND,
+];
 
 const EXIT_CODES: &str = "Exit codes: 0 good, 1 failed, 2 wrong words, 3 doubtful: a result, with a reason why it may \
                           be wrong.";
@@ -109,16 +122,40 @@ fn utf8(word: OsString) -> Result<String, Fault> {
 }
 
 /// The only word, which names a file.
-fn only_file(mut words: Words, what: &str) -> Result<PathBuf, Fault> {
-    let mut file = None;
+fn only_file(words: Words, what: &str) -> Result<PathBuf, Fault> {
+    let [file] = only_files(words, [&format!("no {what} is named")])?;
+    Ok(file)
+}
+
+/// The only words, which name files; for each what is said where it is missing.
+fn only_files<const N: usize>(mut words: Words, missing: [&str; N]) -> Result<[PathBuf; N], Fault> {
+    let mut files = vec![];
     while let Some(word) = words.next()? {
         match word {
-            Word::File(path) if file.is_none() => file = Some(PathBuf::from(path)),
+            Word::File(path) if files.len() < N => files.push(PathBuf::from(path)),
             Word::File(path) => return Err(unknown(&path.display().to_string())),
             Word::Option(option) => return Err(unknown(&option)),
         }
     }
-    file.ok_or(Fault::Usage(format!("no {what} is named")))
+    let named = files.len();
+    files.try_into().map_err(|_| Fault::Usage(missing[named].into()))
+}
+
+/// Says what is strange about a journal that was shown: its inputs, or its end. A journal without inputs is none.
+fn end_of(path: &Path, journal: &Journal, screen: &mut Screen) -> Result<End, Fault> {
+    let beside = check_beside(path, &journal.lines);
+    if let Err(fault) = &beside {
+        screen.say(fault);
+    }
+    let told = journal.ending_text().map(|text| format!("{}: {text}", path.display()));
+    match (journal.ending, told) {
+        (Ending::Bad(_), Some(fault)) => Err(Fault::Failed(fault)),
+        (_, Some(text)) => {
+            screen.say(text);
+            Ok(End::Doubtful)
+        }
+        _ => Ok(if beside.is_ok() { End::Good } else { End::Doubtful }),
+    }
 }
 
 /// A word that no option and no file is.

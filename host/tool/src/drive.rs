@@ -4,8 +4,8 @@ use crate::residuals::{rms, row_errors};
 use jinnychair::geometry::ErrorCount;
 use jinnychair::journal::{Line, Recorded};
 use jinnychair::{
-    Ended, Inputs, Options, Outcome, PinholeCamera, Progress, ResultError, RunError, Search, Seed,
-    Solution, Stopped, Winner, geometry,
+    Counts, Ended, Inputs, Options, Outcome, PinholeCamera, Progress, ResultError, RunError,
+    Search, Seed, SkipReason, Solution, Stopped, Winner, geometry,
 };
 use std::ops::ControlFlow;
 
@@ -70,6 +70,8 @@ pub struct Finished {
     pub winner: Result<Winner, RunError>,
     /// How it stood when it was stopped, if it was.
     pub stop: Option<Stop>,
+    /// How many were scored, and skipped for each reason, as the library counts them.
+    pub counts: Counts,
 }
 
 /// A search that was stopped.
@@ -82,6 +84,9 @@ pub struct Stop {
     /// How far it had come.
     pub progress: Progress,
 }
+
+/// By what a search is stopped that is looked at in a journal, and isn't over there.
+pub const JOURNAL_END: &str = "the end of the journal";
 
 /// For a search that runs to its end, whatever is tried.
 pub fn to_the_end(_: &Tried, _: &Progress) -> ControlFlow<String> {
@@ -100,7 +105,7 @@ pub fn run(
     solve: impl FnMut(&Seed) -> Option<Solution>,
     watch: impl FnMut(&Tried, &Progress) -> ControlFlow<String>,
 ) -> Result<Finished, String> {
-    let search = start(inputs)?;
+    let search = (start(inputs)?, vec![]);
     go_on(search, (inputs.decomposition, sources), solve, |_| Ok(()), watch)
 }
 
@@ -113,20 +118,19 @@ pub fn start(inputs: &Inputs) -> Result<Search, String> {
     Search::start(inputs).map_err(|error| format!("the search can't start: {error}"))
 }
 
-/// Runs a search that is started. `given` are the decomposition seeds, and where each comes from; `keep` is given the
-/// journal's line of each tried tilt before the next seed is asked for.
+/// Runs a search that is started, and has tried some tilts perhaps. `given` are the decomposition seeds, and where each
+/// comes from; `keep` is given the journal's line of each tried tilt before the next seed is asked for.
 ///
 /// # Errors
 ///
 /// What `keep` says; the search then stops.
 pub fn go_on(
-    mut search: Search,
+    (mut search, mut tried): (Search, Vec<Tried>),
     given: (&[Seed], &[Source]),
     solve: impl FnMut(&Seed) -> Option<Solution>,
     mut keep: impl FnMut(&Line) -> Result<(), String>,
     mut watch: impl FnMut(&Tried, &Progress) -> ControlFlow<String>,
 ) -> Result<Finished, String> {
-    let mut tried: Vec<Tried> = Vec::new();
     let (mut why, mut not_kept) = (String::new(), None);
     let ended = search.run_until(solve, |one| {
         if let Err(fault) = keep(&one.line) {
@@ -149,7 +153,22 @@ pub fn go_on(
         }
         Err(error) => (Err(error), None),
     };
-    Ok(Finished { tried, winner, stop })
+    Ok(Finished { tried, winner, stop, counts: search.counts() })
+}
+
+/// How a search stands that was taken up from its journal: it is over, or the journal's end stops it.
+#[must_use]
+pub fn as_it_stands(search: &Search, tried: Vec<Tried>) -> Finished {
+    let counts = search.counts();
+    let (winner, stop) = match search.result() {
+        Err(ResultError::NotOver) => {
+            let (stopped, progress) = (search.stop(), search.progress());
+            let stop = Stop { why: JOURNAL_END.into(), stopped, progress };
+            (stopped.best.ok_or(ResultError::NotOver), Some(stop))
+        }
+        result => (result, None),
+    };
+    Finished { tried, winner: winner.map_err(RunError::Result), stop, counts }
 }
 
 /// A tried tilt as it is kept.
@@ -158,9 +177,30 @@ fn kept(one: &jinnychair::Tried, source: Source) -> Tried {
     let errors = one.solution.and_then(|solution| Some((solution, counted(&seed, solution)?)));
     let scored = errors.filter(|_| outcome.score().is_some());
     let scored = scored.map(|(solution, errors)| fit_of(&seed, solution, errors));
-    let dots = errors
-        .map(|(solution, errors)| Dots { counted: errors.counted, all: solution.flags.len() });
+    let dots = errors.map(|(solution, errors)| dots_of(solution, errors));
     Tried { number, round, source, seed, outcome, scored, dots }
+}
+
+/// Adds to the tilt of a journal's line what only the views tell: its RMS error and its counted dots. Where the host
+/// doesn't find the line's camera and mean again, bit by bit, nothing is added.
+pub fn complete(one: &mut Tried, solution: &Solution) {
+    let Some(errors) = counted(&one.seed, solution) else { return };
+    let found = fit_of(&one.seed, solution, errors);
+    let numbers = |scored: &Scored| {
+        let PinholeCamera { k, dist } = scored.camera;
+        [k.fx, k.fy, k.cx, k.cy, dist.p1, dist.p2, scored.mean].map(f64::to_bits)
+    };
+    match &mut one.scored {
+        Some(scored) if numbers(scored) == numbers(&found) => scored.rms = found.rms,
+        Some(_) => return,
+        None if one.outcome == Outcome::Skipped(SkipReason::HostFailed) => return,
+        None => {}
+    }
+    one.dots = Some(dots_of(solution, errors));
+}
+
+fn dots_of(solution: &Solution, errors: ErrorCount) -> Dots {
+    Dots { counted: errors.counted, all: solution.flags.len() }
 }
 
 /// The tried tilts of a journal's lines. `given` are the decomposition seeds, and where each comes from.

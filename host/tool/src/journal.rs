@@ -35,10 +35,7 @@ impl Journal {
     ///
     /// Names the file and why it can't be read.
     pub fn read(path: &Path) -> Result<Self, String> {
-        let bytes = fs::read(path).map_err(|error| {
-            format!("{}: can't be read: {error}. Check the name", path.display())
-        })?;
-        Ok(Self::parse(&bytes))
+        Ok(Self::parse(&read_bytes(path)?))
     }
 
     /// Reads a journal's bytes.
@@ -68,6 +65,16 @@ impl Journal {
             Ending::Bad(error) => Some(format!("{error} It and all that follows are left out")),
         }
     }
+}
+
+/// A journal's bytes.
+///
+/// # Errors
+///
+/// Names the file and why it can't be read.
+pub fn read_bytes(path: &Path) -> Result<Vec<u8>, String> {
+    fs::read(path)
+        .map_err(|error| format!("{}: can't be read: {error}. Check the name", path.display()))
 }
 
 /// The inputs beside a journal.
@@ -107,6 +114,20 @@ pub fn check_belonging(inputs: &StoredInputs, lines: &[Line]) -> Result<(), Stri
     }
 }
 
+/// Whether the inputs beside a journal, if there are any, are whole and its own.
+///
+/// # Errors
+///
+/// Names their file, and what is wrong with it.
+pub fn check_beside(path: &Path, lines: &[Line]) -> Result<(), String> {
+    let beside = inputs_path(path);
+    if !beside.exists() {
+        return Ok(());
+    }
+    let named = |fault: String| format!("{}: {fault}", beside.display());
+    read_inputs(path).and_then(|inputs| check_belonging(&inputs, lines).map_err(named))
+}
+
 /// Bit by bit; any NaN is any other.
 #[must_use]
 pub fn is_same_seed(a: &Seed, b: &Seed) -> bool {
@@ -142,9 +163,20 @@ pub fn sources(inputs: &StoredInputs) -> Vec<Source> {
     (0..all).map(source).collect()
 }
 
-/// The record of a journal, as a chart is drawn from it.
+/// The choices that the search's host needs again.
+///
+/// # Errors
+///
+/// Says which of them this version doesn't know.
+pub fn choices(inputs: &StoredInputs) -> Result<Choices, String> {
+    let lines = inputs.notes.iter().filter(|note| note.0 == CHOICE).map(|note| note.1.as_str());
+    Choices::parse(&lines.collect::<Vec<_>>().join("\n"))
+        .map_err(|fault| format!("a `choice` of its notes can't be taken: {fault}"))
+}
+
+/// What the search was asked, as table and chart have it.
 #[must_use]
-pub fn record(inputs: &StoredInputs, lines: &[Line]) -> Record {
+pub fn about(inputs: &StoredInputs) -> Record {
     let mut record = Record::default();
     for (name, text) in &inputs.notes {
         if let Some(name) = name.strip_prefix(ABOUT) {
@@ -154,6 +186,13 @@ pub fn record(inputs: &StoredInputs, lines: &[Line]) -> Record {
     if record.about("bound_rad").is_none() {
         record.add("bound_rad", &inputs.options.max_abs_tilt.to_string());
     }
+    record
+}
+
+/// The record of a journal, as a chart is drawn from it.
+#[must_use]
+pub fn record(inputs: &StoredInputs, lines: &[Line]) -> Record {
+    let mut record = about(inputs);
     record.tried = of_lines(lines, (&inputs.decomposition, &sources(inputs)));
     record
 }

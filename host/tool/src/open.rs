@@ -56,6 +56,18 @@ impl Open {
         }
     }
 
+    /// The same as far as it is known without the views: by the steps, and by the centre.
+    #[must_use]
+    pub fn without_views(winner: &Winner, plan: &Plan, centre_within: Option<f64>) -> Self {
+        Self {
+            steps: plan.steps(),
+            noise: None,
+            per_pixel: per_pixel(&winner.camera.k, winner.sensor),
+            centre_within,
+            held: plan.axes[1].is_held.then_some(Held { wanted: None }),
+        }
+    }
+
     /// What the centre's tolerance leaves open of each tilt, if it is known.
     #[must_use]
     pub fn by_centre(&self) -> Option<[f64; 2]> {

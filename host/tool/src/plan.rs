@@ -57,6 +57,12 @@ impl Plan {
         }
     }
 
+    /// The options that it is the plan of.
+    #[must_use]
+    pub fn options(&self) -> &Options {
+        &self.options
+    }
+
     /// What is left of the plan where the search is stopped in a round: the rounds before it.
     #[must_use]
     pub fn stopped_in(&self, round: usize) -> Self {

@@ -1,6 +1,6 @@
 //! How far a search has come: on a terminal one line that is drawn again after each tried tilt, elsewhere plain lines.
 
-use crate::drive::Tried;
+use crate::drive::{Tried, best};
 use crate::screen::aside;
 use jinnychair::{Options, Progress};
 use std::time::{Duration, Instant};
@@ -20,6 +20,8 @@ pub struct Bar {
     best: Option<Best>,
     /// How wide the line is that stands on the terminal.
     drawn: usize,
+    /// How many tilts were tried before.
+    before: usize,
 }
 
 /// The best so far.
@@ -29,22 +31,28 @@ struct Best {
     tilts: [f64; 2],
 }
 
+impl Best {
+    fn of(one: &Tried) -> Option<Self> {
+        let sensor = one.seed.sensor;
+        one.outcome.score().map(|score| Self { score, tilts: [sensor.tilt_x, sensor.tilt_y] })
+    }
+}
+
 impl Bar {
-    /// A search begins.
+    /// A search begins, or goes on behind the tilts that were tried before.
     #[must_use]
-    pub fn new(options: &Options, is_terminal: bool) -> Self {
+    pub fn new(options: &Options, tried: &[Tried], is_terminal: bool) -> Self {
         let (most, now) = (if options.one_axis { 3 } else { 9 }, Instant::now());
-        Self { is_terminal, most, started: now, last_line: now, best: None, drawn: 0 }
+        let (best, before) = (best(tried).and_then(Best::of), tried.len());
+        Self { is_terminal, most, started: now, last_line: now, best, drawn: 0, before }
     }
 
     /// A tilt was tried; `before` is how far the search had come until then.
     pub fn show(&mut self, one: &Tried, before: &Progress) {
-        let sensor = one.seed.sensor;
-        let is_better = |score: &f64| self.best.is_none_or(|best| *score < best.score);
-        if let Some(score) = one.outcome.score().filter(is_better) {
-            self.best = Some(Best { score, tilts: [sensor.tilt_x, sensor.tilt_y] });
-        }
-        let left = time_left(before, self.most, self.started.elapsed());
+        let is_better = |new: &Best| self.best.is_none_or(|best| new.score < best.score);
+        self.best = Best::of(one).filter(is_better).or(self.best);
+        let tried = before.answered_in_run + 1 - self.before;
+        let left = time_left(before, self.most, self.started.elapsed(), tried);
         if self.is_terminal {
             self.draw(&bar(before, self.best, left));
         } else if before.answered + 1 == before.total || self.last_line.elapsed() > SILENCE {
@@ -71,11 +79,12 @@ impl Bar {
     }
 }
 
-/// What the rest takes if each tilt takes as long as those before: this round's exactly, later rounds with all that they can have.
-fn time_left(before: &Progress, most: usize, elapsed: Duration) -> Duration {
+/// What the rest takes if each tilt takes as long as those that were tried in the time: this round's exactly, later rounds with
+/// all that they can have.
+fn time_left(before: &Progress, most: usize, elapsed: Duration, tried: usize) -> Duration {
     let later = most * (before.rounds - before.round.min(before.rounds));
     let left = before.total.saturating_sub(before.answered + 1) + later;
-    elapsed.mul_f64(left as f64 / (before.answered_in_run + 1) as f64)
+    elapsed.mul_f64(left as f64 / tried as f64)
 }
 
 /// At most 79 letters, so that it fits a terminal's line.
@@ -163,13 +172,12 @@ mod tests {
 
     #[test]
     fn the_time_left_is_of_this_rounds_seeds_and_of_the_later_rounds() {
-        let time = |before: &Progress, most| time_left(before, most, Duration::from_secs(10));
         // Ten answers took ten seconds; two seeds are left here, and five rounds follow.
-        let before = Progress { answered_in_run: 9, ..progress(1, 6, 9) };
+        let time = |before: &Progress, most| time_left(before, most, Duration::from_secs(10), 10);
+        let before = progress(1, 6, 9);
         assert_eq!(time(&before, 9), Duration::from_secs(2 + 5 * 9));
         assert_eq!(time(&before, 3), Duration::from_secs(2 + 5 * 3));
-        let last = Progress { answered_in_run: 9, ..progress(6, 8, 9) };
-        assert_eq!(time(&last, 9), Duration::ZERO);
+        assert_eq!(time(&progress(6, 8, 9), 9), Duration::ZERO);
     }
 
     #[test]

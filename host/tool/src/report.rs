@@ -1,46 +1,90 @@
-//! The winner in words: the numbers that people ask for first.
+//! The winner and the counts in words: the numbers that people ask for first.
 
 use crate::angle::degrees;
-use crate::drive::{Finished, Stop, Tried, last_step, step_of};
+use crate::drive::{Finished, Stop, last_step, step_of};
 use crate::open::{Held, Open};
-use crate::residuals::Fit;
-use crate::table::source_text;
+use crate::residuals::{Dot, Fit};
+use crate::table::{SKIPS, source_text};
 use crate::verdict::Point;
-use jinnychair::{Options, Progress, Stopped, Winner};
+use jinnychair::{Counts, Options, Progress, Stopped, Winner};
 
 /// How many of the worst dots are shown.
 const WORST: usize = 3;
 
+/// A name, and what is said of it.
+pub type Row = (String, String);
+
+/// Rows as lines of text.
+fn text(rows: &[Row]) -> String {
+    let lines = rows.iter().map(|(name, value)| format!("{name:16}{value}"));
+    lines.collect::<Vec<_>>().join("\n")
+}
+
 /// The winner, its errors, and what is left open.
 #[must_use]
-pub fn winner(finished: &Finished, winner: &Winner, one: &Tried, fit: &Fit, open: &Open) -> String {
+pub fn winner(finished: &Finished, winner: &Winner, fit: &Fit, open: &Open) -> String {
+    let rows = text(&winner_rows(finished, winner, Some(fit), open));
+    [rows, views(fit), worst(fit)].join("\n")
+}
+
+/// The winner and what is left open, with its errors in pixels as far as they are known.
+#[must_use]
+pub fn winner_rows(
+    finished: &Finished,
+    winner: &Winner,
+    fit: Option<&Fit>,
+    open: &Open,
+) -> Vec<Row> {
     let (k, sensor) = (winner.camera.k, winner.sensor);
     let total = open.total();
     let tilt = |radians: f64, open: f64| {
         format!("{:+.4}° ± {}°   ({radians:+.6} rad)", radians.to_degrees(), degrees(open))
     };
-    let lines = [
-        format!(
-            "{:16}candidate {} of {} ({})",
-            if finished.stop.is_some() { "best so far" } else { "winner" },
-            winner.number,
-            finished.tried.len(),
-            source_text(one.source)
-        ),
-        format!("tilt x          {}", tilt(sensor.tilt_x, total[0])),
-        open.held
-            .map_or_else(|| format!("tilt y          {}", tilt(sensor.tilt_y, total[1])), held),
-        left_open(open),
-        format!("focal lengths   {:.3} px  {:.3} px", k.fx, k.fy),
-        format!("centre          {:.3} px  {:.3} px  (held)", k.cx, k.cy),
-        format!("mean error      {:.5} px", winner.mean_reproj_error),
-        format!("RMS error       {:.5} px", fit.rms()),
-        format!("counted dots    {} of {}", fit.counted(), fit.dots.len()),
-        format!("score           {:.5}", winner.score),
-        views(fit),
-        worst(fit),
+    let source = finished.tried.get(winner.number).map(|one| source_text(one.source));
+    let tried = finished.tried.len();
+    let of_all = format!("candidate {} of {tried} ({})", winner.number, source.unwrap_or_default());
+    let name = if finished.stop.is_some() { "best so far" } else { "winner" };
+    let tilt_y = open.held.map_or_else(|| tilt(sensor.tilt_y, total[1]), held);
+    let row = |name: &str, value: String| (name.to_owned(), value);
+    let mut rows = vec![
+        row(name, of_all),
+        row("tilt x", tilt(sensor.tilt_x, total[0])),
+        row("tilt y", tilt_y),
     ];
-    lines.join("\n")
+    rows.extend(left_open(open));
+    rows.extend([
+        row("focal lengths", format!("{:.3} px  {:.3} px", k.fx, k.fy)),
+        row("centre", format!("{:.3} px  {:.3} px  (held)", k.cx, k.cy)),
+        row("mean error", format!("{:.5} px", winner.mean_reproj_error)),
+    ]);
+    if let Some(fit) = fit {
+        rows.push(row("RMS error", format!("{:.5} px", fit.rms())));
+        rows.push(row("counted dots", format!("{} of {}", fit.counted(), fit.dots.len())));
+    }
+    rows.push(row("score", format!("{:.5}", winner.score)));
+    rows
+}
+
+/// How many tilts were scored and how many skipped for each reason, in words, and behind `report` as 02's line.
+///
+/// # Errors
+///
+/// There are more than a search can have.
+pub fn counts(counts: &Counts) -> Result<String, String> {
+    let (total, scored) = (counts.total(), counts.scored);
+    let mut text =
+        format!("tilts           {total} tried, {scored} scored, {} skipped", total - scored);
+    for &(reason, letter, words) in SKIPS {
+        text += &format!("\n  skipped {letter}     {}: {words}", counts.skipped(reason));
+    }
+    let line = counts.report_line().map_err(|error| {
+        let number = error.number();
+        format!(
+            "{total} lines, and a search tries at most 656 tilts ({number}). These are the lines of more than one: \
+             take the journal that the search wrote"
+        )
+    })?;
+    Ok(format!("{text}\nreport          {}", line.trim_end()))
 }
 
 /// By what a search was stopped, and where.
@@ -101,15 +145,17 @@ fn held(held: Held) -> String {
     let wanted = held.wanted.map_or(String::new(), |[tilt, open]| {
         format!("; let free, it would be {:+.4}° ± {}°", tilt.to_degrees(), degrees(open))
     });
-    format!("tilt y          0° (held: one axis{wanted})")
+    format!("0° (held: one axis{wanted})")
 }
 
-fn left_open(open: &Open) -> String {
+fn left_open(open: &Open) -> Vec<Row> {
     let both = |[x, y]: [f64; 2]| match open.held {
         None => format!("±{}° x, ±{}° y", degrees(x), degrees(y)),
         Some(_) => format!("±{}° x", degrees(x)),
     };
-    let noise = open.noise.map_or("not determined".into(), both);
+    let noise = open.noise.map_or("not determined".into(), |noise| {
+        format!("{} (two standard deviations)", both(noise))
+    });
     let centre = open.by_centre().map_or(
         "not known: give the centre's tolerance with --centre-within PX".into(),
         |tilts| {
@@ -121,45 +167,56 @@ fn left_open(open: &Open) -> String {
         None => format!(", 1 px of its x moves tilt y by {y}°"),
         Some(_) => String::new(),
     };
-    [
-        format!("  by the steps  {}", both(open.steps)),
-        format!("  by noise      {noise} (two standard deviations)"),
-        format!("  by the centre {centre}"),
-        format!("                1 px of the centre's y moves tilt x by {x}°{of_y}"),
+    vec![
+        ("  by the steps".into(), both(open.steps)),
+        ("  by noise".into(), noise),
+        ("  by the centre".into(), centre),
+        (String::new(), format!("1 px of the centre's y moves tilt x by {x}°{of_y}")),
     ]
-    .join("\n")
 }
 
 fn views(fit: &Fit) -> String {
     let mut lines = vec!["view  counted  mean px   RMS px  worst px".to_owned()];
-    for view in 0..fit.normals.len() {
-        let sizes: Vec<f64> =
-            fit.view(view).filter_map(|dot| dot.error.map(|_| dot.size())).collect();
-        let mean = sizes.iter().sum::<f64>() / sizes.len().max(1) as f64;
-        let most = sizes.iter().copied().fold(0.0, f64::max);
-        let counted = format!("{}/{}", sizes.len(), fit.view(view).count());
-        lines.push(format!(
-            "{:4}  {counted:>7}  {mean:7.4}  {:7.4}  {most:8.4}",
-            view + 1,
-            fit.view_rms(view)
-        ));
+    for [view, counted, mean, rms, most] in view_rows(fit) {
+        lines.push(format!("{view:>4}  {counted:>7}  {mean:>7}  {rms:>7}  {most:>8}"));
     }
     lines.join("\n")
 }
 
+/// For each view its number, its counted dots, and their mean, RMS and worst error, in pixels.
+#[must_use]
+pub fn view_rows(fit: &Fit) -> Vec<[String; 5]> {
+    let row = |view: usize| {
+        let sizes: Vec<f64> =
+            fit.view(view).filter_map(|dot| dot.error.map(|_| dot.size())).collect();
+        let mean = sizes.iter().sum::<f64>() / sizes.len().max(1) as f64;
+        let most = sizes.iter().copied().fold(0.0, f64::max);
+        let [mean, rms, most] = [mean, fit.view_rms(view), most].map(|px| format!("{px:.4}"));
+        let counted = format!("{}/{}", sizes.len(), fit.view(view).count());
+        [(view + 1).to_string(), counted, mean, rms, most]
+    };
+    (0..fit.normals.len()).map(row).collect()
+}
+
 fn worst(fit: &Fit) -> String {
-    let mut lines = vec!["worst dots".to_owned()];
-    for dot in fit.worst().iter().take(WORST) {
+    let lines = worst_texts(fit).into_iter().map(|text| format!("\n  {text}"));
+    format!("worst dots{}", lines.collect::<String>())
+}
+
+/// The dots with the largest errors, in words.
+#[must_use]
+pub fn worst_texts(fit: &Fit) -> Vec<String> {
+    let text = |dot: &&Dot| {
         let [right, down] = dot.error.unwrap_or_default();
-        lines.push(format!(
-            "  view {}, place {} {}: {:.4} px off ({right:+.3} right, {down:+.3} down)",
+        format!(
+            "view {}, place {} {}: {:.4} px off ({right:+.3} right, {down:+.3} down)",
             dot.view + 1,
             dot.place.x,
             dot.place.y,
             dot.size()
-        ));
-    }
-    lines.join("\n")
+        )
+    };
+    fit.worst().iter().take(WORST).map(text).collect()
 }
 
 /// The verdict's head line.

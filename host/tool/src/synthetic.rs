@@ -1,5 +1,6 @@
 //! Views of a plate as a known camera with a known tilt sees them.
 
+use crate::angle::degrees;
 use crate::linear::{Matrix3, add_scaled, column, product};
 use crate::residuals::trig;
 use crate::views::{Plate, View};
@@ -23,6 +24,13 @@ pub const BUILT_IN: Truth = Truth {
     sensor: ScheimpflugParams { tilt_x: -0.020943951023931952, tilt_y: -0.006981317007977318 },
     noise: 0.05,
 };
+
+/// What the built-in plate is, in words.
+#[must_use]
+pub fn built_in_text() -> String {
+    let [x, y] = [BUILT_IN.sensor.tilt_x, BUILT_IN.sensor.tilt_y].map(degrees);
+    format!("the built-in plate (planted tilts {x}° {y}°, noise {} px)", BUILT_IN.noise)
+}
 
 /// Dots along each side of the plate, and the distance between two, in millimetres.
 const DOTS: [usize; 2] = [10, 7];

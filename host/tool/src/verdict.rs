@@ -1,7 +1,8 @@
 //! What speaks against a winner, and what to do. None of this is an error: the search did what it was asked.
 
 use crate::angle::degrees;
-use crate::drive::{Dots, Finished, Stop, Tried, best, last_step, reach};
+use crate::choices::Choices;
+use crate::drive::{Dots, Finished, JOURNAL_END, Stop, Tried, best, last_step, reach};
 use crate::open::{Open, free_numbers};
 use crate::plan::Plan;
 use crate::residuals::{Dot, Fit};
@@ -316,7 +317,7 @@ pub fn of_centre(
     vec![]
 }
 
-/// What speaks against the winner by service's limits, and by what is left open.
+/// What speaks against the winner by service's limits, with what is left open.
 #[must_use]
 pub fn of_limits(winner: &Winner, open: &Open, limits: Limits) -> Vec<Point> {
     let mut points = vec![];
@@ -338,21 +339,55 @@ pub fn of_limits(winner: &Winner, open: &Open, limits: Limits) -> Vec<Point> {
         );
         points.push(point(what, "Look at the worst dots and views; take the views again."));
     }
+    points
+}
+
+/// Noise that leaves a winner's tilts open too far.
+#[must_use]
+pub fn of_noise(open: &Open) -> Option<Point> {
     let noise = open.noise.map(|noise| noise.map(f64::to_degrees));
-    if noise.is_none_or(|noise| noise.iter().any(|open| *open > MOST_OPEN)) {
+    noise.is_none_or(|noise| noise.iter().any(|open| *open > MOST_OPEN)).then(|| {
         let by = noise.map_or("any amount".into(), |[x, y]| match open.held {
             None => format!("±{x:.2}° and ±{y:.2}°"),
             Some(_) => format!("±{x:.2}°"),
         });
         let tilts = if open.held.is_some() { "tilt x" } else { "the tilts" };
-        let what = format!("noise in the pixels leaves {tilts} open by {by}");
-        points.push(point(
-            what,
+        point(
+            format!("noise in the pixels leaves {tilts} open by {by}"),
             "Take more views, with the plate turned by 20° to 40°, about both axes.",
-        ));
-    }
-    points
+        )
+    })
 }
+
+/// What speaks against a winner as far as a journal and its inputs tell.
+#[must_use]
+pub fn without_views(
+    finished: &Finished,
+    winner: &Winner,
+    plan: &Plan,
+    open: &Open,
+    choices: &Choices,
+) -> Vec<Point> {
+    let is_guessed = choices.guess_centre.is_some();
+    let nowhere = [0.0; 2];
+    let against = [
+        finished.stop.as_ref().map(of_stop).into_iter().collect(),
+        if is_guessed { of_centre(nowhere, true, nowhere, nowhere) } else { vec![] },
+        of_plan(plan),
+        of_search(finished, winner, plan.options(), open.steps.map(|step| 4.0 * step)),
+        of_limits(winner, open, choices.limits()),
+    ];
+    against.concat()
+}
+
+/// What can't be looked at without the views.
+pub const ONLY_BY_VIEWS: &[&str] = &[
+    "whether noise in the pixels leaves the tilts open too far",
+    "whether the stated centre lies where the views are, and not with x and y exchanged",
+    "stray dots and stray views, and dots that aren't counted",
+    "whether the errors are noise, or those of a bent plate, of a lens or of another camera",
+    "whether the plate was turned far enough between the views, and is seen from one side",
+];
 
 /// A search that was stopped before its end.
 #[must_use]
@@ -370,7 +405,13 @@ pub fn of_stop(stop: &Stop) -> Point {
         total - answered,
         if stop.stopped.no_gain { "can gain nothing" } else { "may have a better one" },
     );
-    point(what, "Search with more time, with fewer tilts, or with fewer rounds.")
+    let is_broken_off = stop.why == JOURNAL_END;
+    let remedy = if is_broken_off {
+        "Go on with it: `jinnychair resume` and the journal's name."
+    } else {
+        "Search with more time, with fewer tilts, or with fewer rounds."
+    };
+    point(what, remedy)
 }
 
 /// A tilt y that is held at 0 while the views want another: by more than the steps, twice the noise and the centre's
@@ -393,10 +434,10 @@ pub fn of_held(open: &Open) -> Option<Point> {
 
 /// Holes in the lab's own lists.
 #[must_use]
-pub fn of_plan(plan: &Plan, options: &Options) -> Vec<Point> {
+pub fn of_plan(plan: &Plan) -> Vec<Point> {
     let holes = plan.axes.iter().flat_map(|axis| axis.hole_texts());
     let points = holes.map(|hole| point(hole, "Type tilts there, or take a larger --step."));
-    points.filter(|_| options.refine_rounds > 0).collect()
+    points.filter(|_| plan.options().refine_rounds > 0).collect()
 }
 
 #[cfg(test)]

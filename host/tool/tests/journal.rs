@@ -3,20 +3,13 @@
 
 mod common;
 
-use common::{assert_said, file, folder, names, program, said, small};
+use common::{assert_said, file, folder, names, program, said, searched, small};
 use jinnychair::Outcome;
 use std::fs;
 use std::path::Path;
 use tool::journal::{Ending, Journal, read_inputs};
 use tool::synthetic::BUILT_IN;
 use tool::table::Record;
-
-/// A search with a journal, in an empty folder.
-fn searched(name: &str) -> std::path::PathBuf {
-    let here = folder(name);
-    said(&here, &small(&["--journal=night"]), 0);
-    here
-}
 
 fn lines(folder: &Path, name: &str) -> Vec<String> {
     file(folder.join(name)).lines().map(str::to_owned).collect()
@@ -60,11 +53,12 @@ fn views_are_named_with_their_checksum() {
 fn no_journal_is_written_over() {
     let here = searched("journal-kept");
     let before = file(here.join("night"));
-    let told = "night: there is a journal of this name";
-    assert_said(&here, &small(&["--journal=night", "--rounds=1"][..1]), 1, &[told]);
+    let told = "night: there is a journal of this name, and no journal is written over. `jinnychair resume night` goes on";
+    assert_said(&here, &small(&["--journal=night"]), 1, &[told, "or name another with --journal"]);
     assert_eq!(file(here.join("night")), before);
     fs::write(here.join("views.txt"), BUILT_IN.plate().text()).unwrap();
-    assert_said(&here, &small(&["--journal=views.txt"]), 1, &["views.txt: there is a journal"]);
+    let told = "views.txt: there is a file of this name, without the inputs of a search beside it";
+    assert_said(&here, &small(&["--journal=views.txt"]), 1, &[told]);
     assert!(!here.join("views.txt.inputs").exists());
     // Inputs of a journal that was moved away.
     fs::rename(here.join("night"), here.join("moved")).unwrap();

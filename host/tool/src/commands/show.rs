@@ -1,11 +1,10 @@
 //! `show`: the lines of a journal as a table, in decimals and degrees.
 
-use super::{Command, End, Fault, Words, only_file};
-use crate::journal::{Ending, Journal, check_belonging, read_inputs};
+use super::{Command, End, Fault, Words, end_of, only_file};
+use crate::journal::Journal;
 use crate::screen::Screen;
 use crate::table::letter;
-use jinnychair::journal::{Line, Recorded, inputs_path};
-use std::path::Path;
+use jinnychair::journal::{Line, Recorded};
 
 pub(super) const COMMAND: Command = Command {
     name: "show",
@@ -44,31 +43,7 @@ fn run(words: Words, screen: &mut Screen) -> Result<End, Fault> {
     let path = only_file(words, "journal")?;
     let journal = Journal::read(&path)?;
     screen.say(table(&journal.lines));
-    let is_belonging = say_if_strange(&path, &journal, screen);
-    let told = journal.ending_text().map(|text| format!("{}: {text}", path.display()));
-    match (journal.ending, told) {
-        (Ending::Bad(_), Some(fault)) => Err(Fault::Failed(fault)),
-        (_, Some(text)) => {
-            screen.say(text);
-            Ok(End::Doubtful)
-        }
-        _ => Ok(if is_belonging { End::Good } else { End::Doubtful }),
-    }
-}
-
-/// Says where the inputs beside a journal aren't its own, or are damaged; a journal without any is shown all the same.
-fn say_if_strange(path: &Path, journal: &Journal, screen: &mut Screen) -> bool {
-    let beside = inputs_path(path);
-    if !beside.exists() {
-        return true;
-    }
-    let named = |fault: String| format!("{}: {fault}", beside.display());
-    let checked = read_inputs(path)
-        .and_then(|inputs| check_belonging(&inputs, &journal.lines).map_err(named));
-    if let Err(fault) = &checked {
-        screen.say(fault);
-    }
-    checked.is_ok()
+    end_of(&path, &journal, screen)
 }
 
 /// Columns as wide as their widest field.

@@ -1,6 +1,7 @@
 //! The program, run as a user runs it.
 #![allow(dead_code, reason = "each file of tests uses some of these")]
 
+use jinnychair::journal::{Line, write_line};
 use std::ffi::OsStr;
 use std::fs;
 use std::path::{Path, PathBuf};
@@ -57,4 +58,22 @@ pub const SMALL: [&str; 4] =
 
 pub fn small<'a>(words: &[&'a str]) -> Vec<&'a str> {
     [&["search"], words, &SMALL].concat()
+}
+
+/// A search with a journal, `night`, in an empty folder.
+pub fn searched(name: &str) -> PathBuf {
+    let here = folder(name);
+    said(&here, &small(&["--journal=night"]), 0);
+    here
+}
+
+/// Writes lines as a journal.
+pub fn write_journal(path: &Path, lines: &[Line]) {
+    let mut bytes = vec![];
+    for line in lines {
+        let mut buffer = [0; 256];
+        let len = write_line(line, &mut buffer).unwrap();
+        bytes.extend(&buffer[..len]);
+    }
+    fs::write(path, bytes).unwrap();
 }
