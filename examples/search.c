@@ -8,6 +8,8 @@
 enum { DOTS = 35 };
 static const double X_TILTS[] = {-0.16, -0.12, -0.08, -0.04, 0.0, 0.04, 0.08, 0.12, 0.16};
 static const double Y_TILTS[] = {-0.04, -0.02, 0.0, 0.02, 0.04};
+/* A host keeps its journal in a file, and each line there before the next seed is asked for. */
+static uint8_t journal[JC_MOST_ANSWERS * JC_LINE_LEN];
 enum { X_COUNT = sizeof X_TILTS / sizeof *X_TILTS, Y_COUNT = sizeof Y_TILTS / sizeof *Y_TILTS };
 
 /* Of tilts up to 0.5 radians; of others the number is 27 and the value 0. */
@@ -47,6 +49,7 @@ int main(void) {
     jc_start_flat started = jc_start(3, options, X_TILTS, X_COUNT, Y_TILTS, Y_COUNT, X_TILTS, 0, k, center, list, list_len);
     if (started.number != 0) return printf("not started: %d\n", started.number), 1;
     jc_run_record run = started.run;
+    size_t journal_len = 0;
 
     for (;;) {
         jc_next_flat next = jc_next(run, list, list_len);
@@ -61,11 +64,22 @@ int main(void) {
         jc_answer_flat answer = jc_answer(run, 1, solved, rows, JC_ROW_NUMBERS * DOTS, flags, DOTS, list, list_len);
         if (answer.number != 0) return printf("not taken: %d\n", answer.number), 1;
         run = answer.run;
+        journal_len += jc_write_line(jc_last_line(run).line, journal + journal_len, JC_LINE_LEN).len;
     }
     jc_result_flat result = jc_result(run);
     if (result.number != 0) return printf("no result: %d\n", result.number), 1;
     jc_candidate winner = result.candidate;
     printf("no. %zu of %zu won: %+.4f %+.4f, %.3f px\n", winner.number, jc_progress(run).answered_in_run, winner.sensor.tilt_x,
            winner.sensor.tilt_y, winner.mean_reproj_error);
+
+    /* The morning report: how many were scored, how many skipped for each reason, and all of them. */
+    uint8_t report[JC_REPORT_LEN];
+    jc_write_flat written = jc_write_report(jc_counts(run), report, JC_REPORT_LEN);
+    fwrite(report, 1, written.len, stdout);
+
+    /* Support has the journal and what Start was given, and no host. */
+    jc_replay_flat again = jc_replay(3, options, X_TILTS, X_COUNT, Y_TILTS, Y_COUNT, X_TILTS, 0, k, center, journal, journal_len, list, list_len);
+    if (again.number != 0 || !again.is_over) return printf("line %zu: %d\n", again.line_number, again.number), 1;
+    printf("no. %zu won, by the %zu bytes of the journal\n", again.candidate, journal_len);
     return 0;
 }

@@ -198,6 +198,195 @@ static void counted(void) {
     claim(jc_start(3, more, TILTS, 2, TILTS, 2, TILTS, 0, K, center, list, 54).number == JC_SHARE_TOO_LARGE, "33");
 }
 
+static int as_text(const uint8_t *bytes, size_t len, const char *text) { return len == strlen(text) && memcmp(bytes, text, len) == 0; }
+
+static void counts(void) {
+    jc_options options = {0, 0, 0.02, 0, 0};
+    jc_pt2 center = {640, 480};
+    double list[54];
+    jc_run_record run = jc_start(3, options, TILTS, 2, TILTS, 2, TILTS, 0, K, center, list, 54).run;
+    jc_count_record c = jc_counts(run);
+    claim(c.scored + c.host_failed + c.bad_camera + c.no_mean + c.no_number == 0, "counts start at 0");
+    jc_pinhole_camera solved = {K, {0, 0, 0, 0, 0}}, bad = {{0, 0, 0, 0}, {0, 0, 0, 0, 0}};
+    const double row[] = {0, 0, 643, 484};
+    const uint8_t one[] = {1}, none[] = {0}, two[] = {2};
+    run = jc_next(run, list, 54).run;
+    claim(jc_counts(run).scored == 0, "a seed that waits counts nowhere");
+    claim(jc_counts(jc_answer(run, 1, solved, row, 4, two, 1, list, 54).run).scored == 0, "nor does a refused call");
+    run = jc_answer(run, 1, solved, row, 4, one, 1, list, 54).run;
+    run = jc_answer(jc_next(run, list, 54).run, 0, solved, row, 4, one, 1, list, 54).run;
+    run = jc_answer(jc_next(run, list, 54).run, 1, bad, row, 4, one, 1, list, 54).run;
+    run = jc_answer(jc_next(run, list, 54).run, 1, solved, row, 4, none, 1, list, 54).run;
+    c = jc_counts(run);
+    claim(c.scored == 1 && c.host_failed == 1 && c.bad_camera == 1 && c.no_mean == 1 && c.no_number == 0, "one of each");
+
+    uint8_t to[JC_REPORT_LEN + 1];
+    memset(to, 7, sizeof to);
+    jc_write_flat w = jc_write_report(c, to, JC_REPORT_LEN);
+    claim(w.number == 0 && as_text(to, w.len, "1,1,1,1,0,4\n") && to[w.len] == 7, "the report, and the rest stays");
+    claim(jc_write_report(c, to, JC_REPORT_LEN - 1).number == JC_NOT_WRITABLE && to[0] == '1', "28 below 24 bytes, and nothing is written");
+    jc_count_record longest = {100, 100, 100, 100, 100}, most = {656, 0, 0, 0, 0}, more = {656, 0, 0, 0, 1}, wrapped = {SIZE_MAX, 1, 0, 0, 0};
+    w = jc_write_report(longest, to, JC_REPORT_LEN);
+    claim(as_text(to, w.len, "100,100,100,100,100,500\n"), "24 bytes are enough");
+    claim(jc_write_report(most, to, JC_REPORT_LEN).number == 0, "a total of JC_MOST_ANSWERS");
+    claim(jc_write_report(more, to, JC_REPORT_LEN).number == JC_NOT_WRITABLE, "28 above it");
+    w = jc_write_report(wrapped, to, JC_REPORT_LEN);
+    claim(w.number == JC_NOT_WRITABLE && w.len == 0, "a total doesn't wrap round");
+
+    run.counts.scored = 2;
+    claim(jc_counts(run).scored == 0 && jc_next(run, list, 54).number == JC_NOTHING_SCORED, "counts that don't add up: no call returned this record");
+    run.counts.scored = (size_t)1 + SIZE_MAX / 2 + 1;
+    run.counts.host_failed = (size_t)1 + SIZE_MAX / 2 + 1;
+    claim(jc_counts(run).scored == 0 && jc_next(run, list, 54).number == JC_NOTHING_SCORED, "nor where they do so only by wrapping round");
+}
+
+static const jc_options SHORT = {1, 0.005, 0.02, 1, 0};
+static const jc_pt2 CENTER = {640, 480};
+static const double LEVEL_TILT[] = {0};
+
+/* A search of two tilts and a round of three, with the journal's five lines; ends[i] is where line i ends. */
+typedef struct {
+    jc_run_record run;
+    double list[54];
+    uint8_t bytes[5 * JC_LINE_LEN];
+    size_t ends[6], len;
+} journaled;
+
+/* Answers until the run is over: an error of one pixel per 0.001 radians from 0.006. */
+static void go_on(journaled *j, size_t answered) {
+    jc_pinhole_camera solved = {{1001.0, 900, 640, 480}, {0, 0, 0, 0.01, 0}};
+    const uint8_t one[] = {1};
+    for (; answered < 5; answered++) {
+        jc_run_record run = jc_next(j->run, j->list, 54).run;
+        const double row[] = {0, 0, 640 + fabs(run.waiting.seed.sensor.tilt_x - 0.006) * 1000, 480};
+        j->run = jc_answer(run, 1, solved, row, 4, one, 1, j->list, 54).run;
+        uint8_t *to = j->bytes + j->ends[answered];
+        jc_write_flat w = jc_write_line(jc_last_line(j->run).line, to, JC_LINE_LEN);
+        j->len = j->ends[answered + 1] = j->ends[answered] + w.len;
+    }
+}
+
+static journaled searched(void) {
+    journaled j;
+    memset(&j, 0, sizeof j);
+    j.run = jc_start(3, SHORT, TILTS, 2, LEVEL_TILT, 1, TILTS, 0, K, CENTER, j.list, 54).run;
+    go_on(&j, 0);
+    return j;
+}
+
+static jc_replay_flat replayed(const uint8_t *bytes, size_t len, double *list) {
+    return jc_replay(3, SHORT, TILTS, 2, LEVEL_TILT, 1, TILTS, 0, K, CENTER, bytes, len, list, 54);
+}
+
+static void replay(void) {
+    journaled j = searched();
+    jc_candidate winner = jc_result(j.run).candidate;
+    double list[54] = {7}, before[54];
+    jc_replay_flat r = replayed(j.bytes, j.len, list);
+    claim(r.number == 0 && r.is_over == 1 && r.candidate == winner.number && same(r.score, winner.score), "a journal's winner is the search's");
+    claim(r.line_number == 0 && r.next.reference_k.fx == 0 && memcmp(list, j.list, 18 * sizeof *list) == 0, "the list is as all lines left it");
+    r = replayed(j.bytes, 0, list);
+    claim(r.number == 0 && r.is_over == 0 && r.candidate == 0 && r.next.sensor.tilt_x == -0.01, "where the lines run out, the seed that comes next");
+    r = replayed(j.bytes, j.ends[2], before);
+    claim(r.number == 0 && r.next.reference_k.fx == 1001 && r.next.sensor.tilt_x == 0.01 - 0.005, "at a round's end that of the next list");
+    r = replayed(j.bytes, j.ends[3] - 1, list);
+    claim(r.number == JC_NOT_A_LINE && r.line_number == 3 && r.score == 0 && r.next.reference_k.fx == 0, "29 with the line's number");
+    claim(memcmp(list, before, sizeof *list * 18) == 0, "and the list as the lines before left it");
+    r = replayed(j.bytes + j.ends[1], j.ends[2] - j.ends[1], list);
+    claim(r.number == JC_NOT_THE_RUN && r.line_number == 1 && list[4] == -0.01, "30 with the line's number");
+    list[0] = 7;
+    r = jc_replay(2, SHORT, TILTS, 2, LEVEL_TILT, 1, TILTS, 0, K, CENTER, j.bytes, j.len, list, 54);
+    claim(r.number == JC_TOO_FEW_VIEWS && r.line_number == 0 && list[0] == 7, "Start's own refusals come first, and leave the list");
+    jc_options narrow = {1, 0.005, 0.001, 1, 0};
+    r = jc_replay(3, narrow, TILTS, 2, LEVEL_TILT, 1, TILTS, 0, K, CENTER, j.bytes, 0, list, 54);
+    claim(r.number == JC_NOTHING_SCORED && r.is_over == 0, "11 where nothing was scored");
+}
+
+/* A line's camera counts for the next round's list alone. */
+static void changed_camera(void) {
+    for (size_t i = 0; i < 2; i++) {
+        journaled j = searched();
+        double list[54];
+        jc_line line = jc_read_line(j.bytes, j.len, j.ends[i]).line;
+        uint8_t to[JC_LINE_LEN];
+        line.k.fx = nextafter(line.k.fx, 2000);
+        memcpy(j.bytes + j.ends[i], to, jc_write_line(line, to, JC_LINE_LEN).len);
+        jc_replay_flat r = replayed(j.bytes, j.len, list);
+        if (i == 0) claim(r.number == 0 && r.candidate == jc_result(j.run).candidate.number, "another camera that isn't its round's best isn't found");
+        if (i == 1) claim(r.number == JC_NOT_THE_RUN && r.line_number == 3, "that of the best is found with the next round's first line");
+    }
+}
+
+static jc_resume_flat resumed(const uint8_t *bytes, size_t len, double *list) {
+    return jc_resume(3, SHORT, TILTS, 2, LEVEL_TILT, 1, TILTS, 0, K, CENTER, bytes, len, list, 54);
+}
+
+/* After each byte a search can be switched off. */
+static void power_loss(void) {
+    const journaled whole = searched();
+    for (size_t cut = 0; cut <= whole.len; cut++) {
+        journaled j = whole;
+        memset(j.list, 0, sizeof j.list);
+        memset(j.bytes + cut, 0, sizeof j.bytes - cut);
+        jc_resume_flat r = resumed(j.bytes, cut, j.list);
+        size_t lines = 0;
+        while (lines < 5 && whole.ends[lines + 1] <= cut) lines++;
+        claim(r.number == 0 && r.lines == lines && r.kept == whole.ends[lines] && r.dropped == cut - r.kept, "only the line is lost that the cut fell in");
+        claim(r.ended_by == (r.dropped ? JC_ENDED_BY_MISSING_NEWLINE : JC_ENDED_BY_NOTHING), "by a missing newline, or by nothing");
+        claim(r.run.waiting.is_waiting == 0 && jc_counts(r.run).scored == lines && jc_last_line(r.run).found == (lines > 0), "no seed waits");
+        j.run = r.run;
+        go_on(&j, lines);
+        jc_candidate a = jc_result(j.run).candidate, b = jc_result(whole.run).candidate;
+        claim(j.len == whole.len && memcmp(j.bytes, whole.bytes, whole.len) == 0, "with the same answers the journal is the same");
+        claim(a.number == b.number && same(a.score, b.score) && memcmp(j.list, whole.list, sizeof j.list) == 0, "and so are winner and list");
+    }
+}
+
+static void resume(void) {
+    const journaled j = searched();
+    double list[54];
+    jc_resume_flat r = resumed((const uint8_t *)"x\n0,0", 5, list);
+    claim(r.number == 0 && r.ended_by == JC_NOT_A_LINE && r.lines == 0 && r.kept == 0 && r.dropped == 5, "29 ends the lines, and refuses nothing");
+    claim(r.run.place.len == 2 && list[4] == -0.01, "a run with no line kept is as Start leaves it");
+    uint8_t twice[2 * JC_LINE_LEN];
+    size_t line = j.ends[1];
+    memcpy(twice, j.bytes, line);
+    memcpy(twice + line, j.bytes, line);
+    r = resumed(twice, 2 * line, list);
+    claim(r.number == 0 && r.ended_by == JC_NOT_THE_RUN && r.lines == 1 && r.kept == line && r.dropped == line, "30 does too");
+    list[0] = 7;
+    jc_options degrees = {1, 0.005, 3, 1, 0};
+    r = jc_resume(3, degrees, TILTS, 2, LEVEL_TILT, 1, TILTS, 0, K, CENTER, j.bytes, j.len, list, 54);
+    claim(r.number == JC_TILT_TOO_LARGE && r.lines + r.kept + r.dropped == 0 && r.run.place.demand == 0 && list[0] == 7, "Start's refusals leave the list");
+}
+
+static jc_best_record best_of(uint8_t found, size_t number, double score) {
+    jc_best_record best;
+    memset(&best, 0, sizeof best);
+    best.found = found;
+    best.candidate.number = number;
+    best.candidate.score = score;
+    return best;
+}
+
+static void winners(void) {
+    jc_best_record none = best_of(0, 9, 0.25), two = best_of(1, 2, 0.5), five = best_of(7, 5, 0.5), lost = best_of(1, 1, NAN);
+    claim(jc_winner(two, five).candidate.number == 2 && jc_winner(five, two).candidate.number == 5, "the first of equal ones wins");
+    claim(jc_winner(two, best_of(1, 6, 0.25)).candidate.number == 6, "the lower one wins");
+    claim(jc_winner(none, two).candidate.number == 2 && jc_winner(two, none).candidate.number == 2, "none is left out");
+    claim(jc_winner(none, none).found == 0 && jc_winner(none, none).candidate.number == 0, "none of none");
+    claim(jc_winner(lost, five).candidate.number == 5 && jc_winner(five, lost).found == 1, "a score that isn't a number never wins");
+    claim(jc_winner(lost, lost).found == 0, "and isn't one");
+
+    const journaled j = searched();
+    jc_best_record won = none;
+    for (size_t i = 0; i < 5; i++) {
+        jc_line line = jc_read_line(j.bytes, j.len, j.ends[i]).line;
+        won = jc_winner(won, best_of(1, line.number, line.score));
+    }
+    claim(won.candidate.number == jc_result(j.run).candidate.number, "over all lines it is the run's winner");
+}
+
 /* Each limit is taken, and one more is refused. */
 static void limits(void) {
     static double list[JC_MOST_LIST], numbers[JC_ROW_NUMBERS * (JC_MOST_ROWS + 1)];
@@ -241,6 +430,12 @@ int main(void) {
     one_axis();
     progress();
     counted();
+    counts();
+    replay();
+    changed_camera();
+    resume();
+    power_loss();
+    winners();
     stop();
     limits();
     if (!failed) printf("the header's words hold\n");

@@ -4,9 +4,12 @@ use crate::findings::Sent;
 use crate::inputs::{for_library, on_one_axis};
 use crate::lines::{self, LineTally};
 use crate::record_words::*;
-use crate::unsound;
+use crate::replays::{self, ReplayTally};
+use crate::reports;
+use crate::resumes::{self, ResumeTally};
+use crate::{unsound, winners};
 use book::{Book, Inputs};
-use jinnychair::record::{Run, answer, next, progress, result, seed, start, stop};
+use jinnychair::record::{Run, answer, counts, next, progress, result, seed, start, stop};
 use jinnychair::{Handed, Outcome, SkipReason};
 use random::Random;
 use words::{float_words, word};
@@ -34,6 +37,10 @@ pub struct Tally {
     pub stops: [usize; 4],
     /// Journals that were read again.
     pub lines: LineTally,
+    /// Journals that were run again.
+    pub replays: ReplayTally,
+    /// Runs that went on from their journals.
+    pub resumes: ResumeTally,
 }
 
 impl Default for Tally {
@@ -49,20 +56,30 @@ impl Default for Tally {
             later_totals: [0; 10],
             stops: [0; 4],
             lines: LineTally::default(),
+            replays: ReplayTally::default(),
+            resumes: ResumeTally::default(),
         }
     }
 }
 
 /// Both sides of one run.
-struct Pair {
+pub(crate) struct Pair {
     /// Whether the host's answers often tie.
     ties: bool,
-    run: Run,
-    list: Vec<f64>,
-    book: Book,
+    /// How seldom the host writes to the list.
+    change_once_in: usize,
+    pub(crate) run: Run,
+    pub(crate) list: Vec<f64>,
+    pub(crate) book: Book,
     book_list: Vec<f64>,
-    /// The lines of all answers so far.
-    journal: Vec<u8>,
+    /// The list before Start.
+    pub(crate) lent: Vec<f64>,
+    /// Whether the host has written to the list.
+    pub(crate) is_changed: bool,
+    /// All answers that were taken so far.
+    pub(crate) answers: Vec<Sent>,
+    /// Their lines.
+    pub(crate) journal: Vec<u8>,
 }
 
 /// Plays a list of calls drawn from `random` on Start's inputs.
@@ -94,7 +111,14 @@ pub fn play(mut inputs: Inputs, random: &mut Random, tally: &mut Tally) -> Resul
     if pair.book.is_over() {
         tally.results[usize::from(pair.book.run_best().is_none())] += 1;
     }
-    lines::reread(&pair.journal, random, &mut tally.lines)
+    reports::compare_run(&pair.run, &pair.book, &pair.journal)?;
+    winners::compare_run(&pair, random)?;
+    lines::reread(&pair.journal, random, &mut tally.lines)?;
+    if random.once_in(4) {
+        replays::compare_run(&pair, random, &mut tally.replays)?;
+        resumes::compare_run(&pair, random, &mut tally.resumes)?;
+    }
+    Ok(())
 }
 
 /// Inputs that Start may refuse.
@@ -168,8 +192,8 @@ impl Pair {
             2..5 => demand + 7,
             _ => demand,
         };
-        let mut list: Vec<f64> = (0..room).map(|_| f64::from_bits(random.bits())).collect();
-        let mut book_list = list.clone();
+        let lent: Vec<f64> = (0..room).map(|_| f64::from_bits(random.bits())).collect();
+        let (mut list, mut book_list) = (lent.clone(), lent.clone());
         let started = start(&for_library(inputs), &mut list).map_err(|e| e.number());
         let opened = Book::start(inputs.clone(), &mut book_list);
         differ("Start's number", started.as_ref().err(), opened.as_ref().err())?;
@@ -182,8 +206,19 @@ impl Pair {
                 return Ok(None);
             }
         };
-        let ties = random.once_in(3);
-        let pair = Self { ties, run, list, book, book_list, journal: vec![] };
+        let (ties, change_once_in) = (random.once_in(3), random.pick(&[25, 25, usize::MAX]));
+        let pair = Self {
+            ties,
+            change_once_in,
+            run,
+            list,
+            book,
+            book_list,
+            lent,
+            is_changed: false,
+            answers: vec![],
+            journal: vec![],
+        };
         pair.compare()?;
         Ok(Some(pair))
     }
@@ -192,6 +227,8 @@ impl Pair {
         differ("the run", of_run(&self.run), of_book(&self.book))?;
         let (library, book) = (progress(&self.run), self.book.progress());
         differ("the progress", of_progress(library), of_book_progress(book))?;
+        let (library, book) = (counts(&self.run), self.book.counts());
+        differ("the counts", of_counts(&library), of_book_counts(&book))?;
         let (library, book) = self.stop(self.list.len());
         differ("the stop call", library, book)?;
         differ("the list", float_words(&self.list), float_words(&self.book_list))
@@ -220,7 +257,7 @@ impl Pair {
         let which = if random.once_in(4) { random.below(5) } else { due };
         let len = self.list.len();
         let lent = if random.once_in(15) { random.below(len + 1) } else { len };
-        if random.once_in(25) {
+        if random.once_in(self.change_once_in) {
             self.change_list(random);
         }
         let (library, book) = match which {
@@ -259,6 +296,7 @@ impl Pair {
             random.pick(&[0.01, -0.02, 0.5, 5.0, f64::NAN, f64::INFINITY, -0.0, 1e-13, 900.0]);
         self.list[place] = number;
         self.book_list[place] = number;
+        self.is_changed = true;
     }
 
     fn next(&mut self, lent: usize) -> (Reply, Reply) {
@@ -301,6 +339,9 @@ impl Pair {
             differ("the counted errors", &library, &counted)?;
             tally.errors[0] += 1;
             tally.errors[1] += usize::from(book == [1, 3] && counted.last() != Some(&0));
+        }
+        if book[0] != 2 {
+            self.answers.push(sent);
         }
         Ok((library, book))
     }

@@ -6,4 +6,8 @@ pub mod findings;
 pub mod inputs;
 pub mod lines;
 pub mod record_words;
+pub mod replays;
+pub mod reports;
+pub mod resumes;
 pub mod unsound;
+pub mod winners;

@@ -1,7 +1,7 @@
 //! A run's record as words, from the library and as the book says that it must be.
 
 use book::{Book, Entry, Outcome, Seed as BookSeed, Winner as BookWinner};
-use jinnychair::record::{Best, FlatLine, Progress, Run};
+use jinnychair::record::{Best, Counts, FlatLine, Progress, Run};
 use jinnychair::{Stopped, Winner};
 use words::{float_words, word};
 
@@ -21,7 +21,19 @@ pub fn of_run(run: &Run) -> Vec<u64> {
     words.extend(of_best(&run.run_best));
     words.push(run.last.found.into());
     words.extend(of_line(&run.last.line));
+    words.extend(of_counts(&run.counts));
     words
+}
+
+/// The five counts.
+pub fn of_counts(counts: &Counts) -> Vec<u64> {
+    let Counts { scored, host_failed, bad_camera, no_mean, no_number } = *counts;
+    [scored, host_failed, bad_camera, no_mean, no_number].map(|count| count as u64).to_vec()
+}
+
+/// The same as the book counts them.
+pub fn of_book_counts(counts: &book::Counts) -> Vec<u64> {
+    counts.numbers().map(|count| count as u64).to_vec()
 }
 
 /// Every number of a line; zeros stand for what a skipped candidate hasn't.
@@ -84,6 +96,7 @@ pub fn of_book(book: &Book) -> Vec<u64> {
     words.extend(of_winner(book.run_best()));
     words.push(u64::from(!book.entries().is_empty()));
     words.extend(book.entries().last().map_or(vec![0; LINE_WORDS], of_entry));
+    words.extend(of_book_counts(&book.counts()));
     words
 }
 

@@ -1,9 +1,9 @@
 //! Records that no search can have made: every call must answer as a run that ended with nothing scored, and change nothing.
 
 use crate::calls::{Reply, differ, handed_words};
-use crate::record_words::{of_progress, of_run, of_stopped};
-use jinnychair::Finding;
-use jinnychair::record::{Run, answer, last_line, next, progress, result, seed, stop};
+use crate::record_words::{of_counts, of_progress, of_run, of_stopped};
+use jinnychair::record::{Run, answer, counts, last_line, next, progress, result, seed, stop};
+use jinnychair::{Counts, Finding};
 use random::Random;
 use words::float_words;
 
@@ -26,9 +26,12 @@ pub fn compare(sound: &Run, sound_list: &[f64], random: &mut Random) -> Result<u
         of_progress(progress(&run)),
         stop(&run, &list).map_or_else(|e| number(e.number()), |stopped| of_stopped(&stopped)),
         last_line(&run).map_or(vec![], |_| vec![1]),
+        of_counts(&counts(&run)),
     ];
-    // The progress and the stop call give zeros.
-    let expected = [vec![2, 11], vec![], vec![2, 12], vec![2, 11], vec![0; 5], vec![0; 18], vec![]];
+    // The progress, the stop and the counts call give zeros.
+    let [ended, refused, zeros] = [vec![2, 11], vec![2, 12], vec![0; 5]];
+    let expected =
+        [ended.clone(), vec![], refused, ended, zeros.clone(), vec![0; 18], vec![], zeros];
     if replies != expected {
         return Err(format!("an unsound record {run:?} gets {replies:?}"));
     }
@@ -41,7 +44,7 @@ pub fn compare(sound: &Run, sound_list: &[f64], random: &mut Random) -> Result<u
 fn damaged(mut run: Run, random: &mut Random) -> Run {
     let big = random.pick(&[usize::MAX, 1 << 63, 1 << 32, 4000]);
     let place = &mut run.place;
-    match random.below(11) {
+    match random.below(13) {
         0 => run.options.refine_rounds = big,
         1 => place.round = run.options.refine_rounds + 1 + random.below(3),
         2 => place.len = big,
@@ -52,9 +55,30 @@ fn damaged(mut run: Run, random: &mut Random) -> Run {
         7 => (place.over, place.at) = (0, place.len),
         8 => (place.over, place.at) = (0, big),
         9 => run.options.min_counted = random.pick(&[101, big]),
+        10 => place.number = if place.number == 0 { 1 } else { place.number - 1 },
+        11 => run.counts = miscounted(run.counts, random),
         _ => run = zeroed(run),
     }
     run
+}
+
+/// Counts that don't add up to the answers, or do so only where the sum wraps round.
+fn miscounted(mut counts: Counts, random: &mut Random) -> Counts {
+    let Counts { scored, host_failed, bad_camera, no_mean, no_number } = &mut counts;
+    let all = [scored, host_failed, bad_camera, no_mean, no_number];
+    let place = random.below(5);
+    let other = (place + 1 + random.below(4)) % 5;
+    match random.below(4) {
+        0 => *all[place] += 1,
+        1 => *all[place] = all[place].wrapping_sub(1),
+        2 => *all[place] = usize::MAX,
+        _ => {
+            let half = 1 << 63;
+            *all[place] = all[place].wrapping_add(half);
+            *all[other] = all[other].wrapping_add(half);
+        }
+    }
+    counts
 }
 
 /// A flag is read as 0 or not 0, and comes back as 0 or 1.
@@ -75,5 +99,6 @@ fn zeroed(mut run: Run) -> Run {
     (place.demand, place.round, place.len, place.at, place.number) = (0, 0, 0, 0, 0);
     (place.step, place.over, run.waiting.is_waiting) = (0.0, 0, 0);
     (run.round_best.found, run.run_best.found) = (0, 0);
+    run.counts = Counts::default();
     run
 }

@@ -15,7 +15,7 @@ fn every_reply_every_list_and_every_record_are_the_books() {
             .unwrap_or_else(|fault| panic!("list of calls {i}, {inputs:?}: {fault}"));
     }
     // What was compared: runs on two axes and on one, to their end, each outcome, and each refusal of a search.
-    assert!(tally.runs[0] > 1000 && tally.runs[1] > 500, "{tally:?}");
+    assert!(tally.runs[0] > 1000 && tally.runs[1] > 400, "{tally:?}");
     assert!(tally.calls > 40_000 && tally.unsound > 2000, "{tally:?}");
     assert!(tally.results.iter().all(|&times| times > 0), "{tally:?}");
     // Later rounds with all their tilts within the bound, and with fewer.
@@ -26,5 +26,15 @@ fn every_reply_every_list_and_every_record_are_the_books() {
     assert!(tally.entered.iter().all(|&times| times > 100), "{tally:?}");
     // Lines of runs, whole and damaged.
     assert!(tally.lines.read.iter().all(|&times| times > 1000), "{tally:?}");
+    // Their journals run again.
+    let replays = tally.replays;
+    assert!(replays.ended.iter().all(|&times| times > 300), "{tally:?}");
+    assert!([8, 11, 27, 29, 30, 33].iter().all(|&number| replays.refused[number] > 5), "{tally:?}");
+    assert!(replays.found.iter().all(|&times| times > 50), "{tally:?}");
+    assert!(replays.cameras.iter().all(|&times| times > 20), "{tally:?}");
+    // Runs that went on from them.
+    let resumes = tally.resumes;
+    assert!(resumes.ended.iter().all(|&times| times > 100), "{tally:?}");
+    assert!(resumes.refused > 50 && resumes.gone_on > 1000 && resumes.cut > 20, "{tally:?}");
     assert!((1..15).chain([27, 31, 32, 33]).all(|number| tally.refused[number] > 0), "{tally:?}");
 }

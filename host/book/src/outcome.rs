@@ -119,7 +119,7 @@ impl Camera {
         Self { k: self.k, radial: [0.0; 3], tangential: self.tangential.map(limited) }
     }
 
-    fn is_camera(&self) -> bool {
+    pub(crate) fn is_camera(&self) -> bool {
         let mut numbers = self.k.iter().chain(&self.radial).chain(&self.tangential);
         numbers.all(|number| number.is_finite()) && self.k[0] > 0.0 && self.k[1] > 0.0
     }
@@ -170,7 +170,7 @@ impl Camera {
         }
     }
 
-    fn score(&self, mean: f64, tilts: [f64; 2], centre: [f64; 2]) -> f64 {
+    pub(crate) fn score(&self, mean: f64, tilts: [f64; 2], centre: [f64; 2]) -> f64 {
         let ([k1, k2, k3], [p1, p2]) = (self.radial, self.tangential);
         let radial = k1 * k1 + k2 * k2 + 0.25 * k3 * k3;
         let distortion = 0.25 * (radial + (p1 * p1 + p2 * p2));

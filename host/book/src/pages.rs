@@ -91,15 +91,19 @@ fn write(list: &[Seed], lent: &mut [f64]) {
     }
 }
 
-/// Lower replaces, equal doesn't. No score is NaN: its candidate is left out.
-fn best<'a>(entries: impl Iterator<Item = &'a Entry>) -> Option<Winner> {
-    let scored = entries.filter_map(|entry| match entry.outcome {
+/// Lower replaces, equal doesn't.
+pub(crate) fn lowest(winners: impl Iterator<Item = Winner>) -> Option<Winner> {
+    winners.reduce(|best, new| if new.scored.score < best.scored.score { new } else { best })
+}
+
+/// The lowest of the scored candidates. No score is NaN: its candidate is left out.
+pub(crate) fn best<'a>(entries: impl Iterator<Item = &'a Entry>) -> Option<Winner> {
+    lowest(entries.filter_map(|entry| match entry.outcome {
         Outcome::Skipped(_) => None,
         Outcome::Scored(scored) => {
             Some(Winner { number: entry.number, tilts: entry.seed.tilts, scored })
         }
-    });
-    scored.reduce(|best, new| if new.scored.score < best.scored.score { new } else { best })
+    }))
 }
 
 impl Book {
@@ -132,12 +136,18 @@ impl Book {
         if lent.len() < self.inputs.demand() {
             return Handed::Refused(10);
         }
-        if self.is_over {
-            return if self.run_best().is_some() { Handed::Over } else { Handed::Refused(11) };
+        self.waiting = self.next_seed(lent);
+        match (self.waiting, self.run_best()) {
+            (Some(_), _) => Handed::Candidate(self.entries.len()),
+            (None, Some(_)) => Handed::Over,
+            (None, None) => Handed::Refused(11),
         }
+    }
+
+    /// The seed that comes next, unless the run is over.
+    pub(crate) fn next_seed(&self, lent: &[f64]) -> Option<Seed> {
         let at = 6 * self.position();
-        self.waiting = Some(Seed::from_numbers(&lent[at..at + 6]));
-        Handed::Candidate(self.entries.len())
+        (!self.is_over).then(|| Seed::from_numbers(&lent[at..at + 6]))
     }
 
     /// The waiting seed's part of the lent list, or an empty part.
@@ -161,11 +171,16 @@ impl Book {
         let outcome = finding.outcome(seed, &self.inputs, rows);
         self.waiting = None;
         let number = self.entries.len();
-        self.entries.push(Entry { number, round: self.round, seed, outcome });
+        self.enter(Entry { number, round: self.round, seed, outcome }, lent);
+        Answered::Entered(outcome)
+    }
+
+    /// Enters an answered candidate; at the end of a round the next list is written.
+    pub(crate) fn enter(&mut self, entry: Entry, lent: &mut [f64]) {
+        self.entries.push(entry);
         while !self.is_over && self.position() == self.list_len {
             self.end_round(lent);
         }
-        Answered::Entered(outcome)
     }
 
     fn end_round(&mut self, lent: &mut [f64]) {

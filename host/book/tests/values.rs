@@ -2,7 +2,8 @@
 #![allow(missing_docs)]
 
 use book::{
-    Answered, Book, Camera, Errors, Finding, Handed, Inputs, Outcome, Progress, Rows, Stopped,
+    Answered, Book, Camera, Counts, Errors, Finding, Handed, Inputs, Outcome, Progress, Rows,
+    Stopped, write_report,
 };
 
 fn inputs(x: &[f64], y: &[f64]) -> Inputs {
@@ -345,4 +346,54 @@ fn stop_gives_the_floor_of_what_is_left() {
     assert_eq!(told(&book, &lent), (Some(0), None, false));
     assert_eq!(book.stop(&lent[..53]), Err(10));
     assert_eq!(book.result().unwrap().number, 0);
+}
+
+#[test]
+fn every_entered_answer_is_counted_once_and_no_other_call() {
+    let mut lent = [0.0; 54];
+    let tilts = [0.0, 0.05, 0.1, 0.15, 0.2, 0.25];
+    let inputs = Inputs { rounds: 0, ..inputs(&tilts, &[0.0]) };
+    let mut book = Book::start(inputs, &mut lent).unwrap();
+    let told = |book: &Book| (book.counts().numbers(), book.entries().len());
+    assert_eq!(told(&book), ([0; 5], 0));
+    answer(&mut book, &mut lent, 1.0);
+    assert_eq!(told(&book), ([0; 5], 0));
+    let good = Camera { tangential: [0.0; 2], ..camera() };
+    let far = Camera { k: [2.0, 2.0, 1e200, 0.0], ..good };
+    let none = Camera { k: [0.0; 4], ..good };
+    for (finding, rows, counted) in [
+        (Finding::Failed, row(1.0), [0, 1, 0, 0, 0]),
+        (Finding::Solved(none), row(1.0), [0, 1, 1, 0, 0]),
+        (Finding::Solved(good), row(f64::NAN), [0, 1, 1, 1, 0]),
+        (Finding::Solved(far), row(1e200), [0, 1, 1, 1, 1]),
+        (Finding::Solved(good), row(1.0), [1, 1, 1, 1, 1]),
+        (Finding::Solved(good), row(2.0), [2, 1, 1, 1, 1]),
+    ] {
+        let before = told(&book);
+        book.next(&lent);
+        let refused = book.answer(&solved(), Rows { numbers: &[], flags: &[1] }, &mut lent);
+        assert_eq!(refused, Answered::Refused(13));
+        // A seed that waits isn't counted, and a refused answer isn't either.
+        assert_eq!(told(&book), before);
+        book.answer(&finding, Rows { numbers: &rows, flags: &[1] }, &mut lent);
+        assert_eq!(told(&book), (counted, counted.iter().sum()));
+    }
+}
+
+#[test]
+fn report_has_five_counts_and_their_total() {
+    let report = |scored: usize, skipped: [usize; 4], room: usize| {
+        write_report(&Counts { scored, skipped }, room)
+            .map(|bytes| String::from_utf8(bytes).unwrap())
+    };
+    assert_eq!(report(0, [0; 4], 24).as_deref(), Ok("0,0,0,0,0,0\n"));
+    assert_eq!(report(0, [0; 4], 23), Err(28));
+    let longest = report(100, [100; 4], 24).unwrap();
+    assert_eq!((longest.as_str(), longest.len()), ("100,100,100,100,100,500\n", 24));
+    assert_eq!(report(7, [1, 20, 0, 3], 99).as_deref(), Ok("7,1,20,0,3,31\n"));
+    assert_eq!(report(656, [0; 4], 24).as_deref(), Ok("656,0,0,0,0,656\n"));
+    assert_eq!(report(0, [0, 0, 1, 656], 24), Err(28));
+    // These sums would be 0 and 4 if they wrapped round.
+    assert_eq!(report(usize::MAX, [1, 0, 0, 0], 24), Err(28));
+    assert_eq!(report(1 << 63, [1, 1, 1 << 63, 2], 24), Err(28));
 }

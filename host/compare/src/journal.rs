@@ -1,7 +1,8 @@
-//! The journal's line in plain Rust, as one would write it: the benchmark sets the library beside it.
+//! The journal's line and the report's in plain Rust, as one would write them: the benchmark sets the library beside them.
 
 use jinnychair::journal::{Line, Recorded, ScoredFields};
 use jinnychair::{FxFyCxCy, ScheimpflugParams, Seed, SkipReason};
+use std::io::Write;
 
 /// Bytes that a buffer for a line has.
 pub const LINE_LEN: usize = 256;
@@ -157,4 +158,18 @@ pub fn read_line(bytes: &[u8]) -> Option<(Line, usize)> {
     };
     front.skip(b'\n')?;
     Some((Line { number, round, seed, outcome }, bytes.len() - front.0.len()))
+}
+
+/// The report's line.
+#[inline(never)]
+pub fn write_report(counts: &[usize; 5], to: &mut [u8]) -> Option<usize> {
+    let total = counts.iter().try_fold(0_usize, |sum, count| sum.checked_add(*count))?;
+    if to.len() < 24 || total > 656 {
+        return None;
+    }
+    let mut rest = &mut to[..];
+    let [a, b, c, d, e] = counts;
+    writeln!(rest, "{a},{b},{c},{d},{e},{total}").ok()?;
+    let left = rest.len();
+    Some(to.len() - left)
 }

@@ -8,3 +8,4 @@ pub mod journal;
 pub mod leaves;
 pub mod library;
 pub mod plain;
+pub mod walk;

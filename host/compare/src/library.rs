@@ -2,8 +2,8 @@
 
 use jinnychair::geometry::{self, Conic, Matrix3};
 use jinnychair::record::{
-    Best, FlatLine, Inputs, LastLine, Options, Place, Run, Waiting, answer, next, result, seed,
-    start,
+    Best, Counts, FlatLine, Inputs, LastLine, Options, Place, Run, Waiting, answer, next, result,
+    seed, start,
 };
 use jinnychair::{
     BrownConrady5, Finding, FxFyCxCy, Handed, Outcome, PinholeCamera, Pt2, Rows, ScheimpflugParams,
@@ -340,6 +340,7 @@ fn local_seed_grid(r: &mut Reader) -> Result<Words, String> {
         round_best: best,
         run_best: best,
         last: NO_LINE,
+        counts: Counts { scored: 1, ..Counts::default() },
     };
     let mut list = [UNTOUCHED; 54];
     answer(&mut run, &Finding::Failed, &mut list).map_err(|e| e.to_string())?;

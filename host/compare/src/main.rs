@@ -5,6 +5,7 @@
 use beside::calls::{Tally, play};
 use beside::inputs::{on_one_axis, share};
 use beside::lines::{LineTally, write_and_read};
+use beside::{reports, winners};
 use compare::blocks;
 use compare::library::answer_words;
 use oracle::generate::{Endless, endless};
@@ -50,6 +51,8 @@ fn main() -> ExitCode {
     compare_blocks(each, seed, &mut differences);
     compare_with_book(searches, seed, &mut differences);
     compare_lines(each, seed, &mut differences);
+    compare_reports(each, seed, &mut differences);
+    compare_winners(each, seed, &mut differences);
     println!("{} differences", differences.count);
     if differences.count == 0 { ExitCode::SUCCESS } else { ExitCode::FAILURE }
 }
@@ -151,6 +154,16 @@ fn print_tally(tally: &Tally) {
     println!("  {} calls on records that no search can have made", tally.unsound);
     let [lines, ends, refused] = tally.lines.read;
     println!("  {lines} lines, {ends} ends and {refused} refusals read from their journals");
+    let ([winners, unfinished], refused) = (tally.replays.ended, &tally.replays.refused);
+    println!("  journals run again: {winners} winners, {unfinished} next seeds,");
+    println!("    {} times 11, {} times 29, {} times 30", refused[11], refused[29], refused[30]);
+    let [unseen, seen] = tally.replays.cameras;
+    println!("    each field changed {:?} times, and found there", tally.replays.found);
+    println!("    another camera found with the next round {seen} times, not found {unseen} times");
+    let [whole, newline, not_lines, not_runs] = tally.resumes.ended;
+    println!("  journals kept whole {whole} times, ended by a missing newline {newline} times,");
+    println!("    by 29 {not_lines} times, by 30 {not_runs} times");
+    println!("    {} runs went on to where they had been", tally.resumes.gone_on);
 }
 
 /// Lines with any numbers.
@@ -167,4 +180,30 @@ fn compare_lines(count: usize, seed: &str, differences: &mut Differences) {
     println!(
         "  {lines} lines, {ends} ends and {not_lines} refusals read again, most of them damaged"
     );
+}
+
+/// Reports of any five counts.
+fn compare_reports(count: usize, seed: &str, differences: &mut Differences) {
+    let mut random = Random::named(&format!("reports, {seed}"));
+    let mut written = [0; 2];
+    for _ in 0..count {
+        match reports::compare_drawn(&mut random) {
+            Ok(is_written) => written[usize::from(is_written)] += 1,
+            Err(fault) => differences.add(&fault),
+        }
+    }
+    println!("{:28}{} written, {} refused", "reports", written[1], written[0]);
+}
+
+/// Winners of any two records.
+fn compare_winners(count: usize, seed: &str, differences: &mut Differences) {
+    let mut random = Random::named(&format!("winners, {seed}"));
+    let mut found = [0; 2];
+    for _ in 0..count {
+        match winners::compare_drawn(&mut random) {
+            Ok(is_found) => found[usize::from(is_found)] += 1,
+            Err(fault) => differences.add(&fault),
+        }
+    }
+    println!("{:28}{} found, {} times none", "winners of two", found[1], found[0]);
 }

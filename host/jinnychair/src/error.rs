@@ -32,8 +32,9 @@ macro_rules! refusal {
     (24 $part:ident) => { part!($part "the source points lie on a line", "Use dots from more than one row of the plate.") };
     (25 $part:ident) => { part!($part "the destination points lie on a line", "The plate was seen edge on: drop the view.") };
     (27 $part:ident) => { part!($part "`max_abs_tilt` is above 0.5 radians, which is 28.6 degrees, or a tilt is NaN or beyond that", "Were degrees typed for radians? 3 degrees are 0.052. From Answer: the list was changed between the calls; Failed moves the run on.") };
-    (28 $part:ident) => { part!($part "the buffer is below 256 bytes, the number above 655, the round above 16, or a score isn't a number", "Lend 256 bytes, and write the line that the search gave.") };
+    (28 $part:ident) => { part!($part "a line's buffer is below 256 bytes, its number above 655, its round above 16, or its score isn't a number; or a report's buffer is below 24 bytes, or its total above 656", "Lend 256 bytes for a line and 24 for a report, and write what the search gave.") };
     (29 $part:ident) => { part!($part "this isn't a line of a journal", "Look whether the file is a journal, and whether it was cut off or changed here. The lines before it are good.") };
+    (30 $part:ident) => { part!($part "the line isn't the run's: its number, round or seed isn't the next one, its camera, mean or score can't be that of an answer, or the run was over before it", "Look whether the inputs are this journal's, and whether it was changed here or before. The lines before it were taken.") };
     (31 $part:ident) => { part!($part "the search has one axis, and its y list isn't the single value 0", "Give `0` alone for y; or search both axes.") };
     (32 $part:ident) => { part!($part "the search has one axis, and a decomposition seed has a tilt y other than 0", "Set tilt y of such seeds to 0, or leave them out; or search both axes.") };
     (33 $part:ident) => { part!($part "`min_counted` is above 100", "Give a whole per cent from 0 to 100.") };
@@ -186,6 +187,7 @@ refusals! {
     /// Why a line of a journal isn't taken.
     LineRefusal {
         NotALine = 29;
+        NotTheRun = 30;
     }
 }
 
@@ -254,6 +256,54 @@ refusals! {
         CountsDiffer = 23;
         SourceCollinear = 24;
         DestinationCollinear = 25;
+    }
+}
+
+/// Why a journal isn't replayed to its end.
+#[derive(Clone, Copy, Debug, PartialEq, Eq)]
+#[non_exhaustive]
+pub enum ReplayError {
+    /// The inputs are refused, as a search refuses them.
+    Start(StartError),
+    /// 29: what stands there isn't a line.
+    NotALine {
+        /// Its number, counted from 1.
+        line: usize,
+    },
+    /// 30: the line isn't the run's. [`crate::journal::what_differs`] says why.
+    NotTheRun {
+        /// Its number, counted from 1.
+        line: usize,
+    },
+}
+
+impl ReplayError {
+    /// The refusal's number.
+    #[must_use]
+    pub fn number(self) -> u8 {
+        match self {
+            Self::Start(error) => error.number(),
+            Self::NotALine { .. } => LineRefusal::NotALine.number(),
+            Self::NotTheRun { .. } => LineRefusal::NotTheRun.number(),
+        }
+    }
+}
+
+impl Display for ReplayError {
+    fn fmt(&self, f: &mut Formatter) -> FmtResult {
+        match self {
+            Self::Start(error) => error.fmt(f),
+            Self::NotALine { line } => write!(f, "line {line}: {}", LineRefusal::NotALine),
+            Self::NotTheRun { line } => write!(f, "line {line}: {}", LineRefusal::NotTheRun),
+        }
+    }
+}
+
+impl Error for ReplayError {}
+
+impl From<StartError> for ReplayError {
+    fn from(error: StartError) -> Self {
+        Self::Start(error)
     }
 }
 

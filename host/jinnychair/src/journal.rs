@@ -2,7 +2,12 @@
 //! was given.
 //!
 //! [`Line`], [`write_line`] and [`lines`] are the lines themselves. [`JournalWriter`] writes them to a file as a search goes on, each
-//! one on the disk before the next seed is asked for; [`StoredInputs`] is the file beside it.
+//! one on the disk before the next seed is asked for; [`StoredInputs`] is the file beside it. After a power loss
+//! [`JournalWriter::resume`] goes on with the search from both.
+//!
+//! A journal and its inputs tell of a run without its host: [`replay`] gives the winner, or says which line isn't the run's, and
+//! [`what_differs`] why; [`crate::Counts::of`] and [`write_report`] make the morning report; [`stretch_winner`] and [`round_winners`]
+//! give the winners of its parts.
 //!
 //! ```
 //! use jinnychair::{journal, *};
@@ -33,9 +38,17 @@
 mod checksum;
 mod inputs;
 mod line;
+mod replay;
+mod report;
+mod resume;
+mod stretches;
 mod writer;
 
 pub use checksum::sha256;
 pub use inputs::{InputsError, StoredInputs, Views, inputs_path};
 pub use line::{JournalError, Line, Lines, Recorded, ScoredFields, lines, read_line, write_line};
-pub use writer::{JournalFileError, JournalWriter, JournaledRunError};
+pub use replay::{Difference, Replayed, replay, what_differs};
+pub use report::write_report;
+pub use resume::{EndedBy, ResumeReport, Resumed};
+pub use stretches::{round_winners, stretch_winner};
+pub use writer::{JournalFileError, JournalWriter, JournaledRunError, ResumedJournal};

@@ -1,8 +1,9 @@
 //! The proved sensor-tilt search, as safe Rust over its static library (x86-64 Linux).
 //!
 //! [`Search`] runs a search one seed at a time: the host solves for a camera at each tilt that it is handed, and the search
-//! scores, compares and refines. [`geometry`] has the operations that a host needs beside it, [`journal`] keeps every answer in a
-//! file. [`record`] has the same search for a host that keeps the run's record itself.
+//! scores, compares and refines. [`geometry`] has the operations that a host needs beside it. [`journal`] keeps every answer in a
+//! file, from which a search goes on after a power loss, and by which it can be run again without its host. [`record`] has the same
+//! search for a host that keeps the run's record itself.
 //!
 //! What these functions compute is proved: each equals a definition that is written down in the repository's `specs/`
 //! folders, for all inputs. What stands in this crate is not proved: it passes numbers on, and names them.
@@ -33,7 +34,8 @@
 //!
 //! [`Search::run_watched`] also shows each tried seed, with how far the search has come, and [`Search::run_until`] can be stopped
 //! between two answers. [`Search::next`], [`Search::answer`], [`Search::progress`] and [`Search::stop`] are for a host with a
-//! loop of its own. Angles are in radians, pixels and focal lengths in pixels.
+//! loop of its own. [`Search::counts`] is for the morning report, [`winner`] for who looks at a run in stretches. Angles are in
+//! radians, pixels and focal lengths in pixels.
 //!
 //! # What is assumed of the machine
 //!
@@ -54,13 +56,14 @@ pub mod record;
 mod search;
 mod types;
 mod version;
+mod winner;
 
 pub use error::{
     AnswerError, ConicError, CountError, LineRefusal, NextError, NormalizeError, PlateError,
-    PointMapError, ResultError, RowsError, RunError, StartError, StopError, TiltError, TrigError,
-    WriteError,
+    PointMapError, ReplayError, ResultError, RowsError, RunError, StartError, StopError, TiltError,
+    TrigError, WriteError,
 };
-pub use record::Progress;
+pub use record::{Counts, Progress};
 pub use search::{
     Ended, Finding, Handed, Inputs, Options, Outcome, Rows, Search, SkipReason, Solution, Stopped,
     Tried,
@@ -69,3 +72,4 @@ pub use types::{
     BrownConrady5, FxFyCxCy, PinholeCamera, Pt2, ScheimpflugParams, Seed, TiltTrig, Winner,
 };
 pub use version::{VERSION, VersionError, check_version};
+pub use winner::winner;

@@ -6,9 +6,12 @@
 #![allow(unsafe_code)]
 
 pub(crate) mod journal;
+pub(crate) mod replay;
 
 use crate::geometry::{Conic, DistortedPoint, Jacobian};
-use crate::record::{Best, FlatLine, Inputs, LastLine, Options, Place, Progress, Run, Waiting};
+use crate::record::{
+    Best, Counts, FlatLine, Inputs, LastLine, Options, Place, Progress, Run, Waiting,
+};
 use crate::{
     BrownConrady5, Finding, FxFyCxCy, PinholeCamera, Pt2, Rows, ScheimpflugParams, Seed, TiltTrig,
     Winner,
@@ -174,10 +177,11 @@ laid_out! {
     Best: 120 { found: 0, candidate: 8 }
     FlatLine: 136 { number: 0, round: 8, seed: 16, skipped: 64, score: 72, mean: 80, k: 88, p1: 120, p2: 128 }
     LastLine: 144 { found: 0, line: 8 }
-    Run: 552 { options: 0, center: 40, place: 56, waiting: 112, round_best: 168, run_best: 288, last: 408 }
-    StartReply: 560 { number: 0, run: 8 }
-    NextReply: 568 { number: 0, over: 1, candidate: 8, run: 16 }
-    AnswerReply: 568 { number: 0, skipped: 1, score: 8, run: 16 }
+    Counts: 40 { scored: 0, host_failed: 8, bad_camera: 16, no_mean: 24, no_number: 32 }
+    Run: 592 { options: 0, center: 40, place: 56, waiting: 112, round_best: 168, run_best: 288, last: 408, counts: 552 }
+    StartReply: 600 { number: 0, run: 8 }
+    NextReply: 608 { number: 0, over: 1, candidate: 8, run: 16 }
+    AnswerReply: 608 { number: 0, skipped: 1, score: 8, run: 16 }
     ResultReply: 120 { number: 0, candidate: 8 }
     Progress: 40 { round: 0, rounds: 8, answered: 16, total: 24, answered_in_run: 32 }
     StopReply: 128 { number: 0, has_best: 1, has_floor: 2, no_gain: 3, best: 8, floor: 120 }
@@ -284,6 +288,8 @@ unsafe extern "C" {
     ) -> AnswerReply;
     safe fn jc_result(run: Run) -> ResultReply;
     pub(crate) safe fn jc_progress(run: Run) -> Progress;
+    pub(crate) safe fn jc_counts(run: Run) -> Counts;
+    pub(crate) safe fn jc_winner(first: Best, second: Best) -> Best;
     fn jc_stop(run: Run, list: *const f64, list_len: usize) -> StopReply;
 }
 
@@ -476,6 +482,7 @@ mod tests {
         safe fn jc_echo_best_record(x: Best) -> Best;
         safe fn jc_echo_line(x: FlatLine) -> FlatLine;
         safe fn jc_echo_last_line_record(x: LastLine) -> LastLine;
+        safe fn jc_echo_count_record(x: Counts) -> Counts;
         safe fn jc_echo_run_record(x: Run) -> Run;
         safe fn jc_echo_start_flat(x: StartReply) -> StartReply;
         safe fn jc_echo_next_flat(x: NextReply) -> NextReply;
@@ -494,7 +501,7 @@ mod tests {
             self.0
         }
 
-        fn float(&mut self) -> f64 {
+        pub(super) fn float(&mut self) -> f64 {
             f64::from(self.byte()) + 0.5
         }
 
@@ -574,7 +581,7 @@ mod tests {
             }
         }
 
-        fn waiting(&mut self) -> Waiting {
+        pub(super) fn waiting(&mut self) -> Waiting {
             let is_waiting = self.byte();
             Waiting { is_waiting, seed: Seed { reference_k: self.k(), sensor: self.sensor() } }
         }
@@ -601,7 +608,13 @@ mod tests {
             LastLine { found: self.byte(), line: self.line() }
         }
 
-        fn run(&mut self) -> Run {
+        pub(super) fn counts(&mut self) -> Counts {
+            let [scored, host_failed, bad_camera, no_mean, no_number] =
+                std::array::from_fn(|_| self.whole());
+            Counts { scored, host_failed, bad_camera, no_mean, no_number }
+        }
+
+        pub(super) fn run(&mut self) -> Run {
             Run {
                 options: self.options(),
                 center: self.pt2(),
@@ -610,6 +623,7 @@ mod tests {
                 round_best: self.best(),
                 run_best: self.best(),
                 last: self.last(),
+                counts: self.counts(),
             }
         }
     }
@@ -658,6 +672,8 @@ mod tests {
         assert_eq!(jc_echo_line(x), x);
         let x = n.last();
         assert_eq!(jc_echo_last_line_record(x), x);
+        let x = n.counts();
+        assert_eq!(jc_echo_count_record(x), x);
         let x = n.run();
         assert_eq!(jc_echo_run_record(x), x);
     }

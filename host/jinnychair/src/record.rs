@@ -4,10 +4,10 @@
 //! scored. But the theorem about whole runs speaks of a record and a list that are handed on as the calls before left them.
 //! [`crate::Search`] keeps both where nothing else reaches them.
 
-use crate::journal::Line;
+use crate::journal::{EndedBy, Line, Replayed, ResumeReport};
 use crate::{
-    AnswerError, Finding, FxFyCxCy, Handed, NextError, Outcome, Pt2, ResultError, Seed, SkipReason,
-    StartError, StopError, Stopped, Winner, check_version, raw,
+    AnswerError, Finding, FxFyCxCy, Handed, NextError, Outcome, Pt2, ReplayError, ResultError,
+    Seed, SkipReason, StartError, StopError, Stopped, Winner, check_version, raw,
 };
 
 /// The numbers of a search's options; the tilts of its grid stand beside them.
@@ -100,6 +100,22 @@ pub struct LastLine {
     pub line: FlatLine,
 }
 
+/// How many candidates of a run are scored, and how many are skipped for each reason.
+#[derive(Clone, Copy, Debug, Default, PartialEq, Eq)]
+#[repr(C)]
+pub struct Counts {
+    /// Those with a score.
+    pub scored: usize,
+    /// Those for which the host sent Failed.
+    pub host_failed: usize,
+    /// Those whose camera isn't one.
+    pub bad_camera: usize,
+    /// Those with too few counted rows, or without a finite mean.
+    pub no_mean: usize,
+    /// Those whose score isn't a number.
+    pub no_number: usize,
+}
+
 /// A run.
 #[derive(Clone, Copy, Debug, PartialEq)]
 #[repr(C)]
@@ -118,6 +134,8 @@ pub struct Run {
     pub run_best: Best,
     /// The last answered line.
     pub last: LastLine,
+    /// How many answers had which outcome.
+    pub counts: Counts,
 }
 
 /// How far a search has come, in numbers for a progress bar. The answer to a round's last seed opens the next round, so that
@@ -167,11 +185,16 @@ pub struct Inputs<'a> {
 ///
 /// The linked library isn't of this crate's version.
 pub fn start(inputs: &Inputs, list: &mut [f64]) -> Result<Run, StartError> {
+    demand_version();
+    let reply = raw::start(inputs, list);
+    StartError::check(reply.number).map(|()| reply.run)
+}
+
+/// An archive of another version has other structs.
+fn demand_version() {
     if let Err(error) = check_version() {
         panic!("{error}");
     }
-    let reply = raw::start(inputs, list);
-    StartError::check(reply.number).map(|()| reply.run)
 }
 
 /// Hands out the list's next seed.
@@ -248,4 +271,63 @@ pub fn stop(run: &Run, list: &[f64]) -> Result<Stopped, StopError> {
 pub fn last_line(run: &Run) -> Option<Line> {
     let reply = raw::journal::jc_last_line(*run);
     (reply.found != 0).then(|| reply.line.into())
+}
+
+/// How many candidates are scored, and how many skipped for each reason. Of a record that no search can have made all are 0.
+#[must_use]
+pub fn counts(run: &Run) -> Counts {
+    raw::jc_counts(*run)
+}
+
+/// Runs a journal again: its lines stand for the host's answers.
+///
+/// # Errors
+///
+/// The inputs are refused, and the list is as it was; or a line isn't taken, and the list is as the lines before left it.
+///
+/// # Panics
+///
+/// The linked library isn't of this crate's version.
+pub fn replay(inputs: &Inputs, journal: &[u8], list: &mut [f64]) -> Result<Replayed, ReplayError> {
+    demand_version();
+    let reply = raw::replay::replay(inputs, journal, list);
+    let line = reply.line_number;
+    match reply.number {
+        0 if reply.is_over == 0 => Ok(Replayed::Unfinished(reply.next)),
+        0 => Ok(Replayed::Winner { number: reply.candidate, score: reply.score }),
+        11 => Ok(Replayed::NothingScored),
+        29 => Err(ReplayError::NotALine { line }),
+        30 => Err(ReplayError::NotTheRun { line }),
+        number => Err(ReplayError::Start(StartError::of_number(number))),
+    }
+}
+
+/// Goes on with the run of a journal that may be cut off: gives the run as the longest front of lines that [`replay`] takes leaves
+/// it, with no seed waiting, and says what was kept and what was dropped. The list is then that run's.
+///
+/// # Errors
+///
+/// The inputs are refused, and the list is as it was.
+///
+/// # Panics
+///
+/// The linked library isn't of this crate's version.
+pub fn resume(
+    inputs: &Inputs,
+    journal: &[u8],
+    list: &mut [f64],
+) -> Result<(Run, ResumeReport), StartError> {
+    demand_version();
+    let reply = raw::replay::resume(inputs, journal, list);
+    StartError::check(reply.number)?;
+    let ended_by = EndedBy::of_number(reply.ended_by);
+    let (lines, kept, dropped) = (reply.lines, reply.kept, reply.dropped);
+    Ok((reply.run, ResumeReport { lines, kept, dropped, ended_by }))
+}
+
+/// The better of two bests, the first one where their scores are equal; one that isn't found, or whose score isn't a number, counts
+/// as none.
+#[must_use]
+pub fn winner(first: Best, second: Best) -> Best {
+    raw::jc_winner(first, second)
 }

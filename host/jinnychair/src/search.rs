@@ -2,7 +2,7 @@
 
 use crate::error::{numbered, part};
 use crate::journal::Line;
-use crate::record::{self, Progress, Run};
+use crate::record::{self, Counts, Progress, Run};
 use crate::{
     AnswerError, FxFyCxCy, NextError, PinholeCamera, Pt2, ResultError, RunError, Seed, StartError,
     Winner,
@@ -86,6 +86,32 @@ pub struct Inputs<'a> {
     pub base: FxFyCxCy,
     /// The observed centre.
     pub center: Pt2,
+}
+
+impl Inputs<'_> {
+    /// Lends them to a call, with a list of the length that it demands, and gives the list back beside the reply.
+    pub(crate) fn lent<T>(
+        &self,
+        call: impl FnOnce(&record::Inputs, &mut [f64]) -> T,
+    ) -> (T, Vec<f64>) {
+        let options = self.options;
+        let decomposition: Vec<f64> =
+            self.decomposition.iter().flat_map(|seed| seed.numbers()).collect();
+        let (xs, ys) = (options.tilt_x_seeds.len(), options.tilt_y_seeds.len());
+        // Lists that are too long for a grid are refused whatever room there is.
+        let room = 54.max(6 * (self.decomposition.len() + xs.saturating_mul(ys).min(256)));
+        let mut list = vec![0.0; room];
+        let inputs = record::Inputs {
+            views: self.views,
+            options: options.numbers(),
+            tilt_x_seeds: &options.tilt_x_seeds,
+            tilt_y_seeds: &options.tilt_y_seeds,
+            decomposition: &decomposition,
+            base: self.base,
+            center: self.center,
+        };
+        (call(&inputs, &mut list), list)
+    }
 }
 
 /// The rows that a solved camera is scored by; at most 1,024.
@@ -265,26 +291,13 @@ impl Search {
     ///
     /// The linked library isn't of this crate's version ([`crate::check_version`]).
     pub fn start(inputs: &Inputs) -> Result<Self, StartError> {
-        let options = inputs.options;
-        let decomposition: Vec<f64> =
-            inputs.decomposition.iter().flat_map(|seed| seed.numbers()).collect();
-        let (xs, ys) = (options.tilt_x_seeds.len(), options.tilt_y_seeds.len());
-        // Lists that are too long for a grid are refused whatever room there is.
-        let mut list =
-            vec![0.0; 54.max(6 * (inputs.decomposition.len() + xs.saturating_mul(ys).min(256)))];
-        let run = record::start(
-            &record::Inputs {
-                views: inputs.views,
-                options: options.numbers(),
-                tilt_x_seeds: &options.tilt_x_seeds,
-                tilt_y_seeds: &options.tilt_y_seeds,
-                decomposition: &decomposition,
-                base: inputs.base,
-                center: inputs.center,
-            },
-            &mut list,
-        )?;
-        Ok(Self { run, list })
+        let (started, list) = inputs.lent(record::start);
+        Ok(Self { run: started?, list })
+    }
+
+    /// A run with the list that belongs to it.
+    pub(crate) fn of_parts(run: Run, list: Vec<f64>) -> Self {
+        Self { run, list }
     }
 
     /// Runs the search to its end: `solve` is asked for a solution at each seed, or for nothing where it finds none.
@@ -432,6 +445,12 @@ impl Search {
     #[must_use]
     pub fn stop(&self) -> Stopped {
         record::stop(&self.run, &self.list).expect("a search lends its whole list")
+    }
+
+    /// How many candidates are scored, and how many skipped for each reason; they add up to [`Search::answered`].
+    #[must_use]
+    pub fn counts(&self) -> Counts {
+        record::counts(&self.run)
     }
 
     /// How many candidates are answered.

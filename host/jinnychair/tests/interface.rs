@@ -110,11 +110,19 @@ fn plain_header() -> String {
     lines.flat_map(str::split_whitespace).collect::<Vec<_>>().join(" ")
 }
 
+/// The texts of all files of a folder.
+fn read_all(folder: &str) -> String {
+    let folder = Path::new(env!("CARGO_MANIFEST_DIR")).join(folder);
+    let files = fs::read_dir(folder).expect("a folder of sources").map(|file| file.unwrap().path());
+    files.map(|path| fs::read_to_string(path).unwrap()).collect()
+}
+
+fn of_crate() -> Signatures {
+    of_rust(&(read("src/raw.rs") + &read_all("src/raw")), "fn jc_")
+}
+
 fn of_proved_sources() -> Signatures {
-    let folder = Path::new(env!("CARGO_MANIFEST_DIR")).join("../../crates/capi/src");
-    let files = fs::read_dir(folder).expect("the proved sources").map(|file| file.unwrap().path());
-    let text: String = files.map(|path| fs::read_to_string(path).unwrap()).collect();
-    of_rust(&text, "pub extern \"C\" fn jc_")
+    of_rust(&read_all("../../crates/capi/src"), "pub extern \"C\" fn jc_")
 }
 
 /// The archive's index: a count, as many offsets, then the names, each with a zero.
@@ -134,10 +142,7 @@ fn names_and_signatures_agree() {
     let header = of_header();
     assert!(header.len() > 50, "{} functions were found in the header", header.len());
     assert!(header.contains_key("jc_version") && header.contains_key("jc_answer"));
-    for (name, other) in [
-        ("the crate", of_rust(&(read("src/raw.rs") + &read("src/raw/journal.rs")), "fn jc_")),
-        ("the proved sources", of_proved_sources()),
-    ] {
+    for (name, other) in [("the crate", of_crate()), ("the proved sources", of_proved_sources())] {
         for (function, signature) in &header {
             assert_eq!(Some(signature), other.get(function), "{function}: the header, {name}");
         }

@@ -1,61 +1,17 @@
 //! The journal as a host meets it: its lines, its file, and the inputs beside it.
 #![allow(missing_docs)]
 
+mod common;
+
+use common::{K, bytes, folder, inputs, journaled, options, solve, stored};
 use jinnychair::journal::{
     JournalFileError, JournalWriter, Line, Recorded, ScoredFields, StoredInputs, Views,
-    inputs_path, lines, read_line, sha256, write_line,
+    inputs_path, lines, read_line, sha256, write_line, write_report,
 };
 use jinnychair::*;
 use std::fs;
 use std::ops::ControlFlow;
-use std::path::{Path, PathBuf};
-
-const K: FxFyCxCy = FxFyCxCy { fx: 1000.0, fy: 1000.0, cx: 640.0, cy: 480.0 };
-
-/// An empty folder of a test's own.
-fn folder(name: &str) -> PathBuf {
-    let folder = Path::new(env!("CARGO_TARGET_TMPDIR")).join("journal").join(name);
-    let _ = fs::remove_dir_all(&folder);
-    fs::create_dir_all(&folder).unwrap();
-    folder
-}
-
-fn options() -> Options {
-    let mut options = Options::default();
-    options.refine_rounds = 3;
-    options
-}
-
-fn inputs(options: &Options) -> Inputs<'_> {
-    let center = Pt2 { x: K.cx, y: K.cy };
-    Inputs { views: 3, options, decomposition: &[], base: K, center }
-}
-
-fn stored(options: &Options) -> StoredInputs {
-    StoredInputs::new(&inputs(options), Views::BuiltIn, "2026-11-16")
-}
-
-/// A host with three kinds of outcomes.
-fn solve(seed: &Seed) -> Option<Solution> {
-    let ScheimpflugParams { tilt_x, tilt_y } = seed.sensor;
-    let error = 1000.0 * (tilt_x + 0.05).hypot(tilt_y - 0.01);
-    let k = if tilt_y > 0.03 { FxFyCxCy { fx: -1.0, ..K } } else { K };
-    let dist = BrownConrady5 { k1: 0.5, p1: 0.07, p2: -0.01, ..BrownConrady5::default() };
-    let camera = PinholeCamera { k, dist };
-    let rows = vec![0.0, 0.0, K.cx + error, K.cy];
-    (tilt_x < 0.1).then_some(Solution { camera, rows, flags: vec![1] })
-}
-
-/// The bytes of lines.
-fn bytes(lines: &[Line]) -> Vec<u8> {
-    let mut bytes = vec![];
-    for line in lines {
-        let mut buffer = [0; 256];
-        let len = write_line(line, &mut buffer).unwrap();
-        bytes.extend(&buffer[..len]);
-    }
-    bytes
-}
+use std::path::Path;
 
 #[test]
 fn each_answer_has_a_line_with_its_numbers() {
@@ -173,14 +129,6 @@ fn a_search_that_is_stopped_goes_on_in_its_journal() {
     assert!(fs::read(&path).unwrap() == whole);
 }
 
-/// A search with its journal's bytes.
-fn journaled(options: &Options) -> (Winner, Vec<u8>) {
-    let mut search = Search::start(&inputs(options)).unwrap();
-    let mut written = vec![];
-    let winner = search.run_watched(solve, |tried| written.push(tried.line)).unwrap();
-    (winner, bytes(&written))
-}
-
 #[test]
 fn nothing_is_written_over() {
     let (here, options) = (folder("written-over"), options());
@@ -254,7 +202,7 @@ fn inputs_are_read_back_bit_by_bit() {
     assert!(text.contains(
         "\nstep 3f947ae147ae147b 0.02\nbound 3fd3333333333333 0.3\none-axis yes\nmin-counted 50\n"
     ));
-    let built_in = self::stored(&options());
+    let built_in = common::stored(&options());
     assert_eq!(StoredInputs::parse(&built_in.text()), Ok(built_in));
 }
 
@@ -311,4 +259,58 @@ fn inputs_are_saved_and_loaded_beside_their_journal() {
     assert_eq!(StoredInputs::load(&path).unwrap().text(), odd().text());
     assert_eq!(fs::read_dir(&here).unwrap().count(), 1);
     assert!(odd().save(&here.join("missing/night")).is_err());
+}
+
+#[test]
+fn counts_are_those_of_the_lines_and_the_report_has_them() {
+    let options = options();
+    let mut search = Search::start(&inputs(&options)).unwrap();
+    assert_eq!(search.counts(), Counts::default());
+    let mut written: Vec<Line> = vec![];
+    while let Handed::Candidate { seed, .. } = search.next().unwrap() {
+        // A seed that waits isn't counted, and an answer that is refused isn't either.
+        assert_eq!(search.counts(), Counts::of(&written));
+        let rows = Rows { numbers: &[], flags: &[1] };
+        let camera = PinholeCamera { k: K, dist: BrownConrady5::default() };
+        assert!(search.answer(&Finding::Solved { camera, rows }).is_err());
+        let solution = solve(&seed);
+        let finding = solution.as_ref().map_or(Finding::Failed, Solution::finding);
+        let _ = search.answer(&finding).unwrap();
+        written.extend(search.last_line());
+        let counts = search.counts();
+        assert_eq!((counts, counts.total()), (Counts::of(&written), search.answered()));
+    }
+    let counts = search.counts();
+    assert!(counts.scored > 0 && counts.host_failed > 0 && counts.bad_camera > 0, "{counts:?}");
+    assert_eq!((counts.no_mean, counts.no_number), (0, 0));
+    let reasons = SkipReason::ALL.iter().map(|reason| counts.skipped(*reason));
+    assert_eq!(counts.scored + reasons.sum::<usize>(), written.len());
+    let Counts { scored, host_failed, bad_camera, .. } = counts;
+    let line = format!("{scored},{host_failed},{bad_camera},0,0,{}\n", written.len());
+    assert_eq!(counts.report_line(), Ok(line));
+}
+
+#[test]
+fn a_report_that_cannot_be_written_leaves_the_buffer() {
+    let all = |count| Counts {
+        scored: count,
+        host_failed: count,
+        bad_camera: count,
+        no_mean: count,
+        no_number: count,
+    };
+    let mut buffer = [7; 30];
+    assert_eq!(write_report(&all(100), &mut buffer), Ok(24));
+    assert_eq!((&buffer[..24], &buffer[24..]), (&b"100,100,100,100,100,500\n"[..], &[7; 6][..]));
+    let mut buffer = [7; 24];
+    assert_eq!(write_report(&Counts::default(), &mut buffer[..23]), Err(WriteError::NotWritable));
+    for counts in [
+        Counts { scored: 657, ..Counts::default() },
+        Counts { scored: usize::MAX, no_number: 1, ..Counts::default() },
+        all(usize::MAX),
+    ] {
+        assert_eq!(write_report(&counts, &mut buffer), Err(WriteError::NotWritable));
+        assert_eq!(counts.report_line(), Err(WriteError::NotWritable));
+    }
+    assert_eq!((buffer, all(usize::MAX).total()), ([7; 24], usize::MAX));
 }

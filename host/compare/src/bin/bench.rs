@@ -6,10 +6,11 @@
 
 use compare::journal as plain_journal;
 use compare::plain::plain_c;
-use jinnychair::journal::{self, Line, Recorded, ScoredFields};
+use compare::walk::walk;
+use jinnychair::journal::{self, Line, Recorded, Replayed, ScoredFields};
 use jinnychair::record::{self, answer, next, seed, start};
 use jinnychair::{
-    BrownConrady5, Finding as LibraryFinding, FxFyCxCy, Handed, PinholeCamera, Pt2, Rows,
+    BrownConrady5, Counts, Finding as LibraryFinding, FxFyCxCy, Handed, PinholeCamera, Pt2, Rows,
     ScheimpflugParams, Seed, SkipReason, TiltTrig, geometry,
 };
 use oracle::operations::search::{Inputs, run};
@@ -150,6 +151,8 @@ fn main() {
     }
     if goes("journal") {
         journals(&mut random);
+        reports();
+        replays();
     }
     if goes("runs") {
         whole_run("a whole run of 656 answers with 900 rows", &rows);
@@ -460,4 +463,75 @@ fn journals(random: &mut Random) {
         assert_eq!(at, text.len());
     };
     report("reading one (plain Rust)", medians(lines.len(), library, plain), None);
+}
+
+/// A run's 656 lines.
+fn run_lines(inputs: &record::Inputs) -> Vec<u8> {
+    let (mut journal, mut list) = (vec![], vec![0.0; 6 * 512]);
+    let mut run = start(inputs, &mut list).expect("good inputs");
+    while let Ok(Handed::Candidate { number, seed }) = next(&mut run, &list) {
+        let error = 1.0 + 10.0 * seed.sensor.tilt_x.hypot(seed.sensor.tilt_y - 0.03);
+        let rows = Rows { numbers: &[0.0, 0.0, 320.5 + error, 239.25], flags: &[1] };
+        let solved = LibraryFinding::Solved { camera: library_camera(), rows };
+        let finding = if number % 9 == 8 { LibraryFinding::Failed } else { solved };
+        answer(&mut run, &finding, &mut list).expect("a good answer");
+        let mut buffer = [0; plain_journal::LINE_LEN];
+        let line = record::last_line(&run).expect("an answered candidate has a line");
+        let len = journal::write_line(&line, &mut buffer).expect("a run's line");
+        journal.extend_from_slice(&buffer[..len]);
+    }
+    assert_eq!(run.place.number, 656);
+    journal
+}
+
+/// Runs a journal again and goes on from it, beside plain Rust and beside the book.
+fn replays() {
+    let inputs = most_seeds();
+    let for_library = compare::library::library_inputs(&inputs);
+    let for_book = book_inputs(&inputs);
+    let journal = run_lines(&for_library);
+    let mut list = vec![0.0; 6 * 512];
+    let walked = walk(&for_book, &journal);
+    let best = walked.run_best.expect("a winner");
+    let replayed = record::replay(&for_library, &journal, &mut list);
+    assert_eq!(replayed, Ok(Replayed::Winner { number: best.number, score: best.score }));
+    assert_eq!((walked.lines, walked.bytes), (656, journal.len()));
+    let mut other = list.clone();
+    let plain = || assert_eq!(black_box(walk(&for_book, black_box(&journal))).lines, 656);
+    let replay = || keep(record::replay(&for_library, black_box(&journal), &mut list));
+    report("running a journal of 656 lines again (plain Rust)", medians(1, replay, plain), None);
+    let resume = || keep(record::resume(&for_library, black_box(&journal), &mut other));
+    report("going on from it (plain Rust)", medians(1, resume, plain), None);
+    let mut lent = vec![0.0; 6 * 512];
+    let book = || keep(book::replay(for_book.clone(), black_box(&journal), &mut lent));
+    let replay = || keep(record::replay(&for_library, black_box(&journal), &mut list));
+    report("running it again (the book)", medians(1, replay, book), None);
+}
+
+/// Writes the morning report.
+fn reports() {
+    let counts = [530, 60, 40, 20, 6];
+    let [scored, host_failed, bad_camera, no_mean, no_number] = counts;
+    let for_library = Counts { scored, host_failed, bad_camera, no_mean, no_number };
+    let [mut to, mut other] = [[0; 24]; 2];
+    let library = || keep(journal::write_report(black_box(&for_library), &mut to));
+    let plain = || keep(plain_journal::write_report(black_box(&counts), &mut other));
+    report("writing a report (plain Rust)", medians(1, library, plain), None);
+    assert_eq!(to, other);
+}
+
+fn book_inputs(inputs: &Inputs) -> book::Inputs {
+    book::Inputs {
+        views: inputs.views,
+        tilt_x_seeds: inputs.tilt_x_seeds.clone(),
+        tilt_y_seeds: inputs.tilt_y_seeds.clone(),
+        rounds: inputs.rounds,
+        refine_step: inputs.refine_step,
+        max_abs_tilt: inputs.max_abs_tilt,
+        one_axis: false,
+        min_counted: 0,
+        decomposition: inputs.decomposition.clone(),
+        base: inputs.base,
+        centre: inputs.center,
+    }
 }

@@ -1,12 +1,13 @@
 //! A journal on the disk: each line is there before the next seed is asked for.
 
-use super::inputs::{StoredInputs, inputs_path};
+use super::inputs::{InputsError, StoredInputs, inputs_path, sync_folder};
 use super::line::{LEAST_ROOM, Line, write_line};
-use crate::{Ended, RunError, Search, Seed, Solution, Tried, WriteError};
+use super::resume::{ResumeReport, Resumed};
+use crate::{Ended, RunError, Search, Seed, Solution, StartError, Tried, WriteError};
 use std::error::Error;
 use std::fmt::{Display, Formatter, Result as FmtResult};
 use std::fs::{self, File, OpenOptions, TryLockError};
-use std::io::{self, Write};
+use std::io::{self, Read, Write};
 use std::ops::ControlFlow;
 use std::path::{Path, PathBuf};
 
@@ -16,6 +17,19 @@ pub struct JournalWriter {
     file: File,
     path: PathBuf,
     len: u64,
+}
+
+/// A search that goes on in its journal.
+#[derive(Debug)]
+pub struct ResumedJournal {
+    /// The journal, cut to what was kept.
+    pub writer: JournalWriter,
+    /// The search, as the kept lines leave it.
+    pub search: Search,
+    /// What was kept.
+    pub report: ResumeReport,
+    /// What the search started from.
+    pub inputs: StoredInputs,
 }
 
 impl JournalWriter {
@@ -37,13 +51,51 @@ impl JournalWriter {
         if writer.len > 0 || is_there(&beside) {
             return Err(JournalFileError::Exists(path.into()));
         }
-        if let Err(error) = inputs.save(path) {
+        // The journal's name is on the disk before that of its inputs, so that none are ever left without it.
+        if let Err(error) = sync_folder(path).and_then(|()| inputs.save(path)) {
             if is_new {
                 let _ = fs::remove_file(path);
             }
             return Err(JournalFileError::Io(beside, error));
         }
         Ok(writer)
+    }
+
+    /// Opens the journal of a search that was switched off, goes on with the search by the inputs beside it
+    /// ([`Search::resume`]), and cuts the journal to what was kept, which is on the disk before anything is added.
+    ///
+    /// # Errors
+    ///
+    /// There is no such journal, another process writes to it, or its inputs aren't there or aren't taken; then nothing is cut.
+    /// Where the search was switched off before it had written its inputs ([`JournalFileError::NotBegun`]), [`JournalWriter::create`]
+    /// begins it.
+    pub fn resume(path: &Path) -> Result<ResumedJournal, JournalFileError> {
+        let fault = |error| JournalFileError::Io(path.into(), error);
+        let file = OpenOptions::new().read(true).append(true).open(path);
+        if file.as_ref().is_err_and(|error| error.kind() == io::ErrorKind::NotFound) {
+            return Err(JournalFileError::Missing(path.into()));
+        }
+        let mut writer = Self::locked(file, path)?;
+        let beside = inputs_path(path);
+        if writer.len == 0 && beside.symlink_metadata().is_err() {
+            return Err(JournalFileError::NotBegun(path.into()));
+        }
+        let inputs = StoredInputs::load(path)
+            .map_err(|error| JournalFileError::Inputs(beside.clone(), error))?;
+        let mut journal = vec![];
+        writer.file.read_to_end(&mut journal).map_err(fault)?;
+        let Resumed { search, report } = Search::resume(&inputs.inputs(), &journal)
+            .map_err(|error| JournalFileError::Start(beside, error))?;
+        writer.cut(report.kept as u64).map_err(fault)?;
+        Ok(ResumedJournal { writer, search, report, inputs })
+    }
+
+    /// Drops what stands behind a place.
+    fn cut(&mut self, len: u64) -> io::Result<()> {
+        self.file.set_len(len)?;
+        self.file.sync_all()?;
+        self.len = len;
+        Ok(())
     }
 
     /// The lock goes with the process, however that ends.
@@ -133,7 +185,7 @@ impl Display for JournaledRunError {
 
 impl Error for JournaledRunError {}
 
-/// Why a journal can't be written.
+/// Why a journal can't be written, or its search can't go on.
 #[derive(Debug)]
 #[non_exhaustive]
 pub enum JournalFileError {
@@ -143,6 +195,14 @@ pub enum JournalFileError {
     InputsExist(PathBuf),
     /// Another process writes to it.
     InUse(PathBuf),
+    /// There is no journal of this name.
+    Missing(PathBuf),
+    /// Its search was switched off before it began: the journal is empty, and has no inputs.
+    NotBegun(PathBuf),
+    /// The inputs beside it can't be read, or aren't as they were written.
+    Inputs(PathBuf, InputsError),
+    /// A search refuses the inputs beside it.
+    Start(PathBuf, StartError),
     /// The line can't be written.
     Line(WriteError),
     /// The system says why.
@@ -153,7 +213,11 @@ impl Display for JournalFileError {
     fn fmt(&self, f: &mut Formatter) -> FmtResult {
         match self {
             Self::Exists(path) => {
-                write!(f, "{}: there is a journal of this name. Name another", path.display())
+                write!(
+                    f,
+                    "{}: there is a journal of this name. Resume it, or name another",
+                    path.display()
+                )
             }
             Self::InputsExist(path) => write!(
                 f,
@@ -165,6 +229,18 @@ impl Display for JournalFileError {
                 "{}: another process writes to this journal. Wait until it ends",
                 path.display()
             ),
+            Self::Missing(path) => write!(
+                f,
+                "{}: there is no such journal. Name the one of the search that should go on",
+                path.display()
+            ),
+            Self::NotBegun(path) => write!(
+                f,
+                "{}: its search was switched off before it began. Start it again with this journal",
+                path.display()
+            ),
+            Self::Inputs(path, error) => write!(f, "{}: {error}", path.display()),
+            Self::Start(path, error) => write!(f, "{}: {error}", path.display()),
             Self::Line(error) => error.fmt(f),
             Self::Io(path, error) => write!(
                 f,

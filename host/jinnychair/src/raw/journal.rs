@@ -1,7 +1,7 @@
 //! The journal's functions.
 
 use super::laid_out;
-use crate::record::{FlatLine, LastLine, Run};
+use crate::record::{Counts, FlatLine, LastLine, Run};
 use std::mem::{offset_of, size_of};
 
 #[derive(Clone, Copy, Debug, PartialEq)]
@@ -29,12 +29,18 @@ laid_out! {
 unsafe extern "C" {
     pub(crate) safe fn jc_last_line(run: Run) -> LastLine;
     fn jc_write_line(line: FlatLine, to: *mut u8, to_len: usize) -> WriteReply;
+    fn jc_write_report(counts: Counts, to: *mut u8, to_len: usize) -> WriteReply;
     fn jc_read_line(bytes: *const u8, bytes_len: usize, at: usize) -> ReadReply;
 }
 
 pub(crate) fn write_line(line: FlatLine, to: &mut [u8]) -> WriteReply {
     // SAFETY: the slice is valid for its length.
     unsafe { jc_write_line(line, to.as_mut_ptr(), to.len()) }
+}
+
+pub(crate) fn write_report(counts: Counts, to: &mut [u8]) -> WriteReply {
+    // SAFETY: the slice is valid for its length.
+    unsafe { jc_write_report(counts, to.as_mut_ptr(), to.len()) }
 }
 
 pub(crate) fn read_line(bytes: &[u8], at: usize) -> ReadReply {
