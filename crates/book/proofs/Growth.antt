@@ -11,7 +11,7 @@ use Rattle.seed_rules.specs.Layout.{six}
 use Rattle.score_outcome.specs.declared.Outcome.{Outcome}
 use Rattle.score_outcome.specs.Evaluation.{outcomeOf, findingRefusal}
 use Rattle.search_calls.specs.Next.{nextDef, seedLent, seedPart}
-use Rattle.book.specs.Calls.{Call, next, seed, answer, ask, progress, stop, over, part, last, counts}
+use Rattle.book.specs.Calls.{Call, next, seed, answer, ask, progress, stop, part, last, counts}
 use Rattle.book.specs.Book.{Inputs, demand, Book, entries, number, current, runBest, withWaiting, bookEnter, bookNext, bookSeed, bookAnswer, bookResult, bookProgress, bookStop, bookCall, bookLast, bookCounts}
 use Rattle.book.specs.Trace.{Handing, handedBy, answeredBy, handingOf}
 use Rattle.book.proofs.Cases.{case-chosen}

@@ -11,15 +11,11 @@ use lib.Seq.{getD-append-add, drop-append-add, take-append-add, drop-cons, drop-
 use lib.Ieee.{Float, nan}
 use Rattle.seed_rules.specs.declared.CandidateSeed.{CandidateSeed}
 use Rattle.seed_rules.specs.Layout.{laid, six, flat, seedAt, written}
+use Rattle.seed_rules.specs.LayoutLaws.{flat-length}
 use Rattle.score_floor.specs.Floor.{seedsFrom, seedsBetween}
 use Rattle.book.specs.Book.{noSeed}
 
 -- ---- the seeds in the list
-pub flat-length : (ss : List CandidateSeed) → length (flat ss) ≡ 6 * length ss
-unfolding laid
-flat-length [] = refl
-flat-length (s ∷ ss) = let h = flat-length ss in omega arith
-
 past : (s : CandidateSeed) (ys : List Float) (k j : ℕ) → getD (six s ++ ys) (6 * suc k + j) nan ≡ getD ys (6 * k + j) nan
 past s ys k j = let e : 6 * suc k + j ≡ 6 + (6 * k + j) = omega arith in rw e (getD-append-add (six s) ys (6 * k + j) nan)
 

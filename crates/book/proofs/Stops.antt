@@ -31,7 +31,7 @@ use Rattle.book.proofs.Walks.{walks}
 use Rattle.book.proofs.Stopping.{since, nothing-gained}
 
 -- ---- calls in two parts
-after-append : (b : Book) (cs ds : List Call) → after b (cs ++ ds) ≡ after (after b cs) ds
+pub after-append : (b : Book) (cs ds : List Call) → after b (cs ++ ds) ≡ after (after b cs) ds
 unfolding after
 after-append b [] ds = refl
 after-append b (c ∷ cs) ds = after-append (bookCall b c .book) cs ds

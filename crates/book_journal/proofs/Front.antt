@@ -14,7 +14,8 @@ use Rattle.journal_line.specs.declared.Line.{Line}
 use Rattle.journal_line.specs.Line.{lineBytes, journalBytes}
 use Rattle.journal_line.specs.Reading.{lineNumber, ended, readJournal}
 use Rattle.journal_line.specs.Whole.{whole-reading, whole-lines}
-use Rattle.journal_line.specs.Fronts.{whole-front, front-read-first, line-number, journal-append}
+use Rattle.journal_line.specs.Fronts.{whole-front, front-read-first, journal-append}
+use Rattle.journal_line.specs.Numbers.{line-numbers}
 use Rattle.journal_line.specs.Outcome.{outcomeIn}
 use Rattle.journal_replay.specs.declared.Stop.{Stop}
 use Rattle.journal_replay.specs.declared.Stop.the-variants.{AllTaken}
@@ -148,7 +149,7 @@ front-alone i l bs =
       same-book = ap (λ (w : Walked). w .book) e;
       same-list = ap (λ (w : Walked). w .list) e;
       same-taken = ap (λ (w : Walked). w .taken) e;
-      next-number = ap (λ (z : List ℕ). lineNumber z (length kept)) (g .1) ∙ line-number (take n ls) (g .0) ∙ ap suc (taken-length (f .few) t);
+      next-number = ap (λ (z : List ℕ). lineNumber z (length kept)) (g .1) ∙ line-numbers (take n ls) (g .0) ∙ ap suc (taken-length (f .few) t);
     }
   where
     taken-length : {c : ℕ} → c ≤ length (readJournal bs .lines) → c ≡ walked i l bs .taken → length (take (walked i l bs .taken) (readJournal bs .lines)) ≡ walked i l bs .taken

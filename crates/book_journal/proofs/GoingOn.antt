@@ -17,6 +17,7 @@ use Rattle.book.specs.Calls.{Call, next}
 use Rattle.book.specs.Book.{Inputs, demand, Entry, Book, entries, number, opened, withWaiting, bookEnter, Kept as Answer, bookNext, bookCall, replies, after, lineOf}
 use Rattle.book.proofs.Moves.{enteredBy, Moves, stays, hands, enters, moves, grows, after-by}
 use Rattle.book.proofs.Good.{Good, waits-going}
+use Rattle.book.proofs.Stops.{after-append}
 use Rattle.book_journal.specs.Lines.{linesOf, journalOf}
 use Rattle.book_journal.specs.History.{openedBy, History, bookAt, InputsFit, CallFits, atRest, enteredIn}
 use Rattle.book_journal.specs.Resume.{cutRun, again, uncut, goingOn, GoesOn, GoesOnSomewhere, EntersOn, JournalGrows}
@@ -33,11 +34,6 @@ awaited-again b w = ap (λ (x : Bool). record { inputs = b .inputs; round = b .r
 next-again : (b : Book) → b .over ≡ false → bookCall (atRest b) (next (demand (b .inputs))) .book ≡ withWaiting (atRest b)
 unfolding bookCall bookNext atRest
 next-again b o = simp (o, le-ltb (demand (b .inputs)) (demand (b .inputs)) (omega arith))
-
-after-append : (b : Book) (cs ds : List Call) → after b (cs ++ ds) ≡ after (after b cs) ds
-unfolding after
-after-append b [] ds = refl
-after-append b (c ∷ cs) ds = after-append (bookCall b c .book) cs ds
 
 -- ---- a call enters one answer at most
 one-entered : (b : Book) (c : Call) → length (enteredBy b c) ≤ 1

@@ -3,7 +3,7 @@ use mathlib.Core.Path.{_≡_, refl, sym, ap, _∙_}
 use mathlib.Core.List.{List, [], _∷_, _++_, map, flatMap}
 use Rattle.common.specs.Each.{All}
 use Rattle.score_outcome.specs.declared.Scoring.{Scoring}
-use Rattle.score_outcome.specs.declared.Outcome.the-variants.{Scored}
+use Rattle.score_outcome.specs.Outcomes.{scored-same}
 use Rattle.score_best.specs.declared.Candidate.{Candidate}
 use Rattle.score_best.specs.Best.{Chosen, bestOf, candidateOf}
 use Rattle.score_best.specs.Winners.{winnerOf, joined}
@@ -61,9 +61,6 @@ stretches-right b = record {
 }
 
 -- ---- a journal's lines
-scoring-same : (g k : Scoring) → Scored g ≡ Scored k → g ≡ k
-scoring-same g k h = cc
-
 none-in : scoredIn [] ≡ []
 unfolding scoredIn
 none-in = refl
@@ -86,7 +83,7 @@ scored-lines i (e ∷ es) p =
     case-outcome (e .outcome)
     (λ n q. simp (scoredIn, scoredOf, q) ih)
     (λ g q.
-    let b : scoringIn (fieldsOf g) ≡ g = scoring-same (scoringIn (fieldsOf g)) g (rw q at back) in
+    let b : scoringIn (fieldsOf g) ≡ g = scored-same (scoringIn (fieldsOf g)) g (rw q at back) in
     simp (scoredIn, scoredOf, q)
     (ap (λ (x : Scoring). candidateOf (e .number) (e .seed .sensor) x ∷ scoredIn (map lineOf es)) b ∙ ap (λ (z : List Candidate). candidateOf (e .number) (e .seed .sensor) g ∷ z) ih))
 

@@ -34,8 +34,8 @@ use Rattle.search_calls.specs.declared.stop.Outlook.{Outlook}
 use Rattle.search_calls.specs.declared.stop.Stopped.the-variants.{Standing}
 use Rattle.search_calls.specs.Stop.{bestSoFar, leftSeeds, nothingLeft, outlookOf, stopDef}
 use Rattle.search_calls.specs.Last.{hasLine, recordedIn, lastDef}
-use Rattle.capi_records.specs.Record.{flagOf, isSet, flatRun}
-use Rattle.capi_records.specs.RoundTrip.{run-back}
+use Rattle.capi_records.specs.Record.{flagOf, flatRun}
+use Rattle.capi_records.specs.RoundTrip.{set-flag, run-back}
 use Rattle.capi_records.specs.Run.{flatStarted, flatHanded, flatNext, flatAnswered, flatAnswer, flatResult, flatStopped, flatLastLine, findingOf, copied, copyCount}
 use Rattle.book.specs.Book.{Inputs}
 use Rattle.book.specs.Calls.{Reply, part}
@@ -76,12 +76,8 @@ flag-read : {A : Type 0} (b : Bool) (x y : A) → cond (eqb (flagOf b) 0) x y �
 flag-read true x y = refl
 flag-read false x y = refl
 
-set-read : (b : Bool) → isSet (flagOf b) ≡ b
-set-read true = refl
-set-read false = refl
-
 outlook-read : (o : Outlook) → readStop (flatStopped (Standing o)) ≡ stoppedReply (Standing o)
-outlook-read o = rw (flag-read (o .best .found), flag-read (o .«has_floor»), set-read (o .«no_gain»))
+outlook-read o = rw (flag-read (o .best .found), flag-read (o .«has_floor»), set-flag (o .«no_gain»))
 
 stop-read : (r : Run) (l : List Float) → readStop (flatStopped (stopDef r l)) ≡ stoppedReply (stopDef r l)
 unfolding stopDef

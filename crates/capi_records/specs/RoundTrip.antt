@@ -16,7 +16,7 @@ use Rattle.journal_line.specs.Unique.{can-write}
 use Rattle.capi_records.specs.Record.{flagOf, isSet, runFrom, flatRun}
 use Rattle.capi_records.specs.Journal.{lineFrom, flatFields, flatLine}
 
-set-flag : (b : Bool) → isSet (flagOf b) ≡ b
+pub set-flag : (b : Bool) → isSet (flagOf b) ≡ b
 set-flag true = refl
 set-flag false = refl
 

@@ -19,7 +19,8 @@ use Rattle.book.specs.Trace.{tiltY, handedInRound, handed, answers}
 use Rattle.book.specs.Named.{outcomesIn, handings}
 use Rattle.book.specs.Theorem.{startOf, startedList, Wins, TiltTried, Follows}
 use Rattle.book.proofs.Theorem.{search-is-book}
-use Rattle.cases.specs.Words.{bits, f0, quarter, sixty}
+use Rattle.cases.specs.Numbers.{bits, quarter}
+use Rattle.cases.specs.Words.{f0, sixty}
 use Rattle.cases.specs.Lost.{allLostInputs, allLostRun, allLostCalls}
 use Rattle.cases.specs.OneAxis.{axisInputs, axisRun, axisCalls, axisWinner}
 use Rattle.cases.specs.Whole.{wholeInputs, wholeRun, wholeCalls, wholeWinner}

@@ -7,12 +7,10 @@ use Rattle.score_best.specs.declared.Candidate.{Candidate}
 use Rattle.score_best.specs.Best.{nothing, chosen}
 use Rattle.book.specs.Calls.{Call, next, answer, ask, progress, stop, nothing-left, floor, Reply, candidate, scored, skipped, result, bar, stopped, refused}
 use Rattle.book.specs.Book.{Inputs}
-use Rattle.cases.specs.Words.{bits, f0, quarter, pinhole, centre, f100, solvedWith, seenAt, inFront, failed}
+use Rattle.cases.specs.Numbers.{bits, eighth, quarter}
+use Rattle.cases.specs.Words.{f0, pinhole, centre, f100, solvedWith, seenAt, inFront, failed}
 
--- 0.125 and 1 / 64, the tilt penalty of (0.25, 0)
-abbrev eighth : Float
-eighth = bits 0x3fc0_0000_0000_0000
-
+-- 1 / 64, the tilt penalty of (0.25, 0)
 abbrev sixtyFourth : Float
 sixtyFourth = bits 0x3f90_0000_0000_0000
 

@@ -19,16 +19,13 @@ use Rattle.zhang.specs.Zhang.{fromHomographies}
 use Rattle.seed_rules.specs.Rules.{seedWith, initialList, offsets, nextList}
 use Rattle.score_camera.specs.Penalties.{tiltPenalty}
 
--- ---- numbers: n, -n, and the value that the bits b stand for
+-- ---- numbers: n and -n
 abbrev pub whole : ℕ → Float
 whole n = ofInt binary64 (pos n)
 
 abbrev pub minus : ℕ → Float
 minus zero = ofBits binary64 0x8000_0000_0000_0000
 minus (suc n) = ofInt binary64 (negsuc n)
-
-abbrev pub bits : ℕ → Float
-bits b = ofBits binary64 b
 
 pub data Case : Type 0 where
   sqrt : Float → Float → Case

@@ -4,7 +4,8 @@ use mathlib.Core.List.{List, [], _∷_, _++_}
 use Rattle.score_outcome.specs.declared.Finding.the-variants.{Failed}
 use Rattle.book.specs.Calls.{Call, next, seed, answer, ask, Reply, candidate, part, skipped, refused}
 use Rattle.book.specs.Book.{Inputs}
-use Rattle.cases.specs.Words.{bits, f0, quarter, pinhole, centre, failed}
+use Rattle.cases.specs.Numbers.{bits, quarter}
+use Rattle.cases.specs.Words.{f0, pinhole, centre, failed}
 
 -- the one typed tilt, 0.5, is beyond the bound, 0.25
 abbrev pub emptyInputs : Inputs

@@ -6,7 +6,8 @@ use lib.Ieee.{Float}
 use Rattle.score_outcome.specs.declared.Finding.the-variants.{Solved}
 use Rattle.book.specs.Calls.{Call, next, ask, Reply, candidate, over, scored, skipped, result, refused, counts, counted}
 use Rattle.book.specs.Book.{Inputs}
-use Rattle.cases.specs.Words.{bits, f0, quarter, f1, f50, f100, pinhole, centre, solvedWith, seenAt, turn}
+use Rattle.cases.specs.Numbers.{bits, quarter, far}
+use Rattle.cases.specs.Words.{f0, f1, f50, f100, pinhole, centre, solvedWith, seenAt, turn}
 
 -- three typed tilts, 0, 0.25 and −0.25, and no further round
 abbrev pub fewInputs : ℕ → Inputs
@@ -32,9 +33,6 @@ abbrev flags : List ℕ
 flags = 1 ∷ 0 ∷ 1 ∷ []
 
 -- ---- such an answer; one without rows; and one whose score is NaN, since the camera's centre lies at 2^600, where the counted point was seen too
-abbrev far : Float
-far = bits 0x6570_0000_0000_0000
-
 abbrev pub fewCalls : List Call
 fewCalls =
     turn 54 (solvedWith f100 f0) (oneOfThree (seenAt (bits 0x4049_8000_0000_0000))) flags

@@ -1,3 +1,4 @@
+pub mod Numbers
 pub mod Case
 pub mod Table
 pub mod Words

@@ -10,7 +10,8 @@ use Rattle.search_start.specs.Start.{openingOf}
 use Rattle.book.specs.Calls.{Call, next, ask, Reply, candidate, over, scored, skipped, result, refused}
 use Rattle.book.specs.Book.{Inputs}
 use Rattle.book.specs.Theorem.{optionsOf}
-use Rattle.cases.specs.Words.{bits, f0, quarter, f1, f50, f100, pinhole, centre, solvedWith, seenAt, inFront, turn}
+use Rattle.cases.specs.Numbers.{bits, quarter, far}
+use Rattle.cases.specs.Words.{f0, f1, f50, f100, pinhole, centre, solvedWith, seenAt, inFront, turn}
 
 -- three typed tilts, 0, 0.25 and −0.25, and no further round
 abbrev pub lostInputs : Inputs
@@ -29,9 +30,6 @@ lostInputs = record {
 }
 
 -- a camera whose centre lies at 2^600, where the point was seen too: the mean is 0, the square in the centre penalty overflows, and 0 times infinity is NaN
-abbrev far : Float
-far = bits 0x6570_0000_0000_0000
-
 abbrev lost : List Call
 lost = turn 54 (Solved (record {
   k = record { fx = f100; fy = f100; cx = far; cy = f50 };

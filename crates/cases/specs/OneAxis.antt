@@ -16,12 +16,10 @@ use Rattle.search_start.specs.Start.{goodSeed, onlyZero, tooMany, demandOf, ope
 use Rattle.book.specs.Calls.{Call, next, seed, answer, ask, Reply, candidate, over, part, scored, skipped, result}
 use Rattle.book.specs.Book.{Inputs}
 use Rattle.book.specs.Theorem.{optionsOf}
-use Rattle.cases.specs.Words.{bits, f0, quarter, f1, f50, f100, pinhole, centre, solvedWith, seenAt, inFront, failed, sixty}
+use Rattle.cases.specs.Numbers.{bits, eighth, quarter}
+use Rattle.cases.specs.Words.{f0, f1, f50, f100, pinhole, centre, solvedWith, seenAt, inFront, failed, sixty}
 
--- 0.125, 0.0625, −0
-abbrev eighth : Float
-eighth = bits 0x3fc0_0000_0000_0000
-
+-- 0.0625, −0
 abbrev sixteenth : Float
 sixteenth = bits 0x3fb0_0000_0000_0000
 

@@ -19,7 +19,8 @@ use Rattle.zhang.specs.Zhang.{definite, fromHomographies}
 use Rattle.seed_rules.specs.Merge.{keep, hasNear, push, mergedInto}
 use Rattle.seed_rules.specs.Rules.{closer, tiltNear, near, within, inBound, tilts, pairs, seedGrid, initialList, offsets, nextList}
 use Rattle.score_camera.specs.Penalties.{tiltPenalty}
-use Rattle.cases.specs.Case.{Case, sqrt, tilt, forward, backward, centre, conic, typed, around, penalty, Holds, whole, minus, bits}
+use Rattle.cases.specs.Case.{Case, sqrt, tilt, forward, backward, centre, conic, typed, around, penalty, Holds, whole, minus}
+use Rattle.cases.specs.Numbers.{bits, eighth, quarter, half}
 
 abbrev point : Float → Float → Pt2
 point x y = record { x = x; y = y }
@@ -33,16 +34,6 @@ conicOf b11 b12 b22 b13 b23 b33 = record { b11 = b11; b12 = b12; b22 = b22; b13 
 
 abbrev chosen : Estimated
 chosen = estimate.Camera (record { fx = whole 2; fy = whole 2; cx = whole 3; cy = whole 1 })
-
--- 0.125, 0.25, 0.5
-abbrev eighth : Float
-eighth = bits 0x3fc0_0000_0000_0000
-
-abbrev quarter : Float
-quarter = bits 0x3fd0_0000_0000_0000
-
-abbrev half : Float
-half = bits 0x3fe0_0000_0000_0000
 
 abbrev pub table : List Case
 table =

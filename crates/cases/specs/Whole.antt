@@ -11,11 +11,8 @@ use Rattle.search_start.specs.Start.{openingOf}
 use Rattle.book.specs.Calls.{Call, next, seed, answer, ask, Reply, candidate, over, part, scored, skipped, result, refused, counts, counted}
 use Rattle.book.specs.Book.{Inputs}
 use Rattle.book.specs.Theorem.{optionsOf}
-use Rattle.cases.specs.Words.{bits, f0, quarter, f1, f50, f100, pinhole, centre, solvedWith, seenAt, inFront, turn, failed}
-
--- 0.5
-abbrev half : Float
-half = bits 0x3fe0_0000_0000_0000
+use Rattle.cases.specs.Numbers.{bits, quarter, half}
+use Rattle.cases.specs.Words.{f0, f1, f50, f100, pinhole, centre, solvedWith, seenAt, inFront, turn, failed}
 
 -- the decomposition has the same seed, at no tilt, twice; of the typed tilts 0.25 and 0.5 the second is beyond the bound
 abbrev pub wholeInputs : Inputs

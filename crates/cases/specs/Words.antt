@@ -1,7 +1,7 @@
 -- Numbers, cameras and findings that the worked runs are made of. Definitions only.
 use Prim.Native.Nat.{ℕ}
 use mathlib.Core.List.{List, [], _∷_, _++_}
-use lib.Ieee.{Float, binary64, ofBits}
+use lib.Ieee.{Float}
 use Rattle.camera_models.specs.declared.math.Pt2.{Pt2}
 use Rattle.camera_models.specs.declared.intrinsics.FxFyCxCy.{FxFyCxCy}
 use Rattle.score_outcome.specs.declared.Finding.{Finding}
@@ -12,16 +12,11 @@ use Rattle.book.specs.Calls.{Call, next, answer, Reply, refused}
 use Rattle.book.specs.Book.{Inputs}
 use Rattle.book.specs.Walk.{walk}
 use Rattle.book.specs.Theorem.{startOf, startedList}
+use Rattle.cases.specs.Numbers.{bits}
 
-abbrev pub bits : ℕ → Float
-bits b = ofBits binary64 b
-
--- 0, 0.25, 1, 50, 100
+-- 0, 1, 50, 100
 abbrev pub f0 : Float
 f0 = bits 0
-
-abbrev pub quarter : Float
-quarter = bits 0x3fd0_0000_0000_0000
 
 abbrev pub f1 : Float
 f1 = bits 0x3ff0_0000_0000_0000

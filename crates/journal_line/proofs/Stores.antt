@@ -6,7 +6,7 @@ use native.Mathlib.Nat.{add-zero, zero-add}
 use native.Mathlib.Numerals.{add-one}
 use native.Mathlib.Omega.{arith}
 use lib.Ieee.{Float}
-use lib.ListN.{length, set, getD, drop, replicate, length-set, length-append, drop-of-length-le}
+use lib.ListN.{length, set, getD, drop, replicate, length-append, drop-of-length-le}
 use lib.Seq.{sets, sets-eq, set-comm, drop-cons}
 use Rattle.float.specs.Float.{bitsOf}
 use Rattle.journal_line.specs.Line.{digitByte, digits, decimalWidth, decimal, real}
@@ -15,9 +15,6 @@ use Rattle.journal_line.specs.DigitLaws.{digits-length, decimal-length}
 use Rattle.journal_line.specs.FieldLaws.{real-length}
 
 -- ---- one after the other
-pub stored-one : (l : List ℕ) (i a : ℕ) → Stored l i (a ∷ []) (set l i a)
-stored-one l i a = record { now-is = refl; same-long = length-set l i a }
-
 -- one run behind another
 pub sets-then : (vs ws l : List ℕ) (i j : ℕ) → i + length vs ≡ j → sets l i (vs ++ ws) ≡ sets (sets l i vs) j ws
 sets-then [] ws l i j e = ap (λ (k : ℕ). sets l k ws) (sym (add-zero i) ∙ e)

@@ -7,14 +7,14 @@ use native.Mathlib.Omega.{arith}
 use borrow.Author.Tests.{ltb-true, ltb-false}
 use lib.Dec.{ltb}
 use lib.ListN.{length, take, drop, length-append, length-drop, drop-of-length-le}
-use lib.Seq.{take-append-le, take-append-add, take-append-seam}
+use lib.Seq.{take-append-le, take-append-add}
 use Rattle.common.specs.Each.{All}
 use Rattle.common.specs.Tests.{case}
 use Rattle.journal_line.specs.declared.Line.{Line}
 use Rattle.journal_line.specs.declared.Read.{Read}
 use Rattle.journal_line.specs.declared.Read.the-variants.{Got, End, Refused}
 use Rattle.journal_line.specs.Line.{lineBytes, LineFits, Writable, journalBytes}
-use Rattle.journal_line.specs.Reading.{newlines, lineNumber, readLine, Ending, ended, refused, unread, Lines, goesOn, readAll, readJournal}
+use Rattle.journal_line.specs.Reading.{newlines, readLine, Ending, ended, refused, unread, Lines, goesOn, readAll, readJournal}
 use Rattle.journal_line.specs.Unique.{Correct, read-correct, line-bounds, line-injective}
 use Rattle.journal_line.specs.Numbers.{newlines-append, line-newlines, cut-line}
 use Rattle.journal_line.specs.Whole.{whole-stops}
@@ -176,15 +176,6 @@ cut-journal (l ∷ ls) at =
               ∙ ap (λ (r : List ℕ). lineBytes l ++ r) (c .cut-is) ∙ sym (append-assoc (lineBytes l) (journalBytes (take (c .whole) ls)) (c .part));
           no-newline = c .no-newline;
         }
-
--- ---- the number of the line behind whole lines, from 1
-journal-newlines : (ls : List Line) → newlines (journalBytes ls) ≡ length ls
-unfolding journalBytes newlines
-journal-newlines [] = refl
-journal-newlines (l ∷ ls) = omega (arith, newlines-append (lineBytes l) (journalBytes ls), line-newlines l, journal-newlines ls)
-
-pub line-number : (ls : List Line) (rest : List ℕ) → lineNumber (journalBytes ls ++ rest) (length (journalBytes ls)) ≡ suc (length ls)
-line-number ls rest = let e = ap newlines (take-append-seam (journalBytes ls) rest) ∙ journal-newlines ls in omega arith
 
 -- ---- journals, one behind the other
 pub journal-append : (ls ms : List Line) → journalBytes (ls ++ ms) ≡ journalBytes ls ++ journalBytes ms

@@ -1,14 +1,16 @@
-//! Hostile cases through the C boundary, as many as wanted, in one command: leaf operations and rows beside plain C, runs and lines
-//! beside the plain book, forged records by what no call may do. Prints what was tried and every difference, and ends with 1 on any.
+//! Hostile cases through the C boundary, as many as wanted, in one command: leaf operations and rows beside plain C; runs, lines,
+//! reports, winners, and journals that were cut or damaged beside the plain book; forged records by what no call may do. Prints what
+//! was tried and every difference, and ends with 1 on any.
 //!
-//!     soak [--leaves N] [--rows N] [--runs N] [--lines N] [--records N] [--seed WORD]
+//!     soak [--leaves N] [--rows N] [--runs N] [--lines N] [--cuts N] [--records N] [--seed WORD]
 //!
 //! A part that isn't wanted gets 0. Each seed has cases of its own; the same seed has the same ones.
 
 use beside::calls::{Tally, play};
 use beside::inputs::draw;
 use beside::lines::{LineTally, write_and_read};
-use compare::{blocks, forged, leaves};
+use beside::{reports, winners};
+use compare::{blocks, cuts, forged, leaves};
 use random::Random;
 use std::process::ExitCode;
 use std::time::Instant;
@@ -22,6 +24,7 @@ struct Asked {
     rows: usize,
     runs: usize,
     lines: usize,
+    cuts: usize,
     records: usize,
     seed: String,
 }
@@ -29,8 +32,8 @@ struct Asked {
 impl Asked {
     fn read(mut words: impl Iterator<Item = String>) -> Result<Self, String> {
         let (leaves, rows, runs) = (1_000_000, 50_000, 10_000);
-        let (lines, records, seed) = (200_000, 5_000, "1".into());
-        let mut asked = Self { leaves, rows, runs, lines, records, seed };
+        let (lines, cuts, records, seed) = (200_000, 2_000, 5_000, "1".into());
+        let mut asked = Self { leaves, rows, runs, lines, cuts, records, seed };
         while let Some(name) = words.next() {
             let value = words.next().ok_or(format!("{name} needs a value"))?;
             let number = || value.parse().map_err(|_| format!("{name} {value}: no whole number"));
@@ -39,6 +42,7 @@ impl Asked {
                 "--rows" => asked.rows = number()?,
                 "--runs" => asked.runs = number()?,
                 "--lines" => asked.lines = number()?,
+                "--cuts" => asked.cuts = number()?,
                 "--records" => asked.records = number()?,
                 "--seed" => asked.seed = value,
                 _ => return Err(format!("{name} isn't known")),
@@ -112,13 +116,34 @@ impl Part<'_> {
     fn lines(&mut self, random: &mut Random) -> String {
         let mut tally = LineTally::default();
         for _ in 0..self.asked.lines {
-            if let Err(fault) = write_and_read(random, &mut tally) {
-                self.differences.add(&fault);
-            }
+            let line = write_and_read(random, &mut tally);
+            let other = reports::compare_drawn(random).and(winners::compare_drawn(random));
+            [line.err(), other.err()]
+                .iter()
+                .flatten()
+                .for_each(|fault| self.differences.add(fault));
         }
         let ([written, refused], [lines, ends, not_lines]) = (tally.written, tally.read);
         format!(
-            "{written} written, {refused} refused; of damaged ones {lines} read, {ends} ends, {not_lines} refused, beside the book"
+            "{written} written, {refused} refused; of damaged ones {lines} read, {ends} ends, {not_lines} refused; as many reports and winners, beside the book"
+        )
+    }
+
+    fn cuts(&mut self, random: &mut Random) -> String {
+        let mut tally = cuts::Tally::default();
+        for i in 0..self.asked.cuts {
+            if let Err(fault) = cuts::compare(random, &mut tally) {
+                self.differences.add(&format!("journal {i}: {fault}"));
+            }
+        }
+        let ([runs, bytes], [whole, newline, not_line, not_run]) =
+            (tally.runs, tally.resumes.ended);
+        let ([winners, unfinished], refused) = (tally.replays.ended, tally.replays.refused);
+        format!(
+            "{runs} journals of {bytes} bytes; {} cuts, from each on to the end; resumed: {whole} whole, {newline} without a newline, \
+             {not_line} with 29, {not_run} with 30; run again: {winners} winners, {unfinished} unfinished, {} with 11, {} with 29, \
+             {} with 30, beside the book",
+            tally.cuts, refused[11], refused[29], refused[30]
         )
     }
 
@@ -152,6 +177,7 @@ fn main() -> ExitCode {
     part.go("rows", asked.rows, Part::rows);
     part.go("runs", asked.runs, Part::runs);
     part.go("lines", asked.lines, Part::lines);
+    part.go("cuts", asked.cuts, Part::cuts);
     part.go("records", asked.records, Part::records);
     println!("{} differences", differences.count);
     if differences.count == 0 { ExitCode::SUCCESS } else { ExitCode::FAILURE }

@@ -1,11 +1,11 @@
 //! How the library's times grow with their work: an answer with its rows, Start with its seeds, a journal with its lines.
 
 use super::{
-    FEWEST_TURNS, Side, flat, keep, library_camera, lines, plain_journal, row_list,
+    FEWEST_TURNS, Side, flat, keep, library_camera, lines, plain_journal, row_list, run_lines,
     time_on_processor,
 };
 use jinnychair::journal;
-use jinnychair::record::{Inputs, Options, answer, next, start};
+use jinnychair::record::{self, Inputs, Options, answer, next, start};
 use jinnychair::{Finding, FxFyCxCy, Pt2, Rows};
 use random::Random;
 use std::hint::black_box;
@@ -42,6 +42,7 @@ pub fn all(random: &mut Random) {
     answers(random);
     starts();
     journals(random);
+    replays();
 }
 
 const CAMERA: FxFyCxCy = FxFyCxCy { fx: 800.0, fy: 790.0, cx: 320.5, cy: 239.25 };
@@ -177,4 +178,38 @@ fn journals(random: &mut Random) {
             time(|| keep(journal::read_line(black_box(&text), text.len() - 2)))
         },
     );
+}
+
+/// A run's journal of so many lines run again, and gone on from.
+fn replays() {
+    let seeds = Seeds::new(512);
+    let text = run_lines(&seeds.inputs());
+    let mut ends = vec![0];
+    ends.extend((0..text.len()).filter(|at| text[*at] == b'\n').map(|at| at + 1));
+    let sizes = [1, 2, 4, 8, 16, 32, 64, 128, 256, 512, 656];
+    let mut list = vec![0.0; 6 * 512];
+    let words = |what| [what, "lines", "line"];
+    let alone = time(|| keep(start(black_box(&seeds.inputs()), &mut list)));
+    println!("Start alone, of 512 seeds: {:.1} µs\n", alone / 1e3);
+    table(
+        words("running a journal again"),
+        &sizes,
+        |count| count,
+        |count| {
+            let front = &text[..ends[count]];
+            time(|| keep(record::replay(&seeds.inputs(), black_box(front), &mut list)))
+        },
+    );
+    table(
+        ["going on from a journal", "bytes", "byte"],
+        &ends_of(&sizes, &ends),
+        |bytes| bytes,
+        |bytes| {
+            time(|| keep(record::resume(&seeds.inputs(), black_box(&text[..bytes]), &mut list)))
+        },
+    );
+}
+
+fn ends_of(sizes: &[usize], ends: &[usize]) -> Vec<usize> {
+    sizes.iter().map(|count| ends[*count]).collect()
 }
