@@ -4,3 +4,4 @@ pub mod Refusal
 pub mod RefusalLaws
 pub mod Table
 pub mod Tests
+pub mod Slices

@@ -1,12 +1,12 @@
 -- What the parser finds, by what the writer made of the line that the bytes would be. Assumes nothing.
-use Prim.Native.Nat.{ℕ, _+_, _-_, _<_, _≤_}
+use Prim.Native.Nat.{ℕ, _+_, _<_, _≤_}
 use mathlib.Core.Path.{_≡_, sym, ap, _∙_}
 use mathlib.Core.Bool.{Bool, true, false, not}
 use mathlib.Core.List.{List, _++_}
 use native.Mathlib.Omega.{arith}
 use borrow.Author.Tests.{le-ltb, lt-ltb, eq-eqb, ne-eqb}
 use lib.ListN.{length, getD, take, drop, length-append, length-take, length-drop}
-use lib.Seq.{take-all, take-at, drop-drop, getD-drop}
+use lib.Seq.{take-at, drop-drop, getD-drop}
 use Rattle.common.specs.Tests.{case}
 use Rattle.seed_rules.specs.declared.CandidateSeed.{CandidateSeed}
 use Rattle.seed_rules.specs.Layout.{seedAt}
@@ -65,10 +65,6 @@ undone l o k big w s e = case (writable l) (λ c.
     (λ c. c)
 
 -- ---- the parser's answers
--- the part of a slice from a place on
-pub rest-is : (s : List ℕ) (at : ℕ) → take (length s - at) (drop at s) ≡ drop at s
-rest-is s at = take-all (length s - at) (drop at s) (omega (arith, length-drop at s))
-
 module _ (s : List ℕ) (at : ℕ) where
   pub at-end : length s ≤ at → End ≡ readLine s at
   unfolding readLine

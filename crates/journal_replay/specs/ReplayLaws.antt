@@ -1,13 +1,12 @@
 -- What the code of replay and resume tests, as their definitions have it. Assumes nothing.
-use Prim.Native.Nat.{ℕ, _-_, _<_}
+use Prim.Native.Nat.{ℕ, _<_}
 use mathlib.Core.Path.{_≡_, refl, ap, _∙_}
 use mathlib.Core.Bool.{_&&_}
 use mathlib.Core.List.{List, [], _∷_}
 use native.Mathlib.Omega.{arith}
 use borrow.Author.Tests.{lt-ltb}
 use lib.Dec.{ltb, eqb}
-use lib.ListN.{length, take, drop, length-drop}
-use lib.Seq.{take-all}
+use lib.ListN.{length, drop}
 use lib.Ieee.{Float}
 use Rattle.journal_line.specs.Reading.{newlines}
 use Rattle.search_record.specs.declared.run.Run.{Run}
@@ -38,10 +37,6 @@ cut-line [] n h = refl
 cut-line (c ∷ cs) n h =
     let p : 0 < length (c ∷ cs) = omega arith in
     rw (lt-ltb 0 (length (c ∷ cs)) p, h)
-
--- the part of a slice from a place on
-pub rest-from : (s : List ℕ) (at : ℕ) → take (length s - at) (drop at s) ≡ drop at s
-rest-from s at = take-all (length s - at) (drop at s) (omega (arith, length-drop at s))
 
 -- the report, from what stands behind the kept bytes
 pub report-by : (w : Walked) (s rest : List ℕ) (e : EndedBy) → rest ≡ drop (w .bytes) s → e ≡ endedBy (w .stop) rest

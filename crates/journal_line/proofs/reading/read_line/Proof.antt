@@ -6,7 +6,8 @@ use Prim.Native.Nat.{ℕ}
 use mathlib.Core.List.{List}
 use lib.ListN.{length, drop, replicate, length-replicate}
 use mathlib.Core.Path.{_≡_, ap, _∙_}
-use Rattle.journal_line.proofs.Found.{Done, at-end, done, front-long, front-room, rest-is, undone, got, not-so, not-written, in-journal}
+use Rattle.common.specs.Slices.{rest-from}
+use Rattle.journal_line.proofs.Found.{Done, at-end, done, front-long, front-room, undone, got, not-so, not-written, in-journal}
 use borrow.Author.Needs.{needs}
 use Rattle.journal_line.proofs.reading.read_line.Statement.{statement}
 use Rattle.journal_line.proofs.reading.read_line.Tie as tie
@@ -19,7 +20,7 @@ long = length-replicate {A = ℕ} 256 0
 
 -- the line that the writer is given
 line-is : (c : tie.After-unchecked-line) → c .unchecked-line .result ≡ uncheckedLine (drop (c .before .before .before .before .args .at) (c .before .before .before .before .args .bytes .now))
-line-is c = let a = c .before .before .before .before .args in c .unchecked-line .ensures ∙ ap uncheckedLine (rest-is (a .bytes .now) (a .at))
+line-is c = let a = c .before .before .before .before .args in c .unchecked-line .ensures ∙ ap uncheckedLine (rest-from (a .bytes .now) (a .at))
 
 -- what the writer has made, where it gave a length
 made : (c : tie.After-n) → Done (c .before .before .before .before .before .unchecked-line .result) zeros (c .before .before .before .write-line .last .1 .0) (c .n .given .0 .0) long
@@ -83,7 +84,7 @@ add-t17 c =
     let x = n .before .before .before .before .before in
     let f = x .before .before in
     let a = f .before .before .args in
-    let e = b .begins-with .ensures ∙ ap (begins _) (rest-is (a .bytes .now) (a .at)) in
+    let e = b .begins-with .ensures ∙ ap (begins _) (rest-from (a .bytes .now) (a .at)) in
     omega (arith, in-journal (a .bytes .now) (a .at) (x .unchecked-line .result) (f .if1 .left) (line-is x) _ _ _ _ (made n) (b .begins-with .result) e (c .if2 .taken))
 
 returns-3 : tie.Need-returns-3
@@ -93,7 +94,7 @@ returns-3 c =
     let x = n .before .before .before .before .before in
     let f = x .before .before in
     let a = f .before .before .args in
-    let e = b .begins-with .ensures ∙ ap (begins _) (rest-is (a .bytes .now) (a .at)) in
+    let e = b .begins-with .ensures ∙ ap (begins _) (rest-from (a .bytes .now) (a .at)) in
     got (a .bytes .now) (a .at) (x .unchecked-line .result) (f .if1 .left) (line-is x) _ _ _ _ (made n) (b .begins-with .result) e (c .if2 .taken)
 
 refused-at-requires-2 : tie.Need-refused-at-requires-2
@@ -106,7 +107,7 @@ returns-4 c =
     let x = n .before .before .before .before .before in
     let f = x .before .before in
     let a = f .before .before .args in
-    let e = b .begins-with .ensures ∙ ap (begins _) (rest-is (a .bytes .now) (a .at)) in
+    let e = b .begins-with .ensures ∙ ap (begins _) (rest-from (a .bytes .now) (a .at)) in
     let r = not-so (a .bytes .now) (a .at) (x .unchecked-line .result) (f .if1 .left) (line-is x) _ _ _ _ (made n) (b .begins-with .result) e (c .before .if2 .left) in
     c .refused-at2 .ensures ∙ r
 

@@ -1,6 +1,7 @@
 -- `journal_replay::resume::resumed` meets its contract. Assumes nothing.
 use borrow.Author.Needs.{needs}
-use Rattle.journal_replay.specs.ReplayLaws.{rest-from, report-by}
+use Rattle.common.specs.Slices.{rest-from}
+use Rattle.journal_replay.specs.ReplayLaws.{report-by}
 use Rattle.journal_replay.proofs.resume.resumed.Statement.{statement}
 use Rattle.journal_replay.proofs.resume.resumed.Tie as tie
 

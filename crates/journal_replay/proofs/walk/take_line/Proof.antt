@@ -1,6 +1,4 @@
 -- `journal_replay::walk::take_line` meets its contract. Assumes nothing.
-use mathlib.Core.Path.{_≡_}
-use mathlib.Core.Bool.{true, _&&_}
 use borrow.Author.Needs.{needs}
 use borrow.Author.Tests.{not-true, not-false}
 use Rattle.journal_replay.specs.WalkLaws.{line-stays, line-enters, line-enterable}
