@@ -4,7 +4,7 @@ use native.Mathlib.Omega.{arith}
 use mathlib.Core.Path.{_≡_, refl, ap, _∙_}
 use mathlib.Core.Bool.{Bool, true, false, cond, true≢false}
 use mathlib.Core.List.{List, [], _∷_, _++_, map}
-use borrow.Author.Tests.{le-leb, ne-eqb}
+use borrow.Author.Tests.{le-leb, ne-eqb, eqb-true, eqb-false}
 use lib.Dec.{ltb, eqb}
 use lib.ListN.{length, take, drop, length-take}
 use lib.Ieee.{Float}
@@ -37,13 +37,20 @@ use Rattle.search_calls.specs.Last.{hasLine, recordedIn, lastDef}
 use Rattle.capi_records.specs.Record.{flagOf, flatRun}
 use Rattle.capi_records.specs.RoundTrip.{set-flag, run-back}
 use Rattle.capi_records.specs.Run.{flatStarted, flatHanded, flatNext, flatAnswered, flatAnswer, flatResult, flatStopped, flatLastLine, findingOf, copied, copyCount}
-use Rattle.book.specs.Book.{Inputs}
+use Rattle.capi_records.specs.Replay.{flatResumed}
+use Rattle.book.specs.Book.{Inputs, replies}
 use Rattle.book.specs.Calls.{Reply, part}
 use Rattle.book.specs.Walk.{Step, handedReply, answeredReply, resultedReply, progressReply, stoppedReply, lastReply, runCall, walk}
 use Rattle.book.specs.Theorem.{optionsOf, startOf, startedList}
+use Rattle.book.proofs.RunOf.{runOf}
 use Rattle.book.proofs.Theorem.{search-is-book}
+use Rattle.book_journal.specs.Replay.{startNumber, walked}
+use Rattle.book_journal.specs.Resume.{resumeOf}
+use Rattle.book_journal.proofs.Theorem.{journals-right}
+use Rattle.book_replay.specs.Theorem.{withRecord}
+use Rattle.book_replay.proofs.Theorem.{replay-right}
 use Rattle.capi_book.specs.Exported.{Exported, jc-next, jc-seed, jc-answer, jc-result, jc-progress, jc-stop, jc-last-line, jc-counts, callOf, readNext, readAnswer, readResult, readProgress, readStop, readLast, FlatStep, flatCall, flatWalk}
-use Rattle.capi_book.specs.Theorem.{ExportedIsWalk, ExportedIsBook}
+use Rattle.capi_book.specs.Theorem.{ExportedIsWalk, ExportedIsBook, ExportedReplays, ExportedResumes}
 
 -- ---- the record in a reply
 next-run : (h : Handed) (r : Run) → flatHanded h r .run ≡ flatRun r
@@ -179,3 +186,24 @@ pub exported-is-book : ExportedIsBook
 exported-is-book i o l e h cs =
     let a = accepted i l (rw e at h) in
     rw (e, a .1) (exported-is-walk (a .0) (startedList i l) cs ∙ search-is-book i l .follows (a .0) (a .1) (map callOf cs) .same-replies)
+
+-- ---- a journal run again
+pub exported-replays : ExportedReplays
+exported-replays i o l bs e = rw e (replay-right .replay-is-book i l bs)
+
+-- ---- after Resume: its reply has the number 0 only where Start refuses nothing
+resume-walk : (i : Inputs) (l : List Float) (bs : List ℕ) (cs : List Exported) → flatResumed (withRecord (resumeOf i l bs) .reply) .number ≡ 0
+    → flatWalk (flatResumed (withRecord (resumeOf i l bs) .reply) .run) (withRecord (resumeOf i l bs) .list) cs ≡ replies (walked i l bs .book) (map callOf cs)
+unfolding resumeOf
+resume-walk i l bs cs h =
+    let w = walked i l bs in
+    case (eqb (startNumber i (length l)) 0)
+    (λ z.
+    let a = journals-right .start-first i (length l) .accepts .0 (eqb-true (startNumber i (length l)) 0 z) in
+    simp z (exported-is-walk (runOf (w .book)) (w .list) cs ∙ journals-right .continues i l bs a (map callOf cs) .same-replies))
+    (λ z. absurd (eqb-false (startNumber i (length l)) 0 z (simp z at h)))
+
+pub exported-resumes : ExportedResumes
+exported-resumes i o l bs e h cs =
+    let b = replay-right .resume-is-book i l bs in
+    rw (e, b) (resume-walk i l bs cs (rw (e, b) at h))
