@@ -25,7 +25,7 @@ use search_calls::stop::Outlook;
 use search_calls::stop::Stopped;
 use search_start::Started;
 
-// 0 and the run, or 1 to 8, or 27.
+// 0 and the run, or 1 to 8, 27, 31, 32, 33.
 #[repr(C)]
 pub struct StartFlat {
     pub number: u8,
