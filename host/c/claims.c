@@ -309,7 +309,10 @@ static void changed_camera(void) {
         double list[54];
         jc_line line = jc_read_line(j.bytes, j.len, j.ends[i]).line;
         uint8_t to[JC_LINE_LEN];
-        line.k.fx = nextafter(line.k.fx, 2000);
+        uint64_t bits;
+        memcpy(&bits, &line.k.fx, sizeof bits);
+        bits ^= 1;
+        memcpy(&line.k.fx, &bits, sizeof bits);
         memcpy(j.bytes + j.ends[i], to, jc_write_line(line, to, JC_LINE_LEN).len);
         jc_replay_flat r = replayed(j.bytes, j.len, list);
         if (i == 0) claim(r.number == 0 && r.candidate == jc_result(j.run).candidate.number, "another camera that isn't its round's best isn't found");
