@@ -81,14 +81,17 @@ scoringOf s sensor center rows flags =
     let mean = meanWith s rows flags in
     record { camera = camera; mean = mean; score = scoreOf mean camera sensor center }
 
+-- 02, E3: a score that isn't a number is reason 4; an infinite one is a score
+unfoldable pub scoredAs : Scoring → Outcome
+scoredAs g = cond (isNan (g .score)) (Skipped 4) (Scored g)
+
 -- 01, 'The run': the camera is damped, then checked (reason 2), and the rows are projected; a mean that isn't finite is reason 3, and so is, by 02, E11,
--- one over too few of the rows. 02, E3: a score that isn't a number is reason 4; an infinite one is a score.
+-- one over too few of the rows.
 unfoldable pub evaluated : ℕ → SolvedCamera → ScheimpflugParams → Pt2 → List Float → List ℕ → Outcome
 evaluated share s sensor center rows flags =
     cond (not (validCamera (dampedCamera (s .camera)))) (Skipped 2)
     (cond (not (enoughWith share s rows flags)) (Skipped 3)
-    (cond (not (isFinite (meanWith s rows flags))) (Skipped 3)
-    (cond (isNan (scoringOf s sensor center rows flags .score)) (Skipped 4) (Scored (scoringOf s sensor center rows flags)))))
+    (cond (not (isFinite (meanWith s rows flags))) (Skipped 3) (scoredAs (scoringOf s sensor center rows flags))))
 
 -- Reason 1: the host Failed. A solved camera is looked at with the seed's own tilts.
 unfoldable pub outcomeOf : ℕ → Finding → ScheimpflugParams → Pt2 → List Float → List ℕ → Outcome

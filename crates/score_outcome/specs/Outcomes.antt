@@ -12,7 +12,7 @@ use Rattle.camera_tilt.specs.declared.sensor.ScheimpflugParams.{ScheimpflugPara
 use Rattle.score_camera.specs.declared.pinhole.PinholeCamera.{PinholeCamera}
 use Rattle.score_camera.specs.Camera.{dampedCamera, validCamera}
 use Rattle.score_camera.specs.Penalties.{scoreOf}
-use Rattle.score_outcome.specs.Evaluation.{enoughWith, meanWith, scoringOf, evaluated}
+use Rattle.score_outcome.specs.Evaluation.{enoughWith, meanWith, scoringOf, scoredAs, evaluated}
 use Rattle.score_outcome.specs.declared.SolvedCamera.{SolvedCamera}
 use Rattle.score_outcome.specs.declared.Scoring.{Scoring}
 use Rattle.score_outcome.specs.declared.Outcome.the-variants.{Skipped, Scored}
@@ -38,14 +38,19 @@ module _ (share : ℕ) (s : SolvedCamera) (sensor : ScheimpflugParams) (center :
   unfolding evaluated
   infinite-skips v f = case (enoughWith share s rows flags) (λ e. simp (v, e, f)) (λ e. simp (v, e))
 
+  pub passed-scored : validCamera (dampedCamera (s .camera)) ≡ true → enoughWith share s rows flags ≡ true → isFinite (meanWith s rows flags) ≡ true
+      → evaluated share s sensor center rows flags ≡ scoredAs (scoringOf s sensor center rows flags)
+  unfolding evaluated
+  passed-scored v e f = simp (v, e, f)
+
   pub nan-skips : validCamera (dampedCamera (s .camera)) ≡ true → enoughWith share s rows flags ≡ true → isFinite (meanWith s rows flags) ≡ true
       → isNan (scoringOf s sensor center rows flags .score) ≡ true → evaluated share s sensor center rows flags ≡ Skipped 4
-  unfolding evaluated
+  unfolding evaluated scoredAs
   nan-skips v e f n = simp (v, e, f, n)
 
   pub number-scores : validCamera (dampedCamera (s .camera)) ≡ true → enoughWith share s rows flags ≡ true → isFinite (meanWith s rows flags) ≡ true
       → isNan (scoringOf s sensor center rows flags .score) ≡ false → evaluated share s sensor center rows flags ≡ Scored (scoringOf s sensor center rows flags)
-  unfolding evaluated
+  unfolding evaluated scoredAs
   number-scores v e f n = simp (v, e, f, n)
 
   -- ---- and back: what was scored has passed every test

@@ -15,7 +15,7 @@ use Rattle.camera_models.specs.declared.math.Pt2.{Pt2}
 use Rattle.camera_tilt.specs.declared.sensor.ScheimpflugParams.{ScheimpflugParams}
 use Rattle.score_camera.specs.Camera.{dampedCamera, validCamera}
 use Rattle.score_rows.specs.Rows.{rowsOf, countedErrors, summed, errorSum, meanOf}
-use Rattle.score_outcome.specs.Evaluation.{solvedAt, errorsWith, meanWith, enough, enoughWith, scoringOf, evaluated, outcomeOf}
+use Rattle.score_outcome.specs.Evaluation.{solvedAt, errorsWith, meanWith, enough, enoughWith, scoringOf, scoredAs, evaluated, outcomeOf}
 use Rattle.score_outcome.specs.Outcomes.{infinite-skips, scored-passed}
 use Rattle.score_outcome.specs.declared.SolvedCamera.{SolvedCamera}
 use Rattle.score_outcome.specs.declared.Scoring.{Scoring}
@@ -99,8 +99,7 @@ module _ (share all : ℕ) (h : share ≤ 100) where
 abbrev pub evaluated01 : SolvedCamera → ScheimpflugParams → Pt2 → List Float → List ℕ → Outcome
 evaluated01 s sensor center rows flags =
     cond (not (validCamera (dampedCamera (s .camera)))) (Skipped 2)
-    (cond (not (isFinite (meanWith s rows flags))) (Skipped 3)
-    (cond (isNan (scoringOf s sensor center rows flags .score)) (Skipped 4) (Scored (scoringOf s sensor center rows flags))))
+    (cond (not (isFinite (meanWith s rows flags))) (Skipped 3) (scoredAs (scoringOf s sensor center rows flags)))
 
 abbrev pub outcome01 : Finding → ScheimpflugParams → Pt2 → List Float → List ℕ → Outcome
 outcome01 Failed sensor center rows flags = Skipped 1

@@ -3,7 +3,8 @@
 
 ghost use mathlib.Core.Path.{_≡_};
 ghost use Prim.Native.Nat.{_≤_};
-ghost use Rattle.score_outcome.specs.Evaluation.{anyAboveOne, trigOf, solvedRefusal, findingRefusal, enough, evaluated, outcomeOf, errorCountOf};
+ghost use Rattle.score_camera.specs.Penalties.{scoreOf};
+ghost use Rattle.score_outcome.specs.Evaluation.{anyAboveOne, trigOf, solvedRefusal, findingRefusal, enough, scoredAs, evaluated, outcomeOf, errorCountOf};
 use camera_models::math::Pt2;
 use camera_tilt::sensor::ScheimpflugParams;
 use float_series::beyond;
@@ -122,6 +123,21 @@ fn is_enough(share: usize, counted: u64, all: usize) -> bool
     of_hundreds + of_rest <= counted as usize
 }
 
+// The outcome of a camera with a finite mean error.
+fn scored_outcome(mean: f64, camera: PinholeCamera, sensor: ScheimpflugParams, center: Pt2) -> Outcome
+    ensures { λ r. ⌜ r ≡ scoredAs (record { camera = camera; mean = mean; score = scoreOf mean camera sensor center }) ⌝ }
+{
+    let score = candidate_score(mean, camera, sensor, center);
+    if score != score {
+        return Outcome::Skipped(4);
+    }
+    Outcome::Scored(Scoring {
+        camera: camera,
+        mean: mean,
+        score: score,
+    })
+}
+
 // The outcome of a solved camera, damped before it is checked.
 fn evaluate_candidate(
     share: usize,
@@ -145,15 +161,7 @@ fn evaluate_candidate(
     if !float::is_finite(mean) {
         return Outcome::Skipped(3);
     }
-    let score = candidate_score(mean, camera, sensor, center);
-    if score != score {
-        return Outcome::Skipped(4);
-    }
-    Outcome::Scored(Scoring {
-        camera: camera,
-        mean: mean,
-        score: score,
-    })
+    scored_outcome(mean, camera, sensor, center)
 }
 
 // The outcome of what the host found, where a mean has to rest on this share of all rows, in per cent.

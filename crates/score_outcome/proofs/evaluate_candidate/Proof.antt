@@ -1,22 +1,19 @@
 -- `score_outcome::evaluate_candidate` meets its contract: each test of the code is the definition's. Assumes nothing.
-use mathlib.Core.Path.{_≡_, sym, ap, _∙_}
+use mathlib.Core.Path.{_≡_, refl, sym, ap, _∙_}
 use mathlib.Core.Bool.{true}
 use borrow.Author.Needs.{needs}
 use borrow.Author.Tests.{not-true, not-false}
 use lib.ListN.{length}
-use lib.Ieee.{isNan}
 use Rattle.float.specs.Float.{isFinite}
-use Rattle.float.specs.Order.{ne-self}
 use Rattle.camera_tilt.specs.Matrix.{Matrix}
 use Rattle.score_camera.specs.declared.pinhole.PinholeCamera.{PinholeCamera}
 use Rattle.score_camera.specs.Camera.{dampedCamera, validCamera}
+use Rattle.score_camera.specs.Penalties.{scoreOf}
 use Rattle.score_rows.specs.Rows.{rowsOf, tiltMatrix, errorSum, meanOf}
 use Rattle.score_rows.specs.Counted.{counted-most}
 use Rattle.score_rows.specs.declared.ErrorSum.{ErrorSum}
-use Rattle.score_outcome.specs.Evaluation.{errorsWith, meanWith, enough, enoughWith, scoringOf}
-use Rattle.score_outcome.specs.declared.Scoring.{Scoring}
-use Rattle.score_outcome.specs.declared.Outcome.the-variants.{Scored}
-use Rattle.score_outcome.specs.Outcomes.{invalid-skips, few-skips, infinite-skips, nan-skips, number-scores, scoring-is}
+use Rattle.score_outcome.specs.Evaluation.{errorsWith, meanWith, enough, enoughWith, scoringOf, scoredAs}
+use Rattle.score_outcome.specs.Outcomes.{invalid-skips, few-skips, infinite-skips, passed-scored, scoring-is}
 use Rattle.score_outcome.proofs.evaluate_candidate.Statement.{statement}
 use Rattle.score_outcome.proofs.evaluate_candidate.Tie as tie
 
@@ -84,36 +81,31 @@ returns-3 c =
     let infinite = ap isFinite (mean m) ∙ sym (c .before .is-finite .ensures) ∙ not-true _ (c .if3 .taken) in
     sym (infinite-skips (a .share) (a .solved) (a .sensor) (a .center) (a .rows .now) (a .flags .now) (valid (m .before .before .before .before .before)) infinite)
 
-candidate-score-requires : tie.Need-candidate-score-requires
-candidate-score-requires c κs = search needs
+scored-outcome-requires : tie.Need-scored-outcome-requires
+scored-outcome-requires c κs = search needs
 
--- all tests but the last are passed
-abbrev summed : tie.After-candidate-score → tie.After-reproj-error-sum
+-- all tests are passed
+abbrev summed : tie.After-scored-outcome → tie.After-reproj-error-sum
 summed c = c .before .before .before .before .before .before
 
 finite : (c : tie.Else3) → isFinite (meanWith (begun (c .before .before .before .before .before) .args .solved) (begun (c .before .before .before .before .before) .args .rows .now) (begun (c .before .before .before .before .before) .args .flags .now)) ≡ true
 finite c = ap isFinite (mean (c .before .before)) ∙ sym (c .before .is-finite .ensures) ∙ not-false _ (c .if3 .left)
 
-scoring : (c : tie.After-candidate-score)
+scoring : (c : tie.After-scored-outcome)
     → scoringOf (begun (summed c) .args .solved) (begun (summed c) .args .sensor) (begun (summed c) .args .center) (begun (summed c) .args .rows .now) (begun (summed c) .args .flags .now)
-    ≡ record { camera = summed c .before .before .before .before .damped-camera .result; mean = c .before .before .before .mean-reproj-error .result; score = c .candidate-score .result }
-scoring c = scoring-is _ _ _ _ _ _ _ _ (sym (summed c .before .before .before .before .damped-camera .ensures)) (mean (c .before .before .before)) (sym (c .candidate-score .ensures))
+    ≡ record {
+      camera = summed c .before .before .before .before .damped-camera .result;
+      mean = c .before .before .before .mean-reproj-error .result;
+      score = scoreOf (c .before .before .before .mean-reproj-error .result) (summed c .before .before .before .before .damped-camera .result) (begun (summed c) .args .sensor) (begun (summed c) .args .center);
+    }
+scoring c = scoring-is _ _ _ _ _ _ _ _ (sym (summed c .before .before .before .before .damped-camera .ensures)) (mean (c .before .before .before)) refl
 
 returns-4 : tie.Need-returns-4
 returns-4 c =
-    let k = summed (c .before) in
-    let a = begun k .args in
-    let e = counted (c .before .before .before .before .before .before) ∙ not-false _ (c .before .before .before .before .before .if2 .left) in
-    let n = ap (λ (g : Scoring). isNan (g .score)) (scoring (c .before)) ∙ sym (ne-self _) ∙ c .if4 .taken in
-    sym (nan-skips (a .share) (a .solved) (a .sensor) (a .center) (a .rows .now) (a .flags .now) (valid (k .before .before)) e (finite (c .before .before)) n)
-
-returns-5 : tie.Need-returns-5
-returns-5 c =
-    let k = summed (c .before) in
-    let a = begun k .args in
-    let e = counted (c .before .before .before .before .before .before) ∙ not-false _ (c .before .before .before .before .before .if2 .left) in
-    let n = ap (λ (g : Scoring). isNan (g .score)) (scoring (c .before)) ∙ sym (ne-self _) ∙ c .if4 .left in
-    sym (number-scores (a .share) (a .solved) (a .sensor) (a .center) (a .rows .now) (a .flags .now) (valid (k .before .before)) e (finite (c .before .before)) n ∙ ap Scored (scoring (c .before)))
+    let a = begun (summed c) .args in
+    let e = counted (c .before .before .before .before .before) ∙ not-false _ (c .before .before .before .before .if2 .left) in
+    c .scored-outcome .ensures
+    ∙ sym (passed-scored (a .share) (a .solved) (a .sensor) (a .center) (a .rows .now) (a .flags .now) (valid (summed c .before .before)) e (finite (c .before)) ∙ ap scoredAs (scoring c))
 
 pub evaluate-candidate-spec : {M : Type 1} → statement M
 evaluate-candidate-spec =
@@ -129,6 +121,5 @@ evaluate-candidate-spec =
     mean-reproj-error-requires
     is-finite-requires
     returns-3
-    candidate-score-requires
-    returns-4
-    returns-5)
+    scored-outcome-requires
+    returns-4)
