@@ -10,8 +10,8 @@
  * else that it is given. Nothing else is asked of a caller: every number is taken, and every function returns.
  *
  * Replies. A number of 0 means that nothing is refused; the others are JC_TOO_FEW_VIEWS and so on below, and NUMBERS.md says what to do.
- * After a refusal nothing that was lent is changed, and fields of a reply that have no value are 0. Where several refusals apply, the first
- * of those that the function's comment names is given.
+ * After a refusal nothing that was lent is changed (jc_replay's 11, 29 and 30 leave the list as its comment says), and fields of a reply that
+ * have no value are 0. Where several refusals apply, the first of those that the function's comment names is given.
  *
  * Flags of records and replies are read as 0 or not 0, and written as 0 or 1. The flags of rows are 0 or 1, and any other is refused.
  *
@@ -188,10 +188,10 @@ typedef struct {
 } jc_candidate;
 
 /* What a search is asked for, beside the tilts of its grid: how many rounds follow round 0, each around the best candidate of the round
- * before; the first of these rounds' step, in radians, which halves from round to round; the bound on either tilt, in radians, at most 0.5;
- * whether the module leans about the x axis alone: where one_axis is not 0 every tilt y is 0, and a later round has at most three seeds, tilt x
- * minus the step, tilt x, and tilt x plus the step; and how much of an answer's rows has to count, a whole per cent, at most 100. With 0 one row
- * that counts is enough. */
+ * before, or of the run where that round scored none; the first of these rounds' step, in radians, which halves from round to round; the bound
+ * on either tilt, in radians, at most 0.5; whether the module leans about the x axis alone: where one_axis is not 0 every tilt y is 0, and a
+ * later round has at most three seeds, tilt x minus the step, tilt x, and tilt x plus the step; and how much of an answer's rows has to count, a
+ * whole per cent, at most 100. With 0 one row that counts is enough. */
 typedef struct {
     size_t refine_rounds;
     double refine_step, max_abs_tilt;
@@ -458,8 +458,8 @@ jc_error_count_reply jc_count_errors(jc_pinhole_camera solved, jc_scheimpflug_pa
 /* ---- the search ---- */
 
 /* Starts a run and writes round 0's seeds to the front of the list: the decomposition's, then the grid of the tilts (radians) with the base
- * camera. 0, or 1 to 8, or 27, 31, 32, 33. The list needs JC_LIST_LEN numbers, and the calls below are lent as many (10). A decomposition without seeds is any
- * array with the length 0. */
+ * camera. 0, or 1 to 8, or 27, 31, 32, 33. The list needs JC_LIST_LEN numbers, and the calls below are lent as many (10). A decomposition
+ * without seeds is any array with the length 0. */
 jc_start_flat jc_start(size_t views, jc_options options, const double *tilt_x_seeds, size_t tilt_x_seeds_len,
                        const double *tilt_y_seeds, size_t tilt_y_seeds_len, const double *decomposition, size_t decomposition_len,
                        jc_intrinsics base, jc_pt2 center, double *list, size_t list_len);
