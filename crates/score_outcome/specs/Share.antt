@@ -8,7 +8,7 @@ use mathlib.Core.List.{List, []}
 use borrow.Author.Tests.{le-leb, lt-leb, leb-true, leb-false}
 use lib.Dec.{leb, eqb, eqb·suc-zero}
 use lib.ListN.{length}
-use lib.Ieee.{Float, div, ofBits, isNan}
+use lib.Ieee.{Float, div, ofBits}
 use Rattle.common.specs.Tests.{case}
 use Rattle.float.specs.Float.{isFinite}
 use Rattle.camera_models.specs.declared.math.Pt2.{Pt2}
