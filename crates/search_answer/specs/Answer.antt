@@ -29,7 +29,7 @@ pub record Left : Type 0 where
 abbrev pub left : Run → List Float → Left
 left r l = record { run = r; list = l }
 
--- ---- refusals: 12 no seed is waiting, 10 the list is too short, then those of the finding for the seed that the run keeps
+-- ---- refusals: 12 no seed is waiting (or the record isn't sound), 10 the list is too short, then those of the finding for the seed that the run keeps
 abbrev pub answerRefusal : Run → ℕ → Finding → List Float → List ℕ → ℕ
 answerRefusal r n f rows flags =
     let k = findingRefusal f (r .waiting .seed .sensor) rows flags in
@@ -70,6 +70,10 @@ abbrev pub replyOf : Outcome → Answered
 replyOf (outcome.Skipped reason) = Skipped reason
 replyOf (outcome.Scored s) = Scored (s .score)
 
+-- the outcome of a finding for the seed that waits
+abbrev pub outcomeFor : Run → Finding → List Float → List ℕ → Outcome
+outcomeFor r f rows flags = outcomeOf (r .options .«min_counted») f (r .waiting .seed .sensor) (r .center) rows flags
+
 -- what Answer replies, and the run and the list after it
 pub record AnswerLeft : Type 0 where
   pub reply : AnswerReply
@@ -78,7 +82,7 @@ pub record AnswerLeft : Type 0 where
 unfoldable pub answerDef : Run → Finding → List Float → List ℕ → List Float → AnswerLeft
 answerDef r f rows flags l =
     let n = answerRefusal r (length l) f rows flags in
-    let o = outcomeOf (r .options .«min_counted») f (r .waiting .seed .sensor) (r .center) rows flags in
+    let o = outcomeFor r f rows flags in
     cond (eqb n 0)
     (record { reply = record { reply = replyOf o; run = enterDef r l o .run }; list = enterDef r l o .list })
     (record { reply = record { reply = Refused n; run = r }; list = l })

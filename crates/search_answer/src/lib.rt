@@ -7,7 +7,7 @@ ghost use lib.ListN.{length};
 ghost use Rattle.seed_rules.specs.Layout.{Leaves, six};
 ghost use Rattle.seed_rules.specs.Rules.{offsets, yOffsets, nextList};
 ghost use Rattle.search_record.specs.Record.{sound};
-ghost use Rattle.search_answer.specs.Answer.{answerRefusal, orBest, closeRound, enterDef, replyOf, answerDef};
+ghost use Rattle.search_answer.specs.Answer.{answerRefusal, orBest, closeRound, enterDef, outcomeFor, replyOf, answerDef};
 use camera_models::intrinsics::FxFyCxCy;
 use camera_tilt::sensor::ScheimpflugParams;
 use score_best::Best;
@@ -141,6 +141,20 @@ fn reply_of(outcome: Outcome) -> Answered
     }
 }
 
+// The outcome of a finding for the seed that waits.
+fn outcome_for(run: Run, finding: Finding, rows: &[f64], flags: &[u8]) -> Outcome
+    ensures { λ r. ⌜ r ≡ outcomeFor run finding (now (rows .entry)) (now (flags .entry)) ⌝ }
+{
+    score_outcome::finding_outcome(
+        run.options.min_counted,
+        finding,
+        run.waiting.seed.sensor,
+        run.center,
+        rows,
+        flags,
+    )
+}
+
 pub fn answer(
     mut run: Run,
     finding: Finding,
@@ -154,14 +168,7 @@ pub fn answer(
     let number = answer_refusal(run, list.len(), finding, rows, flags);
     let mut reply = Answered::Refused(number);
     if number == 0 {
-        let outcome = score_outcome::finding_outcome(
-            run.options.min_counted,
-            finding,
-            run.waiting.seed.sensor,
-            run.center,
-            rows,
-            flags,
-        );
+        let outcome = outcome_for(run, finding, rows, flags);
         reply = reply_of(outcome);
         run = enter(run, list, outcome);
     }

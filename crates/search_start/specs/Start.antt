@@ -78,13 +78,15 @@ optionsChecks views options x y d =
     ∷ (5 when tooMany x y d (options .«refine_rounds»))
     ∷ []
 
-abbrev pub furtherChecks : Options → List Float → List Float → List Check
-furtherChecks options ys decomposition =
-    (27 when lt half₆₄ (options .«max_abs_tilt»))
-    ∷ (31 when (options .«one_axis» && not (onlyZero ys)))
+abbrev pub lastChecks : Options → List Float → List Float → List Check
+lastChecks options ys decomposition =
+    (31 when (options .«one_axis» && not (onlyZero ys)))
     ∷ (32 when (options .«one_axis» && not (every untiltedSeed (allSeeds decomposition))))
     ∷ (33 when ltb 100 (options .«min_counted»))
     ∷ []
+
+abbrev pub furtherChecks : Options → List Float → List Float → List Check
+furtherChecks options ys decomposition = (27 when lt half₆₄ (options .«max_abs_tilt»)) ∷ lastChecks options ys decomposition
 
 -- The inputs are the parameters of these parts; n is how many numbers the lent list has.
 module _ (views : ℕ) (options : Options) (xs ys decomposition : List Float) where

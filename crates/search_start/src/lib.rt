@@ -6,7 +6,7 @@ ghost use Rattle.common.specs.Refusal.{firstRefusal};
 ghost use Rattle.common.specs.Each.{every};
 ghost use Rattle.float.specs.Float.{isFinite};
 ghost use Rattle.seed_rules.specs.Layout.{allSeeds};
-ghost use Rattle.search_start.specs.Start.{positive, goodSeed, onlyZero, untiltedSeed, tooMany, demandOf, openingOf, optionsChecks, furtherChecks, startRefusal, startReply, startList};
+ghost use Rattle.search_start.specs.Start.{positive, goodSeed, onlyZero, untiltedSeed, tooMany, demandOf, openingOf, optionsChecks, lastChecks, furtherChecks, startRefusal, startReply, startList};
 ghost use Rattle.search_start.specs.declared.Started.the-variants.{Accepted};
 use camera_models::intrinsics::FxFyCxCy;
 use camera_models::math::Pt2;
@@ -145,13 +145,10 @@ fn options_refusal(views: usize, options: Options, x: usize, y: usize, decomposi
     0
 }
 
-// Start's last refusals: a bound above 0.5, and what a run about one axis can't have.
-fn further_refusal(options: Options, tilt_y_seeds: &[f64], decomposition: &[f64]) -> u8
-    ensures { λ r. ⌜ r ≡ firstRefusal (furtherChecks options (now («tilt_y_seeds» .entry)) (now (decomposition .entry))) ⌝ }
+// Start's last refusals: what a run about one axis can't have, and a share above 100 per cent.
+fn last_refusal(options: Options, tilt_y_seeds: &[f64], decomposition: &[f64]) -> u8
+    ensures { λ r. ⌜ r ≡ firstRefusal (lastChecks options (now («tilt_y_seeds» .entry)) (now (decomposition .entry))) ⌝ }
 {
-    if 0.5 < options.max_abs_tilt {
-        return 27;
-    }
     if options.one_axis & !is_only_zero(tilt_y_seeds) {
         return 31;
     }
@@ -162,6 +159,16 @@ fn further_refusal(options: Options, tilt_y_seeds: &[f64], decomposition: &[f64]
         return 33;
     }
     0
+}
+
+// Start's refusals of 02: a bound above 0.5, and then the last ones.
+fn further_refusal(options: Options, tilt_y_seeds: &[f64], decomposition: &[f64]) -> u8
+    ensures { λ r. ⌜ r ≡ firstRefusal (furtherChecks options (now («tilt_y_seeds» .entry)) (now (decomposition .entry))) ⌝ }
+{
+    if 0.5 < options.max_abs_tilt {
+        return 27;
+    }
+    last_refusal(options, tilt_y_seeds, decomposition)
 }
 
 // Start's refusals, of which the first that holds is returned; 0 where none does.

@@ -10,8 +10,8 @@ use Rattle.search_answer.proofs.answer.Tie as tie
 answer-refusal-requires : tie.Need-answer-refusal-requires
 answer-refusal-requires c κs = search needs
 
-finding-outcome-requires : tie.Need-finding-outcome-requires
-finding-outcome-requires c κs = search needs
+outcome-for-requires : tie.Need-outcome-for-requires
+outcome-for-requires c κs = search needs
 
 reply-of-requires : tie.Need-reply-of-requires
 reply-of-requires c κs = search needs
@@ -28,7 +28,7 @@ returns : tie.Need-returns
 unfolding answerDef
 returns c =
     let e = sym (c .before .before .before .before .before .before .before .answer-refusal .ensures) ∙ c .before .before .before .before .before .before .if1 .taken in
-    let o = c .before .before .before .before .before .finding-outcome .ensures in
+    let o = c .before .before .before .before .before .outcome-for .ensures in
     (rw (e, c .before .before .before .before .reply-of .ensures, c .before .before .enter .ensures .0, o), rw (e, ← o) (c .before .before .enter .ensures .1))
 
 returns-2 : tie.Need-returns-2
@@ -42,7 +42,7 @@ answer-spec =
     tie.close
     (tie.spec
     answer-refusal-requires
-    finding-outcome-requires
+    outcome-for-requires
     reply-of-requires
     enter-requires
     same-length
