@@ -10,8 +10,8 @@
  * else that it is given. Nothing else is asked of a caller: every number is taken, and every function returns.
  *
  * Replies. A number of 0 means that nothing is refused; the others are JC_TOO_FEW_VIEWS and so on below, and NUMBERS.md says what to do.
- * After a refusal nothing that was lent is changed (jc_replay's 11, 29 and 30 leave the list as its comment says), and fields of a reply that
- * have no value are 0. Where several refusals apply, the first of those that the function's comment names is given.
+ * After a refusal nothing that was lent is changed, but for 29, 30 and 11 of jc_replay, and fields of a reply that have no value are 0. Where
+ * several refusals apply, the first of those that the function's comment names is given.
  *
  * Flags of records and replies are read as 0 or not 0, and written as 0 or 1. The flags of rows are 0 or 1, and any other is refused.
  *
@@ -188,10 +188,10 @@ typedef struct {
 } jc_candidate;
 
 /* What a search is asked for, beside the tilts of its grid: how many rounds follow round 0, each around the best candidate of the round
- * before, or of the run where that round scored none; the first of these rounds' step, in radians, which halves from round to round; the bound
- * on either tilt, in radians, at most 0.5; whether the module leans about the x axis alone: where one_axis is not 0 every tilt y is 0, and a
- * later round has at most three seeds, tilt x minus the step, tilt x, and tilt x plus the step; and how much of an answer's rows has to count, a
- * whole per cent, at most 100. With 0 one row that counts is enough. */
+ * before; the first of these rounds' step, in radians, which halves from round to round; the bound on either tilt, in radians, at most 0.5;
+ * whether the module leans about the x axis alone: where one_axis is not 0 every tilt y is 0, and a later round has at most three seeds, tilt x
+ * minus the step, tilt x, and tilt x plus the step; and how much of an answer's rows has to count, a whole per cent, at most 100. With 0 one row
+ * that counts is enough. */
 typedef struct {
     size_t refine_rounds;
     double refine_step, max_abs_tilt;
@@ -229,7 +229,7 @@ typedef struct {
     size_t counted;
 } jc_error_count_reply;
 
-/* 0 and six numbers, or 34. */
+/* 0 and six numbers, or JC_NO_SHARED_POWER. */
 typedef struct {
     uint8_t number;
     jc_conic conic;
@@ -363,8 +363,8 @@ typedef struct {
     size_t next;
 } jc_read_flat;
 
-/* 0 and, where is_over is 1, the winner's number and score, else the seed that comes next; or 11, or a refusal of jc_start's; or JC_NOT_A_LINE or
- * JC_NOT_THE_RUN and the line's number, from 1. */
+/* 0 and, where is_over is 1, the winner's number and score, else the seed that comes next; or a refusal of jc_start's; or JC_NOT_A_LINE or
+ * JC_NOT_THE_RUN and the line's number, from 1; or JC_NOTHING_SCORED. */
 typedef struct {
     uint8_t number, is_over;
     size_t line_number, candidate;
@@ -405,8 +405,8 @@ jc_pt2 jc_apply_homography_inverse(jc_matrix h_inv, jc_pt2 p);
 jc_pt2 jc_distort_numbers(double k1, double k2, double k3, double p1, double p2, double x, double y);
 static inline jc_pt2 jc_distort(jc_distortion b, jc_pt2 p) { return jc_distort_numbers(b.k1, b.k2, b.k3, b.p1, b.p2, p.x, p.y); }
 jc_distorted_point jc_distort_with_jacobian(jc_distortion b, jc_pt2 p);
-/* The point that is distorted to this one, by Newton's method with at most iters steps; 0 means 20, which is enough for any real lens. A lens
- * that isn't one may need all steps: with iters near 2^32 a call can take seconds (42 million steps were seen). */
+/* The point that is distorted to this one, by Newton's method with at most iters steps; 0 means 20. Numbers that aren't a lens's may need all
+ * steps, so that a call with iters near 2^32 can take long. */
 jc_pt2 jc_undistort(jc_distortion b, uint32_t iters, jc_pt2 p);
 /* Zhang's closed form: focal lengths and centre of the camera whose conic this is. 16 where none has it; a camera that is not finite passes. */
 jc_camera_reply jc_conic_to_camera(jc_conic b);
@@ -503,13 +503,16 @@ jc_write_flat jc_write_report(jc_count_record counts, uint8_t *to, size_t to_len
  * jc_write_line writes. */
 jc_read_flat jc_read_line(const uint8_t *bytes, size_t bytes_len, size_t at);
 
-/* Runs a journal again from jc_start's arguments, without a host: who won, or the seed that comes next, as it would be after these answers. Each
- * line is held against the run: number, round and the seed's six numbers bit by bit (any NaN is any other); of a scored one also the camera (finite,
- * focal lengths above 0), p1 and p2 (at most 0.05 in size), the mean (finite, not below 0), and that the score is, bit by bit, the one that they
- * give. fx, fy, cx and cy of a line enter the score with weight 0, and of a skip nothing is asked: a journal isn't authenticated by this. 11 where
- * the run ended with nothing scored; jc_start's refusals, which leave the list; and line by line, with the line's number, 29 where the bytes aren't a
- * line and then 30 where the line isn't the run's next answer, or follows the end. The list is left as the lines before left it; after all others as
- * all lines left it. */
+/* Runs a journal again from jc_start's arguments, without a host: who won, or the seed that comes next, as it would be after these answers.
+ *
+ * Each line is held against the run: number, round and the seed's six numbers bit by bit (any NaN is any other); of a scored one also the
+ * camera (finite, focal lengths above 0), p1 and p2 (at most 0.05 in size), the mean (finite, not below 0), and that the score is, bit by bit,
+ * the one that they give. fx, fy, cx and cy of a line enter the score with weight 0, and of a skip nothing more is asked: a journal isn't
+ * authenticated by this.
+ *
+ * jc_start's refusals, which leave the list; line by line, with the line's number, 29 where the bytes aren't a line, then 30 where the line isn't
+ * the run's next answer or follows the end, both with the list as the lines before left it; 11 where the run ended with nothing scored. After 11
+ * and without a refusal the list is as all lines left it. */
 jc_replay_flat jc_replay(size_t views, jc_options options, const double *tilt_x_seeds, size_t tilt_x_seeds_len,
                          const double *tilt_y_seeds, size_t tilt_y_seeds_len, const double *decomposition, size_t decomposition_len,
                          jc_intrinsics base, jc_pt2 center, const uint8_t *bytes, size_t bytes_len, double *list, size_t list_len);

@@ -1,5 +1,5 @@
-//! Why an operation refuses. Each enum names one operation's refusals; `number` gives 01's number, and `Display` says the cause
-//! and what to do.
+//! Why an operation refuses. Each enum names one operation's refusals; `number` gives the number that the C boundary and the documents
+//! have for it, and `Display` says the cause and what to do.
 
 use std::error::Error;
 use std::fmt::{Display, Formatter, Result as FmtResult};

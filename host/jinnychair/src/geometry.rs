@@ -187,8 +187,8 @@ impl BrownConrady5 {
 
     /// The point that is distorted to this one, by Newton's method with at most `iters` steps; 0 means 20.
     ///
-    /// A lens that isn't one may need all of them: with `iters` near 2³² a call can take seconds (42 million steps were
-    /// seen). [`BrownConrady5::undistorted`] takes 20 at most.
+    /// Numbers that aren't a lens's may need all of them, so that a call with `iters` near 2³² can take long.
+    /// [`BrownConrady5::undistorted`] takes 20 at most.
     #[inline]
     #[must_use]
     pub fn undistort(self, iters: u32, p: Pt2) -> Pt2 {

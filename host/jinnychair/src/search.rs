@@ -270,9 +270,9 @@ pub enum Ended {
 /// A search that is under way.
 ///
 /// It owns its record and its seed list, and only its own calls change them. So each call gets both as the calls before
-/// left them, which is the condition of the theorem about whole runs: the replies are those of the plain book of 01, every seed
-/// that the rules name was handed out, every typed tilt within the bound was tried, and the winner has the lowest score, the
-/// earliest of equal ones.
+/// left them, which is the condition of the theorem about whole runs: the replies are those of the plain book that the project's
+/// scope document lays down, every seed that its rules name was handed out, every typed tilt within the bound was tried, and the
+/// winner has the lowest score, the earliest of equal ones.
 #[derive(Clone, Debug)]
 #[must_use = "a search tries nothing before it is run"]
 pub struct Search {

@@ -9,6 +9,7 @@ mod resume;
 mod search;
 mod show;
 
+use crate::case::library_version;
 use crate::journal::{Ending, Journal, check_beside};
 use crate::screen::{Screen, aside};
 use std::collections::VecDeque;
@@ -206,7 +207,7 @@ fn perform(mut words: Words, screen: &mut Screen) -> Result<End, Fault> {
     }
     match utf8(name)?.as_str() {
         "--help" | "-h" | "help" => screen.say(help()),
-        "--version" | "-V" => screen.say(format!("jinnychair {}", env!("CARGO_PKG_VERSION"))),
+        "--version" | "-V" => screen.say(format!("jinnychair {}", library_version())),
         word => return Err(Fault::Usage(format!("what is `{word}`?"))),
     }
     Ok(End::Good)

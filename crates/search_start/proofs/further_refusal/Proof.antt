@@ -1,5 +1,4 @@
 -- `search_start::further_refusal` meets its contract: each answer with the test that led to it. Assumes nothing.
-use mathlib.Core.Path.{sym}
 use borrow.Author.Needs.{needs}
 use Rattle.search_start.proofs.further_refusal.Statement.{statement}
 use Rattle.search_start.proofs.further_refusal.Tie as tie

@@ -19,8 +19,8 @@ jinnychair replay JOURNAL
 
 Runs JOURNAL again from JOURNAL.inputs, without the views and the host: every line must have the number, the round and
 the seed that the search hands out next, bit by bit, and a score that its own numbers give. Then the winner is the
-search's. Shows it with its tilts from the journal; or that the run ended with nothing scored; or which tilts come
-next, where the run isn't over (exit code 3); or the first line that isn't the run's, and what is wrong with it (exit
+search's. Shows it with its tilts from the journal; or which tilts come next, where the run isn't over (exit code 3);
+or that the run ended with nothing scored, or the first line that isn't the run's and what is wrong with it (exit
 code 1).
 
 A changed journal isn't always found: the camera of a line counts only where the next round lies around it.",

@@ -13,9 +13,9 @@ pub(super) const COMMAND: Command = Command {
 jinnychair show JOURNAL
 
 Shows the lines of JOURNAL, a file that `jinnychair search --journal` wrote or is writing: the candidate's number and
-round, its tilts in degrees, its outcome (S scored; skipped: H the host found no camera, C not a camera, E no finite
-mean error, N the score is not a number), score, mean error, camera, and the seed's camera. Numbers are rounded for
-the eye; the journal has every bit.",
+round, its tilts in degrees, its outcome (S scored; skipped: H the host found no camera, C not a camera, E too few dots
+counted or no finite mean error, N the score is not a number), score, mean error, camera, and the seed's camera. Numbers
+are rounded for the eye; the journal has every bit.",
     run,
 };
 
