@@ -12,7 +12,7 @@ use Rattle.score_outcome.specs.declared.Outcome.{Outcome}
 use Rattle.score_outcome.specs.Evaluation.{outcomeOf, findingRefusal}
 use Rattle.search_calls.specs.Next.{nextDef, seedLent, seedPart}
 use Rattle.book.specs.Calls.{Call, next, seed, answer, ask, progress, stop, part, last, counts}
-use Rattle.book.specs.Book.{Inputs, demand, Book, entries, number, current, runBest, withWaiting, bookEnter, bookNext, bookSeed, bookAnswer, bookResult, bookProgress, bookStop, bookCall, bookLast, bookCounts}
+use Rattle.book.specs.Book.{Inputs, demand, Book, entries, number, current, runBest, withWaiting, bookEnter, bookOutcome, bookNext, bookSeed, bookAnswer, bookResult, bookProgress, bookStop, bookCall, bookLast, bookCounts}
 use Rattle.book.specs.Trace.{Handing, handedBy, answeredBy, handingOf}
 use Rattle.book.proofs.Cases.{case-chosen}
 use Rattle.book.proofs.Lists.{lend, short}
@@ -98,7 +98,7 @@ hands-agree i b l (answer n f rows flags) g =
     (λ w. case (ltb n (demand (b .inputs)))
     (λ s. simp (w, s) q)
     (λ s. case (eqb (findingRefusal f (current b .sensor) rows flags) 0)
-    (λ z. simp (w, s, z) (q ∙ enter-handed b (outcomeOf (b .inputs .share) f (current b .sensor) (b .inputs .center) rows flags) w))
+    (λ z. simp (w, s, z) (q ∙ enter-handed b (bookOutcome b f rows flags) w))
     (λ z. simp (w, s, z) q)))
     (λ w. simp w q)
 hands-agree i b l ask f = let z = append-nil (handedIn b) in case (b .over) (λ o. case-chosen (runBest b) (λ e. simp (o, e) z) (λ v e. simp (o, e) z)) (λ o. simp o z)

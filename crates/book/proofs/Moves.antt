@@ -19,7 +19,7 @@ use Rattle.score_outcome.specs.Facts.{ScoredFacts, scored-facts, skipped-reason
 use Rattle.score_best.specs.declared.Candidate.{Candidate}
 use Rattle.score_best.specs.Best.{nothing, chosen}
 use Rattle.book.specs.Calls.{Call, next, seed, answer, ask, progress, stop, last, counts}
-use Rattle.book.specs.Book.{Inputs, demand, Entry, Book, entries, number, current, roundBest, runBest, orElse, listAround, withWaiting, withEntry, withRound, withEnd, closeRound, bookEnter, Kept, bookNext, bookSeed, bookAnswer, bookResult, bookProgress, bookStop, bookCall, after, bookLast, bookCounts}
+use Rattle.book.specs.Book.{Inputs, demand, Entry, Book, entries, number, current, roundBest, runBest, orElse, listAround, withWaiting, withEntry, withRound, withEnd, closeRound, bookEnter, bookOutcome, Kept, bookNext, bookSeed, bookAnswer, bookResult, bookProgress, bookStop, bookCall, after, bookLast, bookCounts}
 use Rattle.book.proofs.Cases.{case-chosen, case-list, case-outcome}
 
 -- the waiting candidate's entry
@@ -99,7 +99,7 @@ unfoldable pub enteredBy : Book → Call → List Entry
 enteredBy b (next n) = []
 enteredBy b (seed n) = []
 enteredBy b (answer n f rows flags) =
-    cond (b .waits && (not (ltb n (demand (b .inputs))) && eqb (findingRefusal f (current b .sensor) rows flags) 0)) (entry b (outcomeOf (b .inputs .share) f (current b .sensor) (b .inputs .center) rows flags) ∷ []) []
+    cond (b .waits && (not (ltb n (demand (b .inputs))) && eqb (findingRefusal f (current b .sensor) rows flags) 0)) (entry b (bookOutcome b f rows flags) ∷ []) []
 enteredBy b ask = []
 enteredBy b progress = []
 enteredBy b (stop n) = []
@@ -125,7 +125,7 @@ moves b (answer n f rows flags) =
     (λ w. case (ltb n (demand (b .inputs)))
     (λ s. simp (w, s) (stays refl (simp (w, s))))
     (λ s. case (eqb (findingRefusal f (current b .sensor) rows flags) 0)
-    (λ z. simp (w, s, z) (enters (outcomeOf (b .inputs .share) f (current b .sensor) (b .inputs .center) rows flags) w (outcome-stands (b .inputs) f (current b .sensor) rows flags) refl (simp (w, s, z))))
+    (λ z. simp (w, s, z) (enters (bookOutcome b f rows flags) w (outcome-stands (b .inputs) f (current b .sensor) rows flags) refl (simp (w, s, z))))
     (λ z. simp (w, s, z) (stays refl (simp (w, s, z))))))
     (λ w. simp w (stays refl (simp w)))
 moves b ask = case (b .over) (λ o. case-chosen (runBest b) (λ e. simp (o, e) (stays refl refl)) (λ v e. simp (o, e) (stays refl refl))) (λ o. simp o (stays refl refl))

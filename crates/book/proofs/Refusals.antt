@@ -1,4 +1,4 @@
--- Start refuses just where one of 01's conditions holds, with the first one's number. Assumes nothing.
+-- Start refuses just where one of 01's or 02's conditions holds, with the first one's number. Assumes nothing.
 use Prim.Native.Nat.{ℕ, _/_, _%_, _<_}
 use native.Mathlib.Omega.{arith}
 use mathlib.Core.Path.{_≡_, refl, sym, _∙_}
@@ -19,7 +19,7 @@ use Rattle.seed_rules.specs.Bound.{within-order}
 use Rattle.seed_rules.specs.Layout.{allSeeds}
 use Rattle.search_start.specs.Start.{positive, goodSeed, onlyZero, untiltedSeed, tooMany, demandOf, startChecks}
 use Rattle.book.specs.Book.{Inputs, demand}
-use Rattle.book.specs.Conditions.{Condition, _provided_, FirstHolds, NoneHolds, Some, NotFinite, NotPositive, Beyond, BadSeed, OnlyZero, TiltedY, conditions}
+use Rattle.book.specs.Conditions.{Condition, _provided_, FirstHolds, NoneHolds, Some, NotFinite, NotPositive, Beyond, BadSeed, TooMany, AboveHalf, AboveAll, OnlyZero, TiltedY, conditions}
 use Rattle.book.specs.Theorem.{optionsOf}
 
 -- ---- a test decides a fact
@@ -134,7 +134,7 @@ bad-seed max s =
     (fails-of (isFinite (t .«tilt_y»))))
     (not-both (within max (t .«tilt_x»)) (within max (t .«tilt_y»)) (beyond max (t .«tilt_x»)) (beyond max (t .«tilt_y»)))
 
-too-many : (x y d rounds : ℕ) → Decides (tooMany x y d rounds) (((((16 < x) ⊎ (16 < y)) ⊎ (256 < d / 6)) ⊎ (16 < rounds)) ⊎ (d % 6 ≡ 0 → ⊥))
+too-many : (x y d rounds : ℕ) → Decides (tooMany x y d rounds) (TooMany x y d rounds)
 unfolding tooMany
 too-many x y d rounds =
     let a = ltb 16 x || ltb 16 y in
@@ -158,10 +158,16 @@ tilted : (s : CandidateSeed) → Decides (not (untiltedSeed s)) (TiltedY s)
 unfolding untiltedY
 tilted s = fails-of (eq (s .sensor .«tilt_y») plusZero)
 
+above-half : (max : Float) → Decides (lt half₆₄ max) (AboveHalf max)
+above-half max = holds-of (lt half₆₄ max)
+
+above-all : (share : ℕ) → Decides (ltb 100 share) (AboveAll share)
+above-all share = below 100 share
+
 options-decided : (i : Inputs)
     → Decide
     ((31 when (i .one-axis && not (onlyZero (i .ys)))) ∷ (32 when (i .one-axis && not (every untiltedSeed (allSeeds (i .decomposition))))) ∷ (33 when ltb 100 (i .share)) ∷ [])
-    ((31 provided ((i .one-axis ≡ true) × (OnlyZero (i .ys) → ⊥))) ∷ (32 provided ((i .one-axis ≡ true) × Some TiltedY (allSeeds (i .decomposition)))) ∷ (33 provided (100 < i .share)) ∷ [])
+    ((31 provided ((i .one-axis ≡ true) × (OnlyZero (i .ys) → ⊥))) ∷ (32 provided ((i .one-axis ≡ true) × Some TiltedY (allSeeds (i .decomposition)))) ∷ (33 provided (AboveAll (i .share))) ∷ [])
 options-decided i =
     let axis = holds-of (i .one-axis) in (
       refl,
@@ -171,7 +177,7 @@ options-decided i =
         refl,
         omega arith,
         both (i .one-axis) (not (every untiltedSeed (allSeeds (i .decomposition)))) axis (some-fails untiltedSeed TiltedY tilted (allSeeds (i .decomposition))),
-        (refl, omega arith, below 100 (i .share), tt),
+        (refl, omega arith, above-all (i .share), tt),
       ),
     )
 
@@ -205,7 +211,7 @@ start-decided i n =
                   refl,
                   omega arith,
                   not-both (every isFinite (i .xs)) (every isFinite (i .ys)) (some-fails isFinite NotFinite (λ x. fails-of (isFinite x)) (i .xs)) (some-fails isFinite NotFinite (λ x. fails-of (isFinite x)) (i .ys)),
-                  (refl, omega arith, n-below i n, (refl, omega arith, holds-of (lt half₆₄ (i .max)), options-decided i)),
+                  (refl, omega arith, n-below i n, (refl, omega arith, above-half (i .max), options-decided i)),
                 ),
               ),
             ),

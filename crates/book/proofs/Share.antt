@@ -18,7 +18,7 @@ use Rattle.score_best.specs.declared.Candidate.{Candidate}
 use Rattle.score_best.specs.Best.{candidateOf}
 use Rattle.search_record.specs.declared.run.Run.{Run}
 use Rattle.book.specs.Calls.{Call, next, seed, answer, ask, scored}
-use Rattle.book.specs.Book.{Inputs, demand, Entry, Book, entries, number, current, scoredOf, replyTo, bookAnswer, bookCall, after}
+use Rattle.book.specs.Book.{Inputs, demand, Entry, Book, entries, number, current, scoredOf, replyTo, bookOutcome, bookAnswer, bookCall, after}
 use Rattle.book.specs.Walk.{runCall}
 use Rattle.book.specs.Trace.{runAfter, listAfter}
 use Rattle.book.specs.Share.{AnsweredBy, Rests}
@@ -57,8 +57,8 @@ module _ (b : Book) (n : ℕ) (rows : List Float) (flags : List ℕ) (w : Candid
       })
 
   own-entered : (f : Finding) → b .waits ≡ true
-      → bookAnswer b n f rows flags .reply ≡ replyTo (outcomeOf (b .inputs .share) f (current b .sensor) (b .inputs .center) rows flags)
-      → List·Memᴰ w (scoredOf (entry b (outcomeOf (b .inputs .share) f (current b .sensor) (b .inputs .center) rows flags) ∷ [])) → Own f
+      → bookAnswer b n f rows flags .reply ≡ replyTo (bookOutcome b f rows flags)
+      → List·Memᴰ w (scoredOf (entry b (bookOutcome b f rows flags) ∷ [])) → Own f
   unfolding outcomeOf scoredOf
   own-entered Failed v q m = absurd (List·Memᴰ·not-nil m)
   own-entered (Solved c) v q m = own-scored c (evaluated (b .inputs .share) (solvedAt c (current b .sensor)) (current b .sensor) (b .inputs .center) rows flags) refl v q m

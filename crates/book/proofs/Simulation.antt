@@ -40,7 +40,7 @@ use Rattle.search_calls.specs.declared.stop.Stopped.the-variants.{Standing, Ref
 use Rattle.score_floor.specs.Floor.{seedsBetween}
 use Rattle.search_calls.specs.Stop.{leftSeeds, bestSoFar, outlookOf, stopDef}
 use Rattle.book.specs.Calls.{Call, next, seed, answer, ask, progress, stop, Reply, over, part, result, bar, stopped, refused, last, counts, counted}
-use Rattle.book.specs.Book.{Inputs, demand, Entry, Book, entries, number, noSeed, current, scoredOf, roundBest, runBest, orElse, stepOf, listAround, withWaiting, withEntry, withRound, withEnd, closeRound, bookEnter, Kept, kept, bookNext, bookSeed, replyTo, bookAnswer, bookResult, bookProgress, leftIn, restOf, bookStop, bookCall, lineOf, lastOf, bookLast, tally, bookCounts}
+use Rattle.book.specs.Book.{Inputs, demand, Entry, Book, entries, number, noSeed, current, scoredOf, roundBest, runBest, orElse, stepOf, listAround, withWaiting, withEntry, withRound, withEnd, closeRound, bookEnter, bookOutcome, Kept, kept, bookNext, bookSeed, replyTo, bookAnswer, bookResult, bookProgress, leftIn, restOf, restIn, bookStop, bookCall, lineOf, lastOf, bookLast, tally, bookCounts}
 use Rattle.book.specs.Walk.{Step, runCall, answeredReply, stoppedReply, lastReply}
 use Rattle.book.proofs.Cases.{case-chosen, case-list, case-outcome, case-option}
 use Rattle.book.proofs.Moves.{entry, Stands}
@@ -156,6 +156,9 @@ outlook-read nothing (s ∷ ss) = refl
 outlook-read (chosen w) [] = refl
 outlook-read (chosen w) (s ∷ ss) = refl
 
+rest-read : (b : Book) → stoppedReply (Standing (outlookOf (held (runBest b)) (leftIn b))) ≡ stopped (runBest b) (restIn b)
+rest-read b = outlook-read (runBest b) (leftIn b)
+
 pub stop-is : (i : Inputs) (b : Book) (l : List Float) (n : ℕ) → State i b l
     → stopDef (runOf b) (take n l) ≡ cond (ltb n (demand (b .inputs))) (Refused 10) (Standing (outlookOf (held (runBest b)) (leftIn b)))
 unfolding stopDef
@@ -173,7 +176,7 @@ unfolding runCall bookStop
 stop-agrees i b l n f =
     case (ltb n (demand (b .inputs)))
     (λ s. simp (stop-is i b l n f, s) (unmoved b l (f .there) (refused 10)))
-    (λ s. simp (stop-is i b l n f, s, outlook-read) (unmoved b l (f .there) (stopped (runBest b) (restOf (leftIn b) (runBest b)))))
+    (λ s. simp (stop-is i b l n f, s, rest-read b) (unmoved b l (f .there) (stopped (runBest b) (restIn b))))
 
 -- ---- the last answered candidate's line
 abbrev OnLast : (Entry → Type 0) → Option Entry → Type 0
@@ -416,13 +419,22 @@ module _ (b : Book) (o : Outcome) where
   unfolding withEntry
   entry-there l f = f
 
+  -- the round goes on, or ends with its last seed
+  goes-on : ltb (length (withEntry b o .answered)) (length (withEntry b o .list)) ≡ true → bookEnter b o ≡ withEntry b o
+  unfolding bookEnter
+  goes-on h = simp h
+
+  closes : ltb (length (withEntry b o .answered)) (length (withEntry b o .list)) ≡ false → bookEnter b o ≡ closeRound (withEntry b o .inputs .rounds - withEntry b o .round) (withEntry b o)
+  unfolding bookEnter
+  closes h = simp h
+
 pub enter-agrees : (b : Book) (o : Outcome) (l : List Float) → b .waits ≡ true → There b l → 54 ≤ demand (b .inputs) → Ends (ans.enterDef (runOf b) l o) (bookEnter b o)
-unfolding ans.enterDef bookEnter
+unfolding ans.enterDef
 enter-agrees b o l w f d =
     let c = withEntry b o in
     case (ltb (length (c .answered)) (length (c .list)))
-    (λ t. simp (enter-run b o w, run-fields, t) (record { run = refl; there = entry-there b o l f }))
-    (λ t. simp (enter-run b o w, run-fields, t) (close-agrees (c .inputs .rounds - c .round) c l (entry-same b o .0) (entry-there b o l f) (rw (entry-same b o .1) d)))
+    (λ t. simp (goes-on b o t, enter-run b o w, run-fields, t) (record { run = refl; there = entry-there b o l f }))
+    (λ t. simp (closes b o t, enter-run b o w, run-fields, t) (close-agrees (c .inputs .rounds - c .round) c l (entry-same b o .0) (entry-there b o l f) (rw (entry-same b o .1) d)))
 
 -- ---- Answer
 -- a refused Answer gives its front of the list back unchanged
@@ -432,6 +444,10 @@ refused-agrees b l n k f = record { reply = refl; run = refl; there = rw take-ap
 reply-is : (o : Outcome) → answeredReply (ans.replyOf o) ≡ replyTo o
 reply-is (Skipped n) = refl
 reply-is (Scored s) = refl
+
+outcome-agrees : (b : Book) (f : Finding) (rows : List Float) (flags : List ℕ) → b .waits ≡ true → ans.outcomeFor (runOf b) f rows flags ≡ bookOutcome b f rows flags
+unfolding ans.outcomeFor
+outcome-agrees b f rows flags w = simp (run-fields, w)
 
 answer-agrees : (i : Inputs) (b : Book) (l : List Float) (n : ℕ) (f : Finding) (rows : List Float) (flags : List ℕ) → State i b l
     → Agrees (runCall (runOf b) l (answer n f rows flags)) (bookAnswer b n f rows flags)
@@ -444,9 +460,9 @@ answer-agrees i b l n f rows flags g =
     (λ s. simp (run-fields, t, w, d, s) (refused-agrees b l n 10 (g .there)))
     (λ s. case (eqb (findingRefusal f (current b .sensor) rows flags) 0)
     (λ z.
-    let o = outcomeOf (b .inputs .share) f (current b .sensor) (b .inputs .center) rows flags in
+    let o = bookOutcome b f rows flags in
     let e = enter-agrees b o (take n l) w (lend (demand (b .inputs)) (b .list) l n (g .there) (ltb-false n (demand (b .inputs)) s)) (g .good .core .sized .least) in
-    simp (run-fields, t, w, d, s, z) (record { reply = reply-is o; run = e .run; there = give-back _ (bookEnter b o .list) (ans.enterDef (runOf b) (take n l) o .list) (drop n l) (e .there) }))
+    simp (outcome-agrees b f rows flags w, run-fields, t, w, d, s, z) (record { reply = reply-is o; run = e .run; there = give-back _ (bookEnter b o .list) (ans.enterDef (runOf b) (take n l) o .list) (drop n l) (e .there) }))
     (λ z. simp (run-fields, t, w, d, s, z) (refused-agrees b l n (findingRefusal f (current b .sensor) rows flags) (g .there)))))
     (λ w. simp (run-fields, t, w) (refused-agrees b l n 12 (g .there)))
 

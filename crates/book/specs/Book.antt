@@ -203,10 +203,14 @@ abbrev pub replyTo : Outcome → Reply
 replyTo (Skipped reason) = skipped reason
 replyTo (Scored s) = scored (s .score)
 
+-- the outcome of a finding for the waiting seed
+abbrev pub bookOutcome : Book → Finding → List Float → List ℕ → Outcome
+bookOutcome b f rows flags = outcomeOf (b .inputs .share) f (current b .sensor) (b .inputs .center) rows flags
+
 -- Answer: 12 no seed is waiting, 10, and then what the finding itself is refused for, with the seed's own tilts
 unfoldable pub bookAnswer : Book → ℕ → Finding → List Float → List ℕ → Kept
 bookAnswer b n f rows flags =
-    let o = outcomeOf (b .inputs .share) f (current b .sensor) (b .inputs .center) rows flags in
+    let o = bookOutcome b f rows flags in
     let k = findingRefusal f (current b .sensor) rows flags in
     unless
     (firstRefusal
@@ -243,9 +247,13 @@ unfoldable pub restOf : List CandidateSeed → Chosen → Rest
 restOf [] best = nothing-left
 restOf (s ∷ ss) best = floor (floorOf (s ∷ ss)) (noGain (floorOf (s ∷ ss)) best)
 
+-- beside the run's best
+abbrev pub restIn : Book → Rest
+restIn b = restOf (leftIn b) (runBest b)
+
 -- 10 the list is too short; else the run's best, if any, and what is left
 unfoldable pub bookStop : Book → ℕ → Kept
-bookStop b n = unless (firstRefusal ((10 when ltb n (demand (b .inputs))) ∷ [])) b (kept (stopped (runBest b) (restOf (leftIn b) (runBest b))) b)
+bookStop b n = unless (firstRefusal ((10 when ltb n (demand (b .inputs))) ∷ [])) b (kept (stopped (runBest b) (restIn b)) b)
 
 -- 02, E2: the last answered candidate's line, or nothing before the first answer. The round is the one that it was handed out in, the camera the one that
 -- was scored.

@@ -52,6 +52,17 @@ BadSeed max s =
     (((((NotPositive (k .fx) ⊎ NotPositive (k .fy)) ⊎ NotFinite (k .cx)) ⊎ NotFinite (k .cy)) ⊎ NotFinite (t .«tilt_x»)) ⊎ NotFinite (t .«tilt_y»))
     ⊎ (Beyond max (t .«tilt_x») ⊎ Beyond max (t .«tilt_y»))
 
+-- more seeds or rounds than a run can have, or a decomposition that isn't in sixes
+abbrev pub TooMany : ℕ → ℕ → ℕ → ℕ → Type 0
+TooMany x y decomposition rounds = ((((16 < x) ⊎ (16 < y)) ⊎ (256 < decomposition / 6)) ⊎ (16 < rounds)) ⊎ (decomposition % 6 ≡ 0 → ⊥)
+
+-- a bound above 0.5, and a share above 100 per cent
+abbrev pub AboveHalf : Float → Type 0
+AboveHalf max = lt half₆₄ max ≡ true
+
+abbrev pub AboveAll : ℕ → Type 0
+AboveAll share = 100 < share
+
 -- a single value, a zero of either sign; and a tilt about y that is no zero
 abbrev pub OnlyZero : List Float → Type 0
 OnlyZero ys = (y : Float) × (ys ≡ y ∷ []) × (eq y plusZero ≡ true)
@@ -66,12 +77,12 @@ conditions i n =
     ∷ (2 provided ((i .xs ≡ []) ⊎ (i .ys ≡ [])))
     ∷ (3 provided (NotPositive (i .max)))
     ∷ (4 provided ((0 < i .rounds) × NotPositive (i .step)))
-    ∷ (5 provided (((((16 < length (i .xs)) ⊎ (16 < length (i .ys))) ⊎ (256 < length (i .decomposition) / 6)) ⊎ (16 < i .rounds)) ⊎ (length (i .decomposition) % 6 ≡ 0 → ⊥)))
+    ∷ (5 provided (TooMany (length (i .xs)) (length (i .ys)) (length (i .decomposition)) (i .rounds)))
     ∷ (6 provided (Some (BadSeed (i .max)) (allSeeds (i .decomposition))))
     ∷ (7 provided (Some NotFinite (i .xs) ⊎ Some NotFinite (i .ys)))
     ∷ (8 provided (n < demand i))
-    ∷ (27 provided (lt half₆₄ (i .max) ≡ true))
+    ∷ (27 provided (AboveHalf (i .max)))
     ∷ (31 provided ((i .one-axis ≡ true) × (OnlyZero (i .ys) → ⊥)))
     ∷ (32 provided ((i .one-axis ≡ true) × Some TiltedY (allSeeds (i .decomposition))))
-    ∷ (33 provided (100 < i .share))
+    ∷ (33 provided (AboveAll (i .share)))
     ∷ []

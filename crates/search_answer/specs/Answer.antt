@@ -71,7 +71,7 @@ replyOf (outcome.Skipped reason) = Skipped reason
 replyOf (outcome.Scored s) = Scored (s .score)
 
 -- the outcome of a finding for the seed that waits
-abbrev pub outcomeFor : Run → Finding → List Float → List ℕ → Outcome
+unfoldable pub outcomeFor : Run → Finding → List Float → List ℕ → Outcome
 outcomeFor r f rows flags = outcomeOf (r .options .«min_counted») f (r .waiting .seed .sensor) (r .center) rows flags
 
 -- what Answer replies, and the run and the list after it
