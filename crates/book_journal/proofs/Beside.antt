@@ -26,7 +26,7 @@ use Rattle.book.specs.Book.{Inputs, Book, entries, number, firstList, opened, b
 use Rattle.book.specs.Conditions.{NoneHolds, conditions}
 use Rattle.book.proofs.Moves.{entry, enter-holds as enter-place}
 use Rattle.book_journal.specs.Lines.{linesOf}
-use Rattle.book_journal.specs.Replay.{follows, Walked, listAfter, walkFrom, walked}
+use Rattle.book_journal.specs.Replay.{follows, Walked, bufferAfter, walkFrom, walked}
 use Rattle.book_journal.specs.History.{InputsFit}
 use Rattle.book_journal.specs.ReplayLaw.{SameAsReader}
 use Rattle.book_journal.proofs.Standing.{follower}
@@ -68,8 +68,8 @@ along i b l n (m ∷ ms) x k h ok can q =
     (λ t.
     let d = bookEnter b (outcomeIn (m .outcome)) in
     rw (walk-on b l n x m ms t)
-    (along-more b d m ms x (walkFrom d (listAfter b d l) (suc n) ms x) (lines-more i b m k h (ok .0) (can .0) t)
-    (along i d (listAfter b d l) (suc n) ms x (kept-line i b m (ok .0) (can .0) k t) (holds-line b m (ok .0) h) (ok .1) (can .1) (ap suc q ∙ sym (number-more b (outcomeIn (m .outcome)))))))
+    (along-more b d m ms x (walkFrom d (bufferAfter b d l) (suc n) ms x) (lines-more i b m k h (ok .0) (can .0) t)
+    (along i d (bufferAfter b d l) (suc n) ms x (kept-line i b m (ok .0) (can .0) k t) (holds-line b m (ok .0) h) (ok .1) (can .1) (ap suc q ∙ sym (number-more b (outcomeIn (m .outcome)))))))
     (λ t. rw (walk-stop b l n x m ms t) (record { taken-is = q; ends = inr (refl, m, ms, refl, t) }))
 
 -- ---- how the reader ended

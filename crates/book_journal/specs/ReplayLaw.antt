@@ -10,7 +10,7 @@ use Rattle.common.specs.Each.{All}
 use Rattle.seed_rules.specs.Layout.{flat}
 use Rattle.score_best.specs.declared.Candidate.{Candidate}
 use Rattle.journal_line.specs.declared.Line.{Line}
-use Rattle.journal_line.specs.Line.{LineFits, journalBytes}
+use Rattle.journal_line.specs.Line.{LineFits}
 use Rattle.journal_line.specs.Reading.{lineNumber, ended, refused, readJournal}
 use Rattle.journal_replay.specs.declared.Stop.the-variants.{AllTaken, NotOfForm, NotTheRun}
 use Rattle.journal_replay.specs.declared.Replayed.the-variants.{Refused, RefusedAt}
@@ -18,7 +18,7 @@ use Rattle.book.specs.Book.{Inputs, demand, Book, entries, number}
 use Rattle.book.specs.Conditions.{FirstHolds, NoneHolds, conditions}
 use Rattle.book.specs.Theorem.{Wins}
 use Rattle.book_journal.specs.Lines.{linesOf, journalOf}
-use Rattle.book_journal.specs.Replay.{startNumber, follows, walked, standing, replayOf}
+use Rattle.book_journal.specs.Replay.{startNumber, follows, walked, keptOf, standing, replayOf}
 use Rattle.book_journal.specs.History.{History, bookAt, listAt, atRest}
 
 -- ---- Start's own refusals come first: the number is that of the first condition that holds, 0 where none does
@@ -85,9 +85,8 @@ StartRefuses i l bs = (n : ℕ) → FirstHolds (conditions i (length l)) (suc n)
 -- ---- What the walk keeps of a journal: its longest front that is walked to the end. It alone leads to the same book and the same buffer, so the buffer after a
 -- refused line is that of the lines before it.
 module _ (i : Inputs) (l : List Float) (bs : List ℕ) where
-  -- the bytes of the lines that the walk took
   abbrev pub keptBytes : List ℕ
-  keptBytes = journalBytes (take (walked i l bs .taken) (readJournal bs .lines))
+  keptBytes = keptOf bs (walked i l bs)
 
   pub record FrontAlone : Type 0 where
     pub is-front : take (length keptBytes) bs ≡ keptBytes

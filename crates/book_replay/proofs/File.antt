@@ -38,9 +38,9 @@ use Rattle.book.proofs.Opening.{opens}
 use Rattle.book.proofs.Walks as calls
 use Rattle.book.proofs.Theorem.{result-over}
 use Rattle.book_journal.specs.Lines.{linesOf, journalOf}
-use Rattle.book_journal.specs.Replay.{startNumber, Walked, walked, standing}
+use Rattle.book_journal.specs.Replay.{startNumber, Walked, walked, keptOf, standing}
 use Rattle.book_journal.specs.History.{Opening, fresh, from, openedBy, History, bookAt, InputsFit, CallFits, atRest, openedList, listUnder, listAt}
-use Rattle.book_journal.specs.Resume.{keptOf, reportOn, cutJournal, report, cutRun, GivesBack, GoesOn}
+use Rattle.book_journal.specs.Resume.{reportOn, cutJournal, report, cutRun, GivesBack, GoesOn}
 use Rattle.book_journal.specs.Resume as book
 use Rattle.book_journal.proofs.Opening.{start-number}
 use Rattle.book_journal.proofs.Walk.{walkEnd, any-buffer}
