@@ -69,7 +69,7 @@ pub record SameAsReader (i : Inputs) (l : List Float) (bs : List ℕ) : Type 0 w
   pub not-following : walked i l bs .stop ≡ NotTheRun
       → (m : Line) × (ms : List Line) × (readJournal bs .lines ≡ linesOf (walked i l bs .book) ++ m ∷ ms) × (follows (walked i l bs .book) m ≡ false)
 
--- ---- A line that can't be walked: 29 just where the reader refuses it, with the reader's number; 30 where it is read and can't follow the book of those before. The
+-- ---- A line that can't be walked: 29 only where the reader refuses it, with the reader's number; 30 where it is read and can't follow the book of those before. The
 -- number is that of the line, from 1.
 pub record Declines (i : Inputs) (l : List Float) (bs : List ℕ) : Type 0 where
   pub at-29 : (k : ℕ) → replayOf i l bs .reply ≡ RefusedAt 29 k → readJournal bs .ending ≡ refused k
@@ -77,6 +77,9 @@ pub record Declines (i : Inputs) (l : List Float) (bs : List ℕ) : Type 0 where
       → (m : Line) × (ms : List Line) × (readJournal bs .lines ≡ linesOf (walked i l bs .book) ++ m ∷ ms) × (follows (walked i l bs .book) m ≡ false)
       × (k ≡ suc (length (linesOf (walked i l bs .book))))
   pub no-others : (n k : ℕ) → replayOf i l bs .reply ≡ RefusedAt n k → (n ≡ 29) ⊎ (n ≡ 30)
+  -- any other reply, where Start refuses nothing: every line is read and entered, and the reply is how the book stands
+  pub else-all-read : NoneHolds (conditions i (length l)) → ((n k : ℕ) → replayOf i l bs .reply ≡ RefusedAt n k → ⊥)
+      → (readJournal bs ≡ record { lines = linesOf (walked i l bs .book); ending = ended }) × (replayOf i l bs .reply ≡ standing (walked i l bs .book))
 
 -- Start's own refusals come before any line, and leave the buffer as it was lent.
 abbrev pub StartRefuses : Inputs → List Float → List ℕ → Type 0
