@@ -8,13 +8,16 @@ use lib.ListN.{length, take, drop}
 use lib.Ieee.{Float}
 use Rattle.common.specs.Each.{All}
 use Rattle.seed_rules.specs.Layout.{flat}
+use Rattle.score_outcome.specs.declared.Scoring.{Scoring}
+use Rattle.score_outcome.specs.declared.Outcome.the-variants.{Scored}
+use Rattle.score_outcome.specs.Facts.{ScoredFacts}
 use Rattle.score_best.specs.declared.Candidate.{Candidate}
 use Rattle.journal_line.specs.declared.Line.{Line}
 use Rattle.journal_line.specs.Line.{LineFits}
 use Rattle.journal_line.specs.Reading.{lineNumber, ended, refused, readJournal}
 use Rattle.journal_replay.specs.declared.Stop.the-variants.{AllTaken, NotOfForm, NotTheRun}
 use Rattle.journal_replay.specs.declared.Replayed.the-variants.{Refused, RefusedAt}
-use Rattle.book.specs.Book.{Inputs, demand, Book, entries, number}
+use Rattle.book.specs.Book.{Inputs, demand, Entry, Book, entries, number}
 use Rattle.book.specs.Conditions.{FirstHolds, NoneHolds, conditions}
 use Rattle.book.specs.Theorem.{Wins}
 use Rattle.book_journal.specs.Lines.{linesOf, journalOf}
@@ -58,9 +61,15 @@ pub record Accepted (i : Inputs) (l : List Float) (bs : List ℕ) (n : ℕ) (s :
   pub lines-are : linesOf (walked i l bs .book) ≡ readJournal bs .lines
   pub bytes-are : bs ≡ journalOf (walked i l bs .book)
 
+-- ---- of an S line what holds of a scored finding: its camera, coefficients and mean, and that its score is the one which these, seed and centre give
+abbrev pub ScoredHold : Inputs → Entry → Type 0
+ScoredHold i e = (g : Scoring) → e .outcome ≡ Scored g → ScoredFacts (e .seed .sensor) (i .center) g
+
 -- ---- What the walk says of a journal is what the reader says of it.
 pub record SameAsReader (i : Inputs) (l : List Float) (bs : List ℕ) : Type 0 where
   pub taken-is : walked i l bs .taken ≡ number (walked i l bs .book)
+  -- every S line that it took
+  pub scored-hold : All (ScoredHold i) (entries (walked i l bs .book))
   -- all lines are read and entered
   pub all-read : walked i l bs .stop ≡ AllTaken → readJournal bs ≡ record { lines = linesOf (walked i l bs .book); ending = ended }
   -- 29: those before are read and entered, and the reader refuses the next, with the same line's number
