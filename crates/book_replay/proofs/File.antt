@@ -129,14 +129,14 @@ same-report : (bs : List ℕ) (v w : Walked) → v .taken ≡ w .taken → v .st
 unfolding reportOn
 same-report bs v w e d = rw (e, d)
 
-any-list : (i : Inputs) (bs : List ℕ) (r : Run) (q : Report) → ((k : List Float) → NoneHolds (conditions i (length k)) → (m : List Float) × GivesRun i k bs r q m) → WithAnyList i bs r q
-any-list i bs r q f k a = ap (λ (x : ResumeLeft). x .reply) (f k a .1)
+given-any-list : (i : Inputs) (bs : List ℕ) (r : Run) (q : Report) → ((k : List Float) → NoneHolds (conditions i (length k)) → (m : List Float) × GivesRun i k bs r q m) → WithAnyList i bs r q
+given-any-list i bs r q f k a = ap (λ (x : ResumeLeft). x .reply) (f k a .1)
 
 cut-any-list : (i : Inputs) (h : History i) (at : ℕ) (l : List Float) → WithAnyList i (cutJournal i h at) (runOf (cutRun i h at)) (report i h at l)
 cut-any-list i h at l =
     let j = cutJournal i h at in
     let s = runOf (cutRun i h at) in
-    any-list i j s (report i h at l)
+    given-any-list i j s (report i h at l)
     (λ k a.
     let w = any-buffer i k l j in
     let m = walked i k j .list in
