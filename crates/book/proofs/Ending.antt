@@ -265,7 +265,7 @@ waits-open i r h w = case (r .place .over) (λ o. absurd (true≢false (sym w �
 
 module _ (i : Inputs) (r : Run) (h : Lasts i r) (l : List Float) (f : Finding) (rows : List Float) (flags : List ℕ) where
   answer-counts : ans.answerRefusal r (length l) f rows flags ≡ 0 → Answers i r (ans.answerDef r f rows flags l .reply .run)
-  unfolding ans.answerDef
+  unfolding ans.answerDef ans.outcomeFor
   answer-counts z =
       let p = answer-passed r (length l) f rows flags z in
       let k = outcome-kind (r .options .«min_counted») f (r .waiting .seed .sensor) (r .center) rows flags in

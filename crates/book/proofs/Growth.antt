@@ -9,7 +9,7 @@ use lib.Ieee.{Float}
 use Rattle.common.specs.Tests.{case}
 use Rattle.seed_rules.specs.Layout.{six}
 use Rattle.score_outcome.specs.declared.Outcome.{Outcome}
-use Rattle.score_outcome.specs.Evaluation.{outcomeOf, findingRefusal}
+use Rattle.score_outcome.specs.Evaluation.{findingRefusal}
 use Rattle.search_calls.specs.Next.{nextDef, seedLent, seedPart}
 use Rattle.book.specs.Calls.{Call, next, seed, answer, ask, progress, stop, part, last, counts}
 use Rattle.book.specs.Book.{Inputs, demand, Book, entries, number, current, runBest, withWaiting, bookEnter, bookOutcome, bookNext, bookSeed, bookAnswer, bookResult, bookProgress, bookStop, bookCall, bookLast, bookCounts}

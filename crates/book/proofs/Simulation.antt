@@ -20,7 +20,7 @@ use Rattle.seed_rules.specs.Layout.{six, seedAt, written}
 use Rattle.score_outcome.specs.declared.Finding.{Finding}
 use Rattle.score_outcome.specs.declared.Outcome.{Outcome}
 use Rattle.score_outcome.specs.declared.Outcome.the-variants.{Skipped, Scored}
-use Rattle.score_outcome.specs.Evaluation.{outcomeOf, findingRefusal}
+use Rattle.score_outcome.specs.Evaluation.{findingRefusal}
 use Rattle.score_best.specs.declared.Candidate.{Candidate}
 use Rattle.score_best.specs.declared.Best.{Best}
 use Rattle.score_best.specs.Best.{Chosen, nothing, chosen, bestOf, firstUnbeaten, noBest, held, candidateOf}

@@ -13,13 +13,14 @@ use Rattle.common.specs.Tests.{case}
 use Rattle.score_best.specs.declared.Candidate.{Candidate}
 use Rattle.score_best.specs.Best.{chosen}
 use Rattle.journal_line.specs.Line.{journalBytes}
-use Rattle.journal_line.specs.Reading.{refused, Lines}
+use Rattle.journal_line.specs.Reading.{ended, refused, Lines, readJournal}
 use Rattle.journal_line.specs.Whole.{whole-lines}
 use Rattle.journal_replay.specs.declared.Stop.{Stop}
 use Rattle.journal_replay.specs.declared.Stop.the-variants.{AllTaken, NotOfForm, NotTheRun}
 use Rattle.journal_replay.specs.declared.Replayed.the-variants.{Winner, Unfinished, Refused, RefusedAt}
 use Rattle.journal_replay.specs.Replay.{replyBy}
 use Rattle.book.specs.Book.{Inputs, Book, entries, current, runBest, lineOf}
+use Rattle.book.specs.Conditions.{NoneHolds, conditions}
 use Rattle.book.specs.Theorem.{Wins}
 use Rattle.book.proofs.Cases.{case-chosen}
 use Rattle.book.proofs.Good.{Good}
@@ -28,7 +29,7 @@ use Rattle.book_journal.specs.Lines.{linesOf}
 use Rattle.book_journal.specs.Replay.{startNumber, Walked, walked, standing, replyTo, replayOf}
 use Rattle.book_journal.specs.History.{InputsFit}
 use Rattle.book_journal.specs.ReplayLaw.{StartRefuses, Declines, SameAsReader, Accepted}
-use Rattle.book_journal.proofs.Opening.{start-number}
+use Rattle.book_journal.proofs.Opening.{none-refused, start-number}
 use Rattle.book_journal.proofs.Kept.{kept-walked}
 use Rattle.book_journal.proofs.Beside.{same-as-reader}
 
@@ -103,6 +104,18 @@ started-at i l bs n k h =
     (λ e. (eqb-true s 0 e, reply-at (walked i l bs) n k (simp e at h)))
     (λ e. let q : Refused s ≡ RefusedAt n k = simp e at h in let z : _≡_ {A = ℕ} 0 1 = cc in absurd (omega arith))
 
+-- any other reply: none was
+else-read : (i : Inputs) (l : List Float) (bs : List ℕ) → SameAsReader i l bs → NoneHolds (conditions i (length l)) → ((n k : ℕ) → replayOf i l bs .reply ≡ RefusedAt n k → ⊥)
+    → (readJournal bs ≡ record { lines = linesOf (walked i l bs .book); ending = ended }) × (replayOf i l bs .reply ≡ standing (walked i l bs .book))
+unfolding replayOf
+else-read i l bs r a never =
+    let w = walked i l bs in
+    let z = none-refused i (length l) a in
+    case-stop (w .stop)
+    (λ e. (r .all-read e, simp (replyBy, z, e)))
+    (λ e. absurd (never 29 (suc (w .taken)) (simp (replyBy, z, e))))
+    (λ e. absurd (never 30 (suc (w .taken)) (simp (replyBy, z, e))))
+
 pub declines : (i : Inputs) (l : List Float) (bs : List ℕ) → InputsFit i → Declines i l bs
 declines i l bs f = record {
   at-29 = λ k h.
@@ -122,6 +135,7 @@ declines i l bs f = record {
       (c .0, c .1, c .2, c .3, p .2 ∙ ap suc (sym n)))
       (s .1);
   no-others = λ n k h. ⊎-elim (λ p. inl (p .0)) (λ p. inr (p .0)) (started-at i l bs n k h .1);
+  else-all-read = λ a. else-read i l bs (same-as-reader i (length l) a f l bs) a;
 }
   where
     reading : startNumber i (length l) ≡ 0 → SameAsReader i l bs

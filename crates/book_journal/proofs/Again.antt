@@ -23,7 +23,7 @@ use Rattle.book.specs.Conditions.{NoneHolds, conditions}
 use Rattle.book.proofs.Moves.{entry, Stands}
 use Rattle.book.proofs.Good.{Good, steps}
 use Rattle.book_journal.specs.Lines.{linesOf, journalOf}
-use Rattle.book_journal.specs.Replay.{follows, listAfter, walkFrom, walked, standing, replayOf}
+use Rattle.book_journal.specs.Replay.{follows, bufferAfter, walkFrom, walked, standing, replayOf}
 use Rattle.book_journal.specs.History.{History, bookAt, InputsFit, CallFits, atRest}
 use Rattle.book_journal.specs.ReplayLaw.{LinesOfRun}
 use Rattle.book_journal.proofs.Opening.{opened-good, none-refused}
@@ -97,7 +97,7 @@ lines-right i b s =
 -- ---- the buffer as entries leave it
 unfoldable pub listAlong : Book → List Float → List Entry → List Float
 listAlong b l [] = l
-listAlong b l (e ∷ es) = let c = bookEnter b (e .outcome) in listAlong c (listAfter b c l) es
+listAlong b l (e ∷ es) = let c = bookEnter b (e .outcome) in listAlong c (bufferAfter b c l) es
 
 -- ---- a trail's lines are walked to its end, and then what stands behind them
 pub walk-trail : (b c : Book) (l : List Float) (n : ℕ) (es : List Entry) (ms : List Line) (x : Stop) → Trail b es c
@@ -107,9 +107,9 @@ walk-trail b c l n [] ms x t = rw t (ap (λ (k : ℕ). walkFrom c l k ms x) (ome
 walk-trail b c l n (e ∷ es) ms x t =
     let d = bookEnter b (e .outcome) in
     let f : follows b (lineOf e) ≡ true = rw (t .1) (entry-follows b (e .outcome) (t .0) (t .2)) in
-    let s : walkFrom b l n (lineOf e ∷ (map lineOf es ++ ms)) x ≡ walkFrom d (listAfter b d l) (suc n) (map lineOf es ++ ms) x =
+    let s : walkFrom b l n (lineOf e ∷ (map lineOf es ++ ms)) x ≡ walkFrom d (bufferAfter b d l) (suc n) (map lineOf es ++ ms) x =
     rw (comes-back (b .inputs) (current b .sensor) (e .outcome) (t .2)) at (walk-on b l n x (lineOf e) (map lineOf es ++ ms) f) in
-    s ∙ walk-trail d c (listAfter b d l) (suc n) es ms x (t .3) ∙ ap (λ (k : ℕ). walkFrom c (listAlong d (listAfter b d l) es) k ms x) (omega arith)
+    s ∙ walk-trail d c (bufferAfter b d l) (suc n) es ms x (t .3) ∙ ap (λ (k : ℕ). walkFrom c (listAlong d (bufferAfter b d l) es) k ms x) (omega arith)
 
 pub walk-whole : (b c : Book) (l : List Float) (n : ℕ) (es : List Entry) (x : Stop) → Trail b es c → walkFrom b l n (map lineOf es) x ≡ walkEnd c (listAlong b l es) (n + length es) x
 walk-whole b c l n es x t = ap (λ (z : List Line). walkFrom b l n z x) (sym (append-nil (map lineOf es))) ∙ walk-trail b c l n es [] x t ∙ walk-end c (listAlong b l es) (n + length es) x

@@ -9,6 +9,7 @@ use mathlib.Core.List.{List, [], _∷_, _++_, map, map-append, append-assoc, app
 use lib.ListN.{length, length-append, length-map}
 use lib.Ieee.{Float}
 use Rattle.common.specs.Tests.{case}
+use Rattle.common.specs.All.{all-map}
 use Rattle.common.specs.Each.{All}
 use Rattle.seed_rules.specs.Layout.{written}
 use Rattle.score_outcome.specs.declared.Outcome.{Outcome}
@@ -22,16 +23,17 @@ use Rattle.journal_line.specs.Outcome.{outcomeIn}
 use Rattle.journal_replay.specs.declared.Stop.{Stop}
 use Rattle.journal_replay.specs.declared.Stop.the-variants.{AllTaken, NotOfForm, NotTheRun}
 use Rattle.journal_replay.specs.Walk.{stopAt}
-use Rattle.book.specs.Book.{Inputs, Book, entries, number, firstList, opened, bookEnter, lineOf}
+use Rattle.book.specs.Book.{Inputs, Entry, Book, entries, number, firstList, opened, bookEnter, lineOf}
 use Rattle.book.specs.Conditions.{NoneHolds, conditions}
 use Rattle.book.proofs.Moves.{entry, enter-holds as enter-place}
+use Rattle.book.proofs.Good.{Proper, Good}
 use Rattle.book_journal.specs.Lines.{linesOf}
-use Rattle.book_journal.specs.Replay.{follows, Walked, listAfter, walkFrom, walked}
+use Rattle.book_journal.specs.Replay.{follows, Walked, bufferAfter, walkFrom, walked}
 use Rattle.book_journal.specs.History.{InputsFit}
-use Rattle.book_journal.specs.ReplayLaw.{SameAsReader}
+use Rattle.book_journal.specs.ReplayLaw.{ScoredHold, SameAsReader}
 use Rattle.book_journal.proofs.Standing.{follower}
 use Rattle.book_journal.proofs.Walk.{walk-end, walk-on, walk-stop}
-use Rattle.book_journal.proofs.Kept.{Kept, kept-opened, kept-line}
+use Rattle.book_journal.proofs.Kept.{Kept, kept-opened, kept-line, kept-walked}
 use Rattle.book_journal.proofs.Held.{Holds, current-fits, opened-holds, holds-line}
 
 -- ---- one line more
@@ -68,8 +70,8 @@ along i b l n (m ∷ ms) x k h ok can q =
     (λ t.
     let d = bookEnter b (outcomeIn (m .outcome)) in
     rw (walk-on b l n x m ms t)
-    (along-more b d m ms x (walkFrom d (listAfter b d l) (suc n) ms x) (lines-more i b m k h (ok .0) (can .0) t)
-    (along i d (listAfter b d l) (suc n) ms x (kept-line i b m (ok .0) (can .0) k t) (holds-line b m (ok .0) h) (ok .1) (can .1) (ap suc q ∙ sym (number-more b (outcomeIn (m .outcome)))))))
+    (along-more b d m ms x (walkFrom d (bufferAfter b d l) (suc n) ms x) (lines-more i b m k h (ok .0) (can .0) t)
+    (along i d (bufferAfter b d l) (suc n) ms x (kept-line i b m (ok .0) (can .0) k t) (holds-line b m (ok .0) h) (ok .1) (can .1) (ap suc q ∙ sym (number-more b (outcomeIn (m .outcome)))))))
     (λ t. rw (walk-stop b l n x m ms t) (record { taken-is = q; ends = inr (refl, m, ms, refl, t) }))
 
 -- ---- how the reader ended
@@ -94,6 +96,13 @@ not-run-taken e = let z : _≡_ {A = ℕ} 0 1 = cc in omega arith
 not-run-form : NotTheRun ≡ NotOfForm → ⊥
 not-run-form e = let z : _≡_ {A = ℕ} 0 1 = cc in omega arith
 
+-- ---- what an entry has, if it is scored
+scored-has : (i : Inputs) (e : Entry) → Proper i e → ScoredHold i e
+scored-has i e p g q = rw q at (p .stands)
+
+entries-hold : (i : Inputs) (b : Book) → Good i b → All (ScoredHold i) (entries b)
+entries-hold i b g = all-map (Proper i) (ScoredHold i) (scored-has i) (entries b) (rw (g .inputs-are) at (g .core .proper))
+
 -- ---- of a whole journal
 readings-are : (r : Lines) (ls : List Line) (x : Ending) → r .ending ≡ x → ls ≡ r .lines → r ≡ record { lines = ls; ending = x }
 readings-are r ls x e q = rw (q, ← e)
@@ -108,6 +117,7 @@ same-as-reader i n a f l bs =
     λ x e other. ⊎-elim (λ p. (sym (p .0) ∙ e, p .1)) (λ p. absurd (other (sym e ∙ p .0))) (s .ends) in
     record {
       taken-is = s .taken-is;
+      scored-hold = entries-hold i (w .book) (kept-walked i n a l bs .good);
       all-read = λ e. let p = all AllTaken e (λ z. not-run-taken (sym z)) in readings-are r (linesOf (w .book)) ended (all-taken-ended (r .ending) (p .0)) (p .1);
       not-read = λ e.
           let p = all NotOfForm e (λ z. not-run-form (sym z)) in

@@ -20,7 +20,7 @@ use Rattle.book.specs.Book.{Inputs, demand, Entry, Book, entries, current, firs
 use Rattle.book.specs.Conditions.{NoneHolds, conditions}
 use Rattle.book.proofs.Moves.{entry, Stands, Closing, close-by, enter-by, enter-holds as enter-place, await-holds as await-place, Moves, stays, hands, enters, moves, call-by}
 use Rattle.book.proofs.Good.{Good, waits-going}
-use Rattle.book_journal.specs.Replay.{listAfter, Walked, walked}
+use Rattle.book_journal.specs.Replay.{bufferAfter, Walked, walked}
 use Rattle.book_journal.specs.History.{Opening, fresh, from, openedBy, History, bookAt, InputsFit, CallFits, atRest, openedList, listUnder, listAt}
 use Rattle.book_journal.specs.ReplayLaw.{RunAgain, BufferOf}
 use Rattle.book_journal.proofs.Opening.{room-enough}
@@ -57,12 +57,12 @@ unfolding withWaiting
 await-same b = (refl, refl)
 
 -- ---- a round that stays writes nothing, and one that opens writes its list
-pub after-same : (b c : Book) (l : List Float) → b .round ≡ c .round → listAfter b c l ≡ l
-unfolding listAfter
+pub after-same : (b c : Book) (l : List Float) → b .round ≡ c .round → bufferAfter b c l ≡ l
+unfolding bufferAfter
 after-same b c l e = simp (eq-eqb (b .round) (c .round) e)
 
-after-opened : (b c : Book) (l : List Float) → b .round < c .round → listAfter b c l ≡ written (c .list) l
-unfolding listAfter
+after-opened : (b c : Book) (l : List Float) → b .round < c .round → bufferAfter b c l ≡ written (c .list) l
+unfolding bufferAfter
 after-opened b c l h = simp (ne-eqb (b .round) (c .round) (λ e. omega arith))
 
 -- ---- a list that is written
@@ -91,7 +91,7 @@ module _ (i : Inputs) (l : List Float) (room : demand i ≤ length l) where
   abbrev Stocked : Book → List Float → Type 0
   Stocked b m = Kept i b × BufferOf i l b m
 
-  enter-stocked : (b : Book) (m : List Float) (o : Outcome) → b .over ≡ false → Stands (b .inputs) (current b .sensor) o → Stocked b m → Stocked (bookEnter b o) (listAfter b (bookEnter b o) m)
+  enter-stocked : (b : Book) (m : List Float) (o : Outcome) → b .over ≡ false → Stands (b .inputs) (current b .sensor) o → Stocked b m → Stocked (bookEnter b o) (bufferAfter b (bookEnter b o) m)
   enter-stocked b m o g s h =
       let c = bookEnter b o in
       let k = kept-enter i b o g s (h .0) in (
@@ -102,10 +102,10 @@ module _ (i : Inputs) (l : List Float) (room : demand i ≤ length l) where
             (enter-moved b o),
       )
 
-  call-stocked : (b : Book) (m : List Float) (c : Call) → Stocked b m → Stocked (bookCall b c .book) (listAfter b (bookCall b c .book) m)
+  call-stocked : (b : Book) (m : List Float) (c : Call) → Stocked b m → Stocked (bookCall b c .book) (bufferAfter b (bookCall b c .book) m)
   call-stocked b m c h = (call-by (kept-steps i) b c (h .0), go (bookCall b c) (moves b c))
     where
-      go : (d : Answer) → Moves b c d → BufferOf i l (d .book) (listAfter b (d .book) m)
+      go : (d : Answer) → Moves b c d → BufferOf i l (d .book) (bufferAfter b (d .book) m)
       go d (stays e n) = rw (e, after-same b b m refl) (h .1)
       go d (hands o w e n) = let p = await-same b in rw (e, after-same b (withWaiting b) m (p .0)) (keep-buffer b (withWaiting b) m (p .1) (h .1))
       go d (enters o w s e n) = rw e (enter-stocked b m o (waits-going i b (h .0 .good) w) s h .1)
@@ -113,7 +113,7 @@ module _ (i : Inputs) (l : List Float) (room : demand i ≤ length l) where
   under-stocked : (b : Book) (m : List Float) (cs : List Call) → Stocked b m → Stocked (after b cs) (listUnder b m cs)
   unfolding after listUnder
   under-stocked b m [] h = h
-  under-stocked b m (c ∷ cs) h = let d = bookCall b c .book in under-stocked d (listAfter b d m) cs (call-stocked b m c h)
+  under-stocked b m (c ∷ cs) h = let d = bookCall b c .book in under-stocked d (bufferAfter b d m) cs (call-stocked b m c h)
 
   -- ---- at the start, and after a walk
   module _ (a : NoneHolds (conditions i (length l))) where
@@ -137,13 +137,13 @@ called-buffer i h l a =
     under-stocked i l r (openedBy i (h .opening)) (openedList i l (h .opening)) (h .calls) (opened-stocked i l r a (h .opening)) .1
 
 -- ---- the buffer is a function of the entries
-along-more : (b c : Book) (l : List Float) (es : List Entry) (e : Entry) → Trail b es c → listAlong b l (es ++ e ∷ []) ≡ listAfter c (bookEnter c (e .outcome)) (listAlong b l es)
+along-more : (b c : Book) (l : List Float) (es : List Entry) (e : Entry) → Trail b es c → listAlong b l (es ++ e ∷ []) ≡ bufferAfter c (bookEnter c (e .outcome)) (listAlong b l es)
 unfolding listAlong
 along-more b c l [] e t = rw t
-along-more b c l (d ∷ es) e t = along-more (bookEnter b (d .outcome)) c (listAfter b (bookEnter b (d .outcome)) l) es e (t .3)
+along-more b c l (d ∷ es) e t = along-more (bookEnter b (d .outcome)) c (bufferAfter b (bookEnter b (d .outcome)) l) es e (t .3)
 
-after-rest : (b c : Book) (l : List Float) → listAfter (atRest b) c l ≡ listAfter b c l
-unfolding listAfter atRest
+after-rest : (b c : Book) (l : List Float) → bufferAfter (atRest b) c l ≡ bufferAfter b c l
+unfolding bufferAfter atRest
 after-rest b c l = refl
 
 module _ (i : Inputs) (l : List Float) where
@@ -153,19 +153,19 @@ module _ (i : Inputs) (l : List Float) where
   abbrev Beside : Book → List Float → Type 0
   Beside b m = Kept i b × (m ≡ along b)
 
-  along-enter : (b : Book) (m : List Float) (o : Outcome) → Beside b m → listAfter b (bookEnter b o) m ≡ along (bookEnter b o)
+  along-enter : (b : Book) (m : List Float) (o : Outcome) → Beside b m → bufferAfter b (bookEnter b o) m ≡ along (bookEnter b o)
   along-enter b m o h =
       let k = written (firstList i) l in
-      ap (listAfter b (bookEnter b o)) (h .1)
+      ap (bufferAfter b (bookEnter b o)) (h .1)
       ∙ sym (ap (listAlong (opened i) k) (enter-place b o .0)
       ∙ along-more (opened i) (atRest b) k (entries b) (entry b o) (h .0 .trail)
       ∙ after-rest b (bookEnter (atRest b) o) (along b)
-      ∙ ap (λ (c : Book). listAfter b c (along b)) (rest-enter b o))
+      ∙ ap (λ (c : Book). bufferAfter b c (along b)) (rest-enter b o))
 
-  along-call : (b : Book) (m : List Float) (c : Call) → Beside b m → listAfter b (bookCall b c .book) m ≡ along (bookCall b c .book)
+  along-call : (b : Book) (m : List Float) (c : Call) → Beside b m → bufferAfter b (bookCall b c .book) m ≡ along (bookCall b c .book)
   along-call b m c h = go (bookCall b c) (moves b c)
     where
-      go : (d : Answer) → Moves b c d → listAfter b (d .book) m ≡ along (d .book)
+      go : (d : Answer) → Moves b c d → bufferAfter b (d .book) m ≡ along (d .book)
       go d (stays e n) = rw e (after-same b b m refl ∙ h .1)
       go d (hands o w e n) = rw e (after-same b (withWaiting b) m (await-same b .0) ∙ h .1 ∙ sym (ap (listAlong (opened i) (written (firstList i) l)) (await-place b .0)))
       go d (enters o w s e n) = rw e (along-enter b m o h)
@@ -173,7 +173,7 @@ module _ (i : Inputs) (l : List Float) where
   under-along : (b : Book) (m : List Float) (cs : List Call) → Beside b m → listUnder b m cs ≡ along (after b cs)
   unfolding listUnder after
   under-along b m [] h = h .1
-  under-along b m (c ∷ cs) h = let d = bookCall b c .book in under-along d (listAfter b d m) cs (call-by (kept-steps i) b c (h .0), along-call b m c h)
+  under-along b m (c ∷ cs) h = let d = bookCall b c .book in under-along d (bufferAfter b d m) cs (call-by (kept-steps i) b c (h .0), along-call b m c h)
 
   walked-along : (n : ℕ) → NoneHolds (conditions i n) → (bs : List ℕ) → walked i l bs .list ≡ along (walked i l bs .book)
   unfolding listAlong opened

@@ -30,10 +30,10 @@ use Rattle.book.specs.Book.{Inputs, Entry, Book, entries, firstList, opened, bo
 use Rattle.book.specs.Conditions.{NoneHolds, conditions}
 use Rattle.book.proofs.Moves.{entry, enter-holds}
 use Rattle.book_journal.specs.Lines.{linesOf, journalOf}
-use Rattle.book_journal.specs.Replay.{startNumber, follows, Walked, walked}
+use Rattle.book_journal.specs.Replay.{startNumber, follows, Walked, walked, keptOf}
 use Rattle.book_journal.specs.History.{History, bookAt, InputsFit, CallFits, atRest, enteredIn}
 use Rattle.book_journal.specs.ReplayLaw.{keptBytes}
-use Rattle.book_journal.specs.Resume.{keptOf, restOf, reportOn, resumed, notResumed, resumeOf, ResumeRefuses, ResumeAccepts, GivesBack, CutAt}
+use Rattle.book_journal.specs.Resume.{restOf, reportOn, resumed, notResumed, resumeOf, ResumeRefuses, ResumeAccepts, GivesBack, CutAt}
 use Rattle.book_journal.proofs.Opening.{start-number, none-refused}
 use Rattle.book_journal.proofs.Walk.{walkEnd, walked-keeps}
 use Rattle.book_journal.proofs.Kept.{Trail}

@@ -21,7 +21,7 @@ use Rattle.journal_replay.specs.declared.Stop.{Stop}
 use Rattle.journal_replay.specs.declared.Stop.the-variants.{AllTaken}
 use Rattle.journal_replay.specs.Walk.{stopAt}
 use Rattle.book.specs.Book.{Inputs, Book, firstList, opened, bookEnter}
-use Rattle.book_journal.specs.Replay.{follows, Walked, listAfter, walkFrom, walked}
+use Rattle.book_journal.specs.Replay.{follows, Walked, bufferAfter, walkFrom, walked}
 use Rattle.book_journal.specs.ReplayLaw.{keptBytes, FrontAlone}
 use Rattle.book_journal.proofs.Walk.{walkEnd, walk-end, walk-on, walk-stop}
 use Rattle.book_journal.proofs.Beside.{all-taken-ended, not-run-taken}
@@ -68,7 +68,7 @@ fronts-stop b l n m ms x f =
     none-longer (suc k) h q = absurd (not-run-taken (sym (ap (λ (w : Walked). w .stop) (walk-stop b l n AllTaken m (take k ms) f)) ∙ q))
 
 fronts-more : (b : Book) (l : List Float) (n : ℕ) (m : Line) (ms : List Line) (x : Stop) → follows b m ≡ true
-    → Fronts (bookEnter b (outcomeIn (m .outcome))) (listAfter b (bookEnter b (outcomeIn (m .outcome))) l) (suc n) ms x → Fronts b l n (m ∷ ms) x
+    → Fronts (bookEnter b (outcomeIn (m .outcome))) (bufferAfter b (bookEnter b (outcomeIn (m .outcome))) l) (suc n) ms x → Fronts b l n (m ∷ ms) x
 fronts-more b l n m ms x t f =
     let e = walk-on b l n x m ms t in
     record {
@@ -88,7 +88,7 @@ fronts : (b : Book) (l : List Float) (n : ℕ) (ms : List Line) (x : Stop) → F
 fronts b l n [] x = fronts-end b l n x
 fronts b l n (m ∷ ms) x =
     case (follows b m)
-    (λ t. fronts-more b l n m ms x t (fronts (bookEnter b (outcomeIn (m .outcome))) (listAfter b (bookEnter b (outcomeIn (m .outcome))) l) (suc n) ms x))
+    (λ t. fronts-more b l n m ms x t (fronts (bookEnter b (outcomeIn (m .outcome))) (bufferAfter b (bookEnter b (outcomeIn (m .outcome))) l) (suc n) ms x))
     (λ t. fronts-stop b l n m ms x t)
 
 -- ---- lists of lines and their bytes

@@ -39,7 +39,7 @@ use Rattle.book.proofs.Starts.{accepted, list-is}
 use Rattle.book.proofs.Opening.{opens}
 use Rattle.book.proofs.Ending.{run-ends}
 use Rattle.book.proofs.Theorem.{follows}
-use Rattle.book_journal.specs.Replay.{startNumber, listAfter, walked}
+use Rattle.book_journal.specs.Replay.{startNumber, bufferAfter, walked}
 use Rattle.book_journal.specs.History.{fresh, History, InputsFit, CallFits, listUnder}
 use Rattle.book_journal.specs.ReplayLaw.{BufferOf}
 use Rattle.book_journal.specs.Live.{LiveBuffer, Continues, ContinuesToEnd}
@@ -109,11 +109,11 @@ entry-same : (b : Book) (o : Outcome) → (withEntry b o .waits ≡ false) × (b
 unfolding withEntry
 entry-same b o = (refl, refl)
 
-after-is : (b c : Book) (l : List Float) → listAfter b c l ≡ listFrom (b .round) c l
-unfolding listAfter
+after-is : (b c : Book) (l : List Float) → bufferAfter b c l ≡ listFrom (b .round) c l
+unfolding bufferAfter
 after-is b c l = refl
 
-pub enter-list : (b : Book) (o : Outcome) (l : List Float) → b .waits ≡ true → ans.enterDef (runOf b) l o .list ≡ listAfter b (bookEnter b o) l
+pub enter-list : (b : Book) (o : Outcome) (l : List Float) → b .waits ≡ true → ans.enterDef (runOf b) l o .list ≡ bufferAfter b (bookEnter b o) l
 unfolding ans.enterDef bookEnter
 enter-list b o l w =
     let c = withEntry b o in
@@ -129,8 +129,8 @@ rest-of-front k n l h g =
     let q : k ≤ length (take n l) = omega arith in
     sym (drop-append-le k (take n l) (drop n l) q) ∙ ap (drop k) (take-append-drop n l)
 
-after-lent : (b c : Book) (l : List Float) (n : ℕ) → 6 * length (c .list) ≤ n → 6 * length (c .list) ≤ length l → listAfter b c (take n l) ++ drop n l ≡ listAfter b c l
-unfolding listAfter
+after-lent : (b c : Book) (l : List Float) (n : ℕ) → 6 * length (c .list) ≤ n → 6 * length (c .list) ≤ length l → bufferAfter b c (take n l) ++ drop n l ≡ bufferAfter b c l
+unfolding bufferAfter
 after-lent b c l n h g =
     case (eqb (b .round) (c .round))
     (λ e. simp e (take-append-drop n l))
@@ -139,20 +139,20 @@ after-lent b c l n h g =
     (append-assoc (flat (c .list)) (drop (6 * length (c .list)) (take n l)) (drop n l) ∙ ap (λ (z : List Float). flat (c .list) ++ z) (rest-of-front (6 * length (c .list)) n l h g)))
 
 -- ---- one call
-call-unchanged : (b : Book) (c : Call) (l : List Float) → enteredBy b c ≡ [] → listAfter b (bookCall b c .book) l ≡ l
+call-unchanged : (b : Book) (c : Call) (l : List Float) → enteredBy b c ≡ [] → bufferAfter b (bookCall b c .book) l ≡ l
 call-unchanged b c l q = go (bookCall b c) (moves b c)
   where
-    go : (k : Answer) → Moves b c k → listAfter b (k .book) l ≡ l
+    go : (k : Answer) → Moves b c k → bufferAfter b (k .book) l ≡ l
     go k (stays e n) = rw e (after-same b b l refl)
     go k (hands o w e n) = rw e (after-same b (withWaiting b) l (await-same b .0))
     go k (enters o w s e n) = absurd (no-entry b o (sym q ∙ n))
 
-refused-list : (b : Book) (l : List Float) (n : ℕ) → take n l ++ drop n l ≡ listAfter b b l
+refused-list : (b : Book) (l : List Float) (n : ℕ) → take n l ++ drop n l ≡ bufferAfter b b l
 refused-list b l n = take-append-drop n l ∙ sym (after-same b b l refl)
 
 answer-list : (i : Inputs) (b : Book) (l : List Float) (n : ℕ) (f : Finding) (rows : List Float) (flags : List ℕ) → State i b l
-    → runCall (runOf b) l (answer n f rows flags) .list ≡ listAfter b (bookAnswer b n f rows flags .book) l
-unfolding runCall ans.answerDef bookAnswer
+    → runCall (runOf b) l (answer n f rows flags) .list ≡ bufferAfter b (bookAnswer b n f rows flags .book) l
+unfolding runCall ans.answerDef ans.outcomeFor bookAnswer
 answer-list i b l n f rows flags g =
     let d = short (demand (b .inputs)) l n (g .there .long) in
     let t = sound-run i b (g .good) in
@@ -170,14 +170,14 @@ answer-list i b l n f rows flags g =
     (λ z. simp (run-fields, t, w, d, s, z) (refused-list b l n))))
     (λ w. simp (run-fields, t, w) (refused-list b l n))
 
-call-list : (i : Inputs) (b : Book) (l : List Float) (c : Call) → State i b l → runCall (runOf b) l c .list ≡ listAfter b (bookCall b c .book) l
+call-list : (i : Inputs) (b : Book) (l : List Float) (c : Call) → State i b l → runCall (runOf b) l c .list ≡ bufferAfter b (bookCall b c .book) l
 unfolding runCall enteredBy
 call-list i b l (next n) g = sym (call-unchanged b (next n) l refl)
 call-list i b l (seed n) g = sym (call-unchanged b (seed n) l refl)
 call-list i b l (answer n f rows flags) g = answered i b l n f rows flags g
   where
     answered : (i : Inputs) (b : Book) (l : List Float) (n : ℕ) (f : Finding) (rows : List Float) (flags : List ℕ) → State i b l
-        → runCall (runOf b) l (answer n f rows flags) .list ≡ listAfter b (bookCall b (answer n f rows flags) .book) l
+        → runCall (runOf b) l (answer n f rows flags) .list ≡ bufferAfter b (bookCall b (answer n f rows flags) .book) l
     answered i b l n f rows flags g = unfold bookCall in answer-list i b l n f rows flags g
 call-list i b l ask g = sym (call-unchanged b ask l refl)
 call-list i b l progress g = sym (call-unchanged b progress l refl)

@@ -16,7 +16,7 @@ use Rattle.journal_replay.specs.declared.Stop.{Stop}
 use Rattle.journal_replay.specs.declared.Stop.the-variants.{NotTheRun}
 use Rattle.journal_replay.specs.Walk.{stopAt}
 use Rattle.book.specs.Book.{Inputs, Book, firstList, opened, bookEnter}
-use Rattle.book_journal.specs.Replay.{follows, Walked, listAfter, walkFrom, walked}
+use Rattle.book_journal.specs.Replay.{follows, Walked, bufferAfter, walkFrom, walked}
 
 abbrev pub walkEnd : Book → List Float → ℕ → Stop → Walked
 walkEnd b l n e = record { book = b; list = l; taken = n; stop = e }
@@ -33,26 +33,26 @@ module _ (b : Book) (l : List Float) (n : ℕ) (e : Stop) where
     walk-stop f = simp (walkFrom, f)
 
     pub walk-on : follows b m ≡ true
-        → walkFrom b l n (m ∷ ms) e ≡ walkFrom (bookEnter b (outcomeIn (m .outcome))) (listAfter b (bookEnter b (outcomeIn (m .outcome))) l) (suc n) ms e
+        → walkFrom b l n (m ∷ ms) e ≡ walkFrom (bookEnter b (outcomeIn (m .outcome))) (bufferAfter b (bookEnter b (outcomeIn (m .outcome))) l) (suc n) ms e
     unfolding walkFrom
     walk-on f = simp (walkFrom, f)
 
 -- ---- What holds of a book and its buffer, and stays where a line that follows is entered, holds of the book and the buffer that a walk leaves.
 pub walk-keeps : (P : Book → List Float → Type 0)
     → ((b : Book) (l : List Float) (m : Line) → LineFits m → Writable m → P b l → follows b m ≡ true
-    → P (bookEnter b (outcomeIn (m .outcome))) (listAfter b (bookEnter b (outcomeIn (m .outcome))) l))
+    → P (bookEnter b (outcomeIn (m .outcome))) (bufferAfter b (bookEnter b (outcomeIn (m .outcome))) l))
     → (b : Book) (l : List Float) (n : ℕ) (ms : List Line) (e : Stop) → All LineFits ms → All Writable ms → P b l → P (walkFrom b l n ms e .book) (walkFrom b l n ms e .list)
 walk-keeps P f b l n [] e ok can h = rw (walk-end b l n e) h
 walk-keeps P f b l n (m ∷ ms) e ok can h =
     case (follows b m)
     (λ t.
     let c = bookEnter b (outcomeIn (m .outcome)) in
-    rw (walk-on b l n e m ms t) (walk-keeps P f c (listAfter b c l) (suc n) ms e (ok .1) (can .1) (f b l m (ok .0) (can .0) h t)))
+    rw (walk-on b l n e m ms t) (walk-keeps P f c (bufferAfter b c l) (suc n) ms e (ok .1) (can .1) (f b l m (ok .0) (can .0) h t)))
     (λ t. rw (walk-stop b l n e m ms t) h)
 
 pub walked-keeps : (P : Book → List Float → Type 0)
     → ((b : Book) (l : List Float) (m : Line) → LineFits m → Writable m → P b l → follows b m ≡ true
-    → P (bookEnter b (outcomeIn (m .outcome))) (listAfter b (bookEnter b (outcomeIn (m .outcome))) l))
+    → P (bookEnter b (outcomeIn (m .outcome))) (bufferAfter b (bookEnter b (outcomeIn (m .outcome))) l))
     → (i : Inputs) (l : List Float) (bs : List ℕ) → P (opened i) (written (firstList i) l) → P (walked i l bs .book) (walked i l bs .list)
 unfolding walked
 walked-keeps P f i l bs h =
@@ -69,7 +69,7 @@ same-walk b l k n (m ∷ ms) e =
     case (follows b m)
     (λ t.
     let c = bookEnter b (outcomeIn (m .outcome)) in
-    rw (walk-on b l n e m ms t, walk-on b k n e m ms t) (same-walk c (listAfter b c l) (listAfter b c k) (suc n) ms e))
+    rw (walk-on b l n e m ms t, walk-on b k n e m ms t) (same-walk c (bufferAfter b c l) (bufferAfter b c k) (suc n) ms e))
     (λ t. rw (walk-stop b l n e m ms t, walk-stop b k n e m ms t) (refl, refl, refl))
 
 pub any-buffer : (i : Inputs) (l k : List Float) (bs : List ℕ) → (walked i l bs .book ≡ walked i k bs .book) × (walked i l bs .taken ≡ walked i k bs .taken) × (walked i l bs .stop ≡ walked i k bs .stop)

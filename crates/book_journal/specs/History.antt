@@ -12,7 +12,7 @@ use Rattle.book.specs.Calls.{Call, next, seed, answer, ask, progress, stop, las
 use Rattle.book.specs.Book.{Inputs, Entry, Book, firstList, opened, bookEnter, bookCall, after}
 use Rattle.book.specs.Conditions.{NoneHolds, conditions}
 use Rattle.seed_rules.specs.Layout.{written}
-use Rattle.book_journal.specs.Replay.{listAfter, walked}
+use Rattle.book_journal.specs.Replay.{bufferAfter, walked}
 
 -- ---- Start's book, or the one in which the lines that Resume keeps were entered. The seed buffer doesn't matter to it (`any-buffer`).
 pub data Opening : Type 0 where
@@ -72,7 +72,7 @@ openedList i l (from bs) = walked i l bs .list
 
 unfoldable pub listUnder : Book → List Float → List Call → List Float
 listUnder b l [] = l
-listUnder b l (c ∷ cs) = let d = bookCall b c .book in listUnder d (listAfter b d l) cs
+listUnder b l (c ∷ cs) = let d = bookCall b c .book in listUnder d (bufferAfter b d l) cs
 
 abbrev pub listAt : {i : Inputs} → History i → List Float → List Float
 listAt {i} h l = listUnder (openedBy i (h .opening)) (openedList i l (h .opening)) (h .calls)

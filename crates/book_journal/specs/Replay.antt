@@ -4,12 +4,13 @@ use Prim.Native.Nat.{ℕ, suc}
 use mathlib.Core.Bool.{Bool, true, false, not, _&&_, cond}
 use mathlib.Core.List.{List, [], _∷_}
 use lib.Dec.{eqb}
-use lib.ListN.{length}
+use lib.ListN.{length, take}
 use lib.Ieee.{Float}
 use Rattle.seed_rules.specs.Layout.{six, written}
 use Rattle.score_best.specs.Best.{Chosen, nothing, chosen}
 use Rattle.search_start.specs.Start.{startRefusal}
 use Rattle.journal_line.specs.declared.Line.{Line}
+use Rattle.journal_line.specs.Line.{journalBytes}
 use Rattle.journal_line.specs.Outcome.{outcomeIn}
 use Rattle.journal_line.specs.Reading.{readJournal}
 use Rattle.journal_replay.specs.declared.Stop.{Stop}
@@ -44,20 +45,24 @@ pub record Walked : Type 0 where
   pub stop : Stop
 
 -- a list that an answer opened is written to the buffer's front
-unfoldable pub listAfter : Book → Book → List Float → List Float
-listAfter b c l = cond (eqb (b .round) (c .round)) l (written (c .list) l)
+unfoldable pub bufferAfter : Book → Book → List Float → List Float
+bufferAfter b c l = cond (eqb (b .round) (c .round)) l (written (c .list) l)
 
 -- The lines that the reader gives, one after the other; behind the last one the walk stops as the reader does.
 unfoldable pub walkFrom : Book → List Float → ℕ → List Line → Stop → Walked
 walkFrom b l n [] e = record { book = b; list = l; taken = n; stop = e }
 walkFrom b l n (m ∷ ms) e = elim (follows b m) [
-  | true ↦ let c = bookEnter b (outcomeIn (m .outcome)) in walkFrom c (listAfter b c l) (suc n) ms e
+  | true ↦ let c = bookEnter b (outcomeIn (m .outcome)) in walkFrom c (bufferAfter b c l) (suc n) ms e
   | false ↦ record { book = b; list = l; taken = n; stop = NotTheRun }
 ]
 
 -- An accepted Start has written round 0's list to the front of the lent buffer.
 unfoldable pub walked : Inputs → List Float → List ℕ → Walked
 walked i l bs = let r = readJournal bs in walkFrom (opened i) (written (firstList i) l) 0 (r .lines) (stopAt (r .ending))
+
+-- the bytes of the lines that it took
+abbrev pub keptOf : List ℕ → Walked → List ℕ
+keptOf bs w = journalBytes (take (w .taken) (readJournal bs .lines))
 
 -- ---- the reply: who won, and with which score; the seed that comes next in a run that hasn't ended; 11 for one that ended without a winner, or Start's own number;
 -- 29 or 30, and the number of the line, from 1

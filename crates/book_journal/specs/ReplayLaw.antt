@@ -8,17 +8,20 @@ use lib.ListN.{length, take, drop}
 use lib.Ieee.{Float}
 use Rattle.common.specs.Each.{All}
 use Rattle.seed_rules.specs.Layout.{flat}
+use Rattle.score_outcome.specs.declared.Scoring.{Scoring}
+use Rattle.score_outcome.specs.declared.Outcome.the-variants.{Scored}
+use Rattle.score_outcome.specs.Facts.{ScoredFacts}
 use Rattle.score_best.specs.declared.Candidate.{Candidate}
 use Rattle.journal_line.specs.declared.Line.{Line}
-use Rattle.journal_line.specs.Line.{LineFits, journalBytes}
+use Rattle.journal_line.specs.Line.{LineFits}
 use Rattle.journal_line.specs.Reading.{lineNumber, ended, refused, readJournal}
 use Rattle.journal_replay.specs.declared.Stop.the-variants.{AllTaken, NotOfForm, NotTheRun}
 use Rattle.journal_replay.specs.declared.Replayed.the-variants.{Refused, RefusedAt}
-use Rattle.book.specs.Book.{Inputs, demand, Book, entries, number}
+use Rattle.book.specs.Book.{Inputs, demand, Entry, Book, entries, number}
 use Rattle.book.specs.Conditions.{FirstHolds, NoneHolds, conditions}
 use Rattle.book.specs.Theorem.{Wins}
 use Rattle.book_journal.specs.Lines.{linesOf, journalOf}
-use Rattle.book_journal.specs.Replay.{startNumber, follows, walked, standing, replayOf}
+use Rattle.book_journal.specs.Replay.{startNumber, follows, walked, keptOf, standing, replayOf}
 use Rattle.book_journal.specs.History.{History, bookAt, listAt, atRest}
 
 -- ---- Start's own refusals come first: the number is that of the first condition that holds, 0 where none does
@@ -58,9 +61,15 @@ pub record Accepted (i : Inputs) (l : List Float) (bs : List ℕ) (n : ℕ) (s :
   pub lines-are : linesOf (walked i l bs .book) ≡ readJournal bs .lines
   pub bytes-are : bs ≡ journalOf (walked i l bs .book)
 
+-- ---- of an S line what holds of a scored finding: its camera, coefficients and mean, and that its score is the one which these, seed and centre give
+abbrev pub ScoredHold : Inputs → Entry → Type 0
+ScoredHold i e = (g : Scoring) → e .outcome ≡ Scored g → ScoredFacts (e .seed .sensor) (i .center) g
+
 -- ---- What the walk says of a journal is what the reader says of it.
 pub record SameAsReader (i : Inputs) (l : List Float) (bs : List ℕ) : Type 0 where
   pub taken-is : walked i l bs .taken ≡ number (walked i l bs .book)
+  -- every S line that it took
+  pub scored-hold : All (ScoredHold i) (entries (walked i l bs .book))
   -- all lines are read and entered
   pub all-read : walked i l bs .stop ≡ AllTaken → readJournal bs ≡ record { lines = linesOf (walked i l bs .book); ending = ended }
   -- 29: those before are read and entered, and the reader refuses the next, with the same line's number
@@ -69,7 +78,7 @@ pub record SameAsReader (i : Inputs) (l : List Float) (bs : List ℕ) : Type 0 w
   pub not-following : walked i l bs .stop ≡ NotTheRun
       → (m : Line) × (ms : List Line) × (readJournal bs .lines ≡ linesOf (walked i l bs .book) ++ m ∷ ms) × (follows (walked i l bs .book) m ≡ false)
 
--- ---- A line that can't be walked: 29 just where the reader refuses it, with the reader's number; 30 where it is read and can't follow the book of those before. The
+-- ---- A line that can't be walked: 29 only where the reader refuses it, with the reader's number; 30 where it is read and can't follow the book of those before. The
 -- number is that of the line, from 1.
 pub record Declines (i : Inputs) (l : List Float) (bs : List ℕ) : Type 0 where
   pub at-29 : (k : ℕ) → replayOf i l bs .reply ≡ RefusedAt 29 k → readJournal bs .ending ≡ refused k
@@ -77,6 +86,9 @@ pub record Declines (i : Inputs) (l : List Float) (bs : List ℕ) : Type 0 where
       → (m : Line) × (ms : List Line) × (readJournal bs .lines ≡ linesOf (walked i l bs .book) ++ m ∷ ms) × (follows (walked i l bs .book) m ≡ false)
       × (k ≡ suc (length (linesOf (walked i l bs .book))))
   pub no-others : (n k : ℕ) → replayOf i l bs .reply ≡ RefusedAt n k → (n ≡ 29) ⊎ (n ≡ 30)
+  -- any other reply, where Start refuses nothing: every line is read and entered, and the reply is how the book stands
+  pub else-all-read : NoneHolds (conditions i (length l)) → ((n k : ℕ) → replayOf i l bs .reply ≡ RefusedAt n k → ⊥)
+      → (readJournal bs ≡ record { lines = linesOf (walked i l bs .book); ending = ended }) × (replayOf i l bs .reply ≡ standing (walked i l bs .book))
 
 -- Start's own refusals come before any line, and leave the buffer as it was lent.
 abbrev pub StartRefuses : Inputs → List Float → List ℕ → Type 0
@@ -85,9 +97,8 @@ StartRefuses i l bs = (n : ℕ) → FirstHolds (conditions i (length l)) (suc n)
 -- ---- What the walk keeps of a journal: its longest front that is walked to the end. It alone leads to the same book and the same buffer, so the buffer after a
 -- refused line is that of the lines before it.
 module _ (i : Inputs) (l : List Float) (bs : List ℕ) where
-  -- the bytes of the lines that the walk took
   abbrev pub keptBytes : List ℕ
-  keptBytes = journalBytes (take (walked i l bs .taken) (readJournal bs .lines))
+  keptBytes = keptOf bs (walked i l bs)
 
   pub record FrontAlone : Type 0 where
     pub is-front : take (length keptBytes) bs ≡ keptBytes

@@ -8,7 +8,7 @@ use lib.ListN.{length, take, drop}
 use lib.Ieee.{Float}
 use Rattle.journal_line.specs.declared.Line.{Line}
 use Rattle.journal_line.specs.Line.{lineBytes, LineFits, Writable, journalBytes}
-use Rattle.journal_line.specs.Reading.{newlines, readJournal}
+use Rattle.journal_line.specs.Reading.{newlines}
 use Rattle.journal_line.specs.Fronts.{NoLine}
 use Rattle.journal_replay.specs.declared.Stop.the-variants.{AllTaken}
 use Rattle.journal_replay.specs.declared.EndedBy.the-variants as by
@@ -18,15 +18,12 @@ use Rattle.book.specs.Calls.{Call, next}
 use Rattle.book.specs.Book.{Inputs, demand, Book, entries, number, opened, replies, after}
 use Rattle.book.specs.Conditions.{FirstHolds, NoneHolds, conditions}
 use Rattle.book_journal.specs.Lines.{linesOf, journalOf}
-use Rattle.book_journal.specs.Replay.{startNumber, follows, Walked, walked}
+use Rattle.book_journal.specs.Replay.{startNumber, follows, Walked, walked, keptOf}
 use Rattle.book_journal.specs.History.{from, openedBy, History, bookAt, listAt, atRest, enteredIn}
 use Rattle.book_journal.specs.ReplayLaw.{BufferOf}
 
 -- ---- the front that is kept
--- the bytes of the lines that the walk took, and all that follows them
-abbrev pub keptOf : List ℕ → Walked → List ℕ
-keptOf bs w = journalBytes (take (w .taken) (readJournal bs .lines))
-
+-- all that follows the bytes of the lines that the walk took
 abbrev pub restOf : List ℕ → Walked → List ℕ
 restOf bs w = drop (length (keptOf bs w)) bs
 

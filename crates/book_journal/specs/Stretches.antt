@@ -25,7 +25,7 @@ scoredIn (l ∷ ls) = elim (l .outcome) [ line.Skipped reason ↦ scoredIn ls | 
 abbrev pub lineWinner : List Line → Chosen
 lineWinner ls = bestOf (scoredIn ls)
 
--- ---- with none as its unit the winner of two groups as one likes; the best of a list is its fold over the candidates, and the winner of any number of winners its
+-- ---- with none as its unit the winner of two is associative; the best of a list is its fold over the candidates, and the winner of any number of winners its
 -- fold over them; records hold it as it is
 pub record Groups : Type 0 where
   pub unit-left : (c : Chosen) → winnerOfTwo nothing c ≡ c

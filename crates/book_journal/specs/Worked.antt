@@ -26,7 +26,7 @@ use Rattle.journal_replay.specs.declared.Report.{Report}
 use Rattle.journal_replay.specs.Stand.{sameReal, sameReals, isMean, canBeScored}
 use Rattle.journal_replay.specs.Resume.{endedBy}
 use Rattle.book.specs.Book.{Inputs, demand, stepOf, scoredOf, roundBest, runBest, firstList, listAround, opened, withEntry, withRound, withEnd, closeRound, bookEnter}
-use Rattle.book_journal.specs.Replay.{startNumber, follows, listAfter, walkFrom, walked, standing, replayOf}
+use Rattle.book_journal.specs.Replay.{startNumber, follows, bufferAfter, walkFrom, walked, standing, replayOf}
 use Rattle.book_journal.specs.Resume.{reportOn}
 
 abbrev bits : ℕ → Float
@@ -108,7 +108,7 @@ pub record Replays : Type 0 where
   pub too-short : replayOf given [] (120 ∷ []) ≡ record { reply = Refused 8; list = [] }
 
 pub replays : Replays
-unfolding replayOf startNumber goodSeed tooMany demandOf every walked walkFrom listAfter follows isMean canBeScored sameReal sameReals standing opened firstList bookEnter closeRound withEntry withRound withEnd roundBest runBest scoredOf bestOf firstUnbeaten unbeaten beats demand stepOf listAround offsets yOffsets nextList digitByte digits decimalWidth decimal bitsOf real reasonLetter outcomeFields restOfLine lineBytes recordable writable journalBytes digitOf numberAt decimalWidthAt realAt reals reasonOf outcomeAt fromRound fromSeed uncheckedLine begins ofForm newlines readLine goesOn readAll keep hasNear push mergedInto closer tiltNear cameraNear near within inBound pairs seedGrid initialList laid readFrom finiteIntrinsics finiteDistortion validCamera distortionPenalty tiltPenalty centrePenalty scoreOf absOf isFinite minOf maxOf toBits add sub mul div neg lt le eq isNan ofBits ofFields ofInt sum round units odd size span climb
+unfolding replayOf startNumber goodSeed tooMany demandOf every walked walkFrom bufferAfter follows isMean canBeScored sameReal sameReals standing opened firstList bookEnter closeRound withEntry withRound withEnd roundBest runBest scoredOf bestOf firstUnbeaten unbeaten beats demand stepOf listAround offsets yOffsets nextList digitByte digits decimalWidth decimal bitsOf real reasonLetter outcomeFields restOfLine lineBytes recordable writable journalBytes digitOf numberAt decimalWidthAt realAt reals reasonOf outcomeAt fromRound fromSeed uncheckedLine begins ofForm newlines readLine goesOn readAll keep hasNear push mergedInto closer tiltNear cameraNear near within inBound pairs seedGrid initialList laid readFrom finiteIntrinsics finiteDistortion validCamera distortionPenalty tiltPenalty centrePenalty scoreOf absOf isFinite minOf maxOf toBits add sub mul div neg lt le eq isNan ofBits ofFields ofInt sum round units odd size span climb
 replays = record {
   its-winner = refl;
   unfinished-run = refl;
@@ -143,5 +143,5 @@ pub record Reports : Type 0 where
   pub bytes-behind : reportOf (120 ∷ 10 ∷ 48 ∷ 44 ∷ 48 ∷ []) ≡ record { lines = 0; kept = 0; dropped = 5; «ended_by» = by.NotOfForm }
 
 pub reports : Reports
-unfolding reportOn endedBy walked walkFrom listAfter follows isMean canBeScored sameReal sameReals opened firstList bookEnter closeRound withEntry withRound withEnd digitByte digits decimalWidth decimal bitsOf real reasonLetter outcomeFields restOfLine lineBytes recordable writable journalBytes digitOf numberAt decimalWidthAt realAt reals reasonOf outcomeAt fromRound fromSeed uncheckedLine begins ofForm newlines readLine goesOn readAll keep hasNear push mergedInto closer tiltNear cameraNear near within inBound pairs seedGrid initialList laid readFrom finiteIntrinsics finiteDistortion validCamera distortionPenalty tiltPenalty centrePenalty scoreOf absOf isFinite minOf maxOf toBits add sub mul div neg lt le eq isNan ofBits ofFields ofInt sum round units odd size span climb
+unfolding reportOn endedBy walked walkFrom bufferAfter follows isMean canBeScored sameReal sameReals opened firstList bookEnter closeRound withEntry withRound withEnd digitByte digits decimalWidth decimal bitsOf real reasonLetter outcomeFields restOfLine lineBytes recordable writable journalBytes digitOf numberAt decimalWidthAt realAt reals reasonOf outcomeAt fromRound fromSeed uncheckedLine begins ofForm newlines readLine goesOn readAll keep hasNear push mergedInto closer tiltNear cameraNear near within inBound pairs seedGrid initialList laid readFrom finiteIntrinsics finiteDistortion validCamera distortionPenalty tiltPenalty centrePenalty scoreOf absOf isFinite minOf maxOf toBits add sub mul div neg lt le eq isNan ofBits ofFields ofInt sum round units odd size span climb
 reports = record { all-kept = refl; after-newline = refl; cut-line = refl; cut-line-again = refl; part-behind = refl; line-behind = refl; bytes-behind = refl }

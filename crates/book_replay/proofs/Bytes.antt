@@ -19,8 +19,8 @@ use Rattle.book.proofs.RunOf.{runOf, State}
 use Rattle.book.proofs.Starts.{accepted, list-is, starts}
 use Rattle.book.proofs.Opening.{opens}
 use Rattle.seed_rules.specs.Layout.{written}
-use Rattle.book_journal.specs.Replay.{startNumber, walkFrom, walked, replayOf}
-use Rattle.book_journal.specs.Resume.{keptOf, reportOn}
+use Rattle.book_journal.specs.Replay.{startNumber, walkFrom, walked, keptOf, replayOf}
+use Rattle.book_journal.specs.Resume.{reportOn}
 use Rattle.book_journal.proofs.Opening.{start-number, none-refused}
 use Rattle.book_journal.proofs.Accepted.{start-refuses}
 use Rattle.book_journal.proofs.Cut.{opened-waits, none-waits, resume-refuses, resume-accepts}

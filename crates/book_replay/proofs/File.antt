@@ -38,9 +38,9 @@ use Rattle.book.proofs.Opening.{opens}
 use Rattle.book.proofs.Walks as calls
 use Rattle.book.proofs.Theorem.{result-over}
 use Rattle.book_journal.specs.Lines.{linesOf, journalOf}
-use Rattle.book_journal.specs.Replay.{startNumber, Walked, walked, standing}
+use Rattle.book_journal.specs.Replay.{startNumber, Walked, walked, keptOf, standing}
 use Rattle.book_journal.specs.History.{Opening, fresh, from, openedBy, History, bookAt, InputsFit, CallFits, atRest, openedList, listUnder, listAt}
-use Rattle.book_journal.specs.Resume.{keptOf, reportOn, cutJournal, report, cutRun, GivesBack, GoesOn}
+use Rattle.book_journal.specs.Resume.{reportOn, cutJournal, report, cutRun, GivesBack, GoesOn}
 use Rattle.book_journal.specs.Resume as book
 use Rattle.book_journal.proofs.Opening.{start-number}
 use Rattle.book_journal.proofs.Walk.{walkEnd, any-buffer}
@@ -50,7 +50,7 @@ use Rattle.book_journal.proofs.Cut.{cut-anywhere, resume-refuses, resume-accept
 use Rattle.book_journal.proofs.GoingOn.{goes-on-somewhere}
 use Rattle.book_journal.proofs.Live.{live-list, walked-state, resumed-continues}
 use Rattle.book_journal.proofs.Written as writing
-use Rattle.book_replay.specs.Theorem.{withRecord, GivesRun, ResumedRun, allKept, ResumedRecord, CutRecord, OpenedAs, by-start, by-resume, noneWaiting, StandsAs, again, file, GoesBack, CutBack, OfRun}
+use Rattle.book_replay.specs.Theorem.{withRecord, GivesRun, WithAnyList, ResumedRun, allKept, ResumedRecord, CutRecord, OpenedAs, by-start, by-resume, noneWaiting, StandsAs, again, file, GoesBack, CutBack, OfRun}
 use Rattle.book_replay.proofs.Lines.{next-going, await-seed}
 use Rattle.book_replay.proofs.Bytes.{start-list, start-state, either, replay-is-book, resume-is-book}
 
@@ -123,6 +123,24 @@ pub cut-record : (i : Inputs) (h : History i) (at : ℕ) (l : List Float) → No
 cut-record i h at l a =
     let j = cutJournal i h at in
     given-back i l j a ∙ ap (λ (b : Book). record { reply = resume.Resumed (runOf b) (report i h at l); list = walked i l j .list }) (any-buffer i l [] j .0)
+
+-- whichever list is lent: the walk is the same but for its list
+same-report : (bs : List ℕ) (v w : Walked) → v .taken ≡ w .taken → v .stop ≡ w .stop → reportOn bs v ≡ reportOn bs w
+unfolding reportOn
+same-report bs v w e d = rw (e, d)
+
+given-any-list : (i : Inputs) (bs : List ℕ) (r : Run) (q : Report) → ((k : List Float) → NoneHolds (conditions i (length k)) → (m : List Float) × GivesRun i k bs r q m) → WithAnyList i bs r q
+given-any-list i bs r q f k a = ap (λ (x : ResumeLeft). x .reply) (f k a .1)
+
+cut-any-list : (i : Inputs) (h : History i) (at : ℕ) (l : List Float) → WithAnyList i (cutJournal i h at) (runOf (cutRun i h at)) (report i h at l)
+cut-any-list i h at l =
+    let j = cutJournal i h at in
+    let s = runOf (cutRun i h at) in
+    given-any-list i j s (report i h at l)
+    (λ k a.
+    let w = any-buffer i k l j in
+    let m = walked i k j .list in
+    (m, cut-record i h at k a ∙ ap (λ (q : Report). record { reply = resume.Resumed s q; list = m }) (same-report j (walked i k j) (walked i l j) (w .1) (w .2))))
 
 -- ---- how a run stands
 module _ (i : Inputs) (b : Book) (g : Good i b) where
@@ -307,6 +325,7 @@ module _ (i : Inputs) (l : List Float) (a : NoneHolds (conditions i (length l)))
         says = report i (past cs) at l;
         list = leftList;
         gives-run = rw (file-now cs) (cut-record i (past cs) at l a);
+        any-list = rw (file-now cs) (cut-any-list i (past cs) at l);
         lines-are = walked-back i l cut f a .lines-are ∙ ap number (any-buffer i l [] cut .0) ∙ sym (run-number left);
         part = x .part;
         cut-is = rw (file-now cs, kept-front (journalBytes (take (x .lines) (linesOf now))) (x .part) (report i (past cs) at l .kept) (x .kept-bytes) (x .cut-is)) (x .cut-is);

@@ -33,7 +33,7 @@ use Rattle.book.proofs.Moves.{enter-holds, await-holds}
 use Rattle.book.proofs.Good.{steps}
 use Rattle.book.proofs.RunOf.{runOf, State, run-fields, run-bests, sound-run}
 use Rattle.book.proofs.Simulation.{await-run, await-there, in-list, Ends, enter-agrees}
-use Rattle.book_journal.specs.Replay.{follows, Walked, listAfter, walkFrom, standing}
+use Rattle.book_journal.specs.Replay.{follows, Walked, bufferAfter, walkFrom, standing}
 use Rattle.book_journal.proofs.Standing.{follower}
 use Rattle.book_journal.proofs.Walk.{walk-end, walk-on, walk-stop}
 use Rattle.book_journal.proofs.Live.{enter-list}
@@ -83,8 +83,8 @@ module _ (b : Book) where
   unfolding bookEnter withEntry withWaiting
   await-enter o = refl
 
-  await-list : (c : Book) (l : List Float) → listAfter (withWaiting b) c l ≡ listAfter b c l
-  unfolding listAfter withWaiting
+  await-list : (c : Book) (l : List Float) → bufferAfter (withWaiting b) c l ≡ bufferAfter b c l
+  unfolding bufferAfter withWaiting
   await-list c l = refl
 
 module _ (i : Inputs) (b : Book) (l : List Float) (f : State i b l) (o : Outcome) where
@@ -94,10 +94,10 @@ module _ (i : Inputs) (b : Book) (l : List Float) (f : State i b l) (o : Outcome
   enter-ends : Ends entered (bookEnter b o)
   enter-ends = rw (await-enter b o) at (enter-agrees (withWaiting b) o l (await-holds b .1) (await-there b l (f .there)) (rw (await-inputs b) (f .good .core .sized .least)))
 
-  enter-left : entered ≡ left (runOf (bookEnter b o)) (listAfter b (bookEnter b o) l)
+  enter-left : entered ≡ left (runOf (bookEnter b o)) (bufferAfter b (bookEnter b o) l)
   enter-left =
-      let m : entered .list ≡ listAfter b (bookEnter b o) l =
-      enter-list (withWaiting b) o l (await-holds b .1) ∙ ap (λ (c : Book). listAfter (withWaiting b) c l) (await-enter b o) ∙ await-list b (bookEnter b o) l in
+      let m : entered .list ≡ bufferAfter b (bookEnter b o) l =
+      enter-list (withWaiting b) o l (await-holds b .1) ∙ ap (λ (c : Book). bufferAfter (withWaiting b) c l) (await-enter b o) ∙ await-list b (bookEnter b o) l in
       ap (λ (x : Run). left x (entered .list)) (enter-ends .run) ∙ ap (left (runOf (bookEnter b o))) m
 
 -- ---- one line: it is taken just where it follows
@@ -105,7 +105,7 @@ module _ (i : Inputs) (b : Book) (l : List Float) (f : State i b l) (w : b .wait
   abbrev next : Book
   next = bookEnter b (outcomeIn (m .outcome))
 
-  line-taken : follows b m ≡ true → takeLine (runOf b) l m ≡ some (left (runOf next) (listAfter b next l))
+  line-taken : follows b m ≡ true → takeLine (runOf b) l m ≡ some (left (runOf next) (bufferAfter b next l))
   unfolding takeLine
   line-taken t =
       case (b .over)
@@ -119,7 +119,7 @@ module _ (i : Inputs) (b : Book) (l : List Float) (f : State i b l) (w : b .wait
       (λ o. case-chosen (runBest b) (λ e. simp (next-none i b l f w o e)) (λ v e. simp (next-over i b l f w v o e)))
       (λ o. simp (next-going i b l f w o, answers-next b m, sym (follows-going b m o) ∙ t))
 
-  line-state : LineFits m → Writable m → follows b m ≡ true → State i next (listAfter b next l)
+  line-state : LineFits m → Writable m → follows b m ≡ true → State i next (bufferAfter b next l)
   line-state ok can t =
       let s = follower b m ok can t in
       record {
@@ -168,7 +168,7 @@ walks-stop i b l n k m ms e f v t =
     }
 
 walks-on : (i : Inputs) (b : Book) (l : List Float) (n k : ℕ) (m : Line) (ms : List Line) (e : Stop) (f : State i b l) → b .waits ≡ false → follows b m ≡ true
-    → (let c = bookEnter b (outcomeIn (m .outcome)) in Walks c (listAfter b c l) (suc n) (k + length (lineBytes m)) ms e) → Walks b l n k (m ∷ ms) e
+    → (let c = bookEnter b (outcomeIn (m .outcome)) in Walks c (bufferAfter b c l) (suc n) (k + length (lineBytes m)) ms e) → Walks b l n k (m ∷ ms) e
 unfolding journalBytes
 walks-on i b l n k m ms e f v t ih =
     let c = bookEnter b (outcomeIn (m .outcome)) in
@@ -178,9 +178,9 @@ walks-on i b l n k m ms e f v t ih =
       count = suc (ih .count);
       taken-is = ap (λ (x : Walked). x .taken) w ∙ ih .taken-is ∙ omega arith;
       walk-is =
-          walk-some (runOf b) l n k m ms e (left (runOf c) (listAfter b c l)) (line-taken i b l f v m t)
+          walk-some (runOf b) l n k m ms e (left (runOf c) (bufferAfter b c l)) (line-taken i b l f v m t)
           ∙ ih .walk-is
-          ∙ rw w (ap (recordWalk (walkFrom c (listAfter b c l) (suc n) ms e)) (omega arith));
+          ∙ rw w (ap (recordWalk (walkFrom c (bufferAfter b c l) (suc n) ms e)) (omega arith));
     }
 
 pub walks : (i : Inputs) (b : Book) (l : List Float) (n k : ℕ) (ms : List Line) (e : Stop) → State i b l → b .waits ≡ false → All LineFits ms → All Writable ms → Walks b l n k ms e
@@ -190,7 +190,7 @@ walks i b l n k (m ∷ ms) e f v ok can =
     (λ t.
     let c = bookEnter b (outcomeIn (m .outcome)) in
     walks-on i b l n k m ms e f v t
-    (walks i c (listAfter b c l) (suc n) (k + length (lineBytes m)) ms e (line-state i b l f v m (ok .0) (can .0) t) (enter-holds b (outcomeIn (m .outcome)) .1) (ok .1) (can .1)))
+    (walks i c (bufferAfter b c l) (suc n) (k + length (lineBytes m)) ms e (line-state i b l f v m (ok .0) (can .0) t) (enter-holds b (outcomeIn (m .outcome)) .1) (ok .1) (can .1)))
     (λ t. walks-stop i b l n k m ms e f v t)
 
 -- ---- where a run stands

@@ -54,6 +54,10 @@ ResumeIsBook i l bs = resumeFrom (startOf i l) (startedList i l) bs ≡ withReco
 abbrev pub GivesRun : Inputs → List Float → List ℕ → Run → Report → List Float → Type 0
 GivesRun i l bs r q m = resumeFrom (startOf i l) (startedList i l) bs ≡ record { reply = resume.Resumed r q; list = m }
 
+-- whichever list k is lent: this run and this report
+abbrev pub WithAnyList : Inputs → List ℕ → Run → Report → Type 0
+WithAnyList i bs r q = (k : List Float) → NoneHolds (conditions i (length k)) → resumeFrom (startOf i k) (startedList i k) bs .reply ≡ resume.Resumed r q
+
 -- Whatever it gives back is the record of a plain book, no seed waiting, with all that E13 says of it; and demand 3 holds of the calls that follow.
 pub record ResumedRun (i : Inputs) (l : List Float) (bs : List ℕ) (r : Run) (q : Report) (m : List Float) : Type 0 where
   pub book : Book
@@ -125,6 +129,8 @@ module _ (i : Inputs) (l : List Float) (r : Run) (m : List Float) (held : List �
     pub says : Report
     pub list : List Float
     pub gives-run : GivesRun i l (take at file) run says list
+    -- and whichever list is lent: the same run, the same report
+    pub any-list : WithAnyList i (take at file) run says
     pub lines-are : says .lines ≡ run .place .number
     -- only a part of the line that the cut fell in is lost, and nothing where it fell behind a newline
     pub part : List ℕ

@@ -1,5 +1,5 @@
 -- The exported calls are the walk's, and so the book's. Assumes nothing.
-use Prim.Native.Nat.{ℕ, _≤_}
+use Prim.Native.Nat.{ℕ, suc, _≤_}
 use native.Mathlib.Omega.{arith}
 use mathlib.Core.Path.{_≡_, refl, ap, _∙_}
 use mathlib.Core.Bool.{Bool, true, false, cond, true≢false}
@@ -26,7 +26,7 @@ use Rattle.search_calls.specs.declared.next.Handed.the-variants as handed
 use Rattle.search_calls.specs.Next.{nextRefusal, nextDef, seedLent, seedPart}
 use Rattle.search_answer.specs.declared.Answered.{Answered}
 use Rattle.search_answer.specs.declared.Answered.the-variants as answered
-use Rattle.search_answer.specs.Answer.{answerRefusal, enterDef, answerDef, replyOf}
+use Rattle.search_answer.specs.Answer.{answerRefusal, enterDef, outcomeFor, answerDef, replyOf}
 use Rattle.search_calls.specs.declared.progress.ProgressReply.{ProgressReply}
 use Rattle.search_calls.specs.Result.{resultRefusal, resultDef}
 use Rattle.search_calls.specs.Progress.{progressDef}
@@ -34,23 +34,34 @@ use Rattle.search_calls.specs.declared.stop.Outlook.{Outlook}
 use Rattle.search_calls.specs.declared.stop.Stopped.the-variants.{Standing}
 use Rattle.search_calls.specs.Stop.{bestSoFar, leftSeeds, nothingLeft, outlookOf, stopDef}
 use Rattle.search_calls.specs.Last.{hasLine, recordedIn, lastDef}
+use Rattle.journal_replay.specs.declared.Stop.{Stop}
+use Rattle.journal_replay.specs.declared.Stop.the-variants.{AllTaken, NotOfForm, NotTheRun}
+use Rattle.journal_replay.specs.declared.Replayed.{Replayed}
+use Rattle.journal_replay.specs.declared.EndedBy.{EndedBy}
+use Rattle.journal_replay.specs.declared.EndedBy.the-variants as by
+use Rattle.journal_replay.specs.declared.Report.{Report}
+use Rattle.journal_replay.specs.declared.Resumed.{Resumed}
+use Rattle.journal_replay.specs.declared.Resumed.the-variants as resume
+use Rattle.journal_replay.specs.Replay.{replyBy, ReplayLeft, replayFrom}
+use Rattle.journal_replay.specs.Resume.{ResumeLeft, resumeFrom}
 use Rattle.capi_records.specs.Record.{flagOf, flatRun}
 use Rattle.capi_records.specs.RoundTrip.{set-flag, run-back}
 use Rattle.capi_records.specs.Run.{flatStarted, flatHanded, flatNext, flatAnswered, flatAnswer, flatResult, flatStopped, flatLastLine, findingOf, copied, copyCount}
-use Rattle.capi_records.specs.Replay.{flatResumed}
-use Rattle.book.specs.Book.{Inputs, replies}
+use Rattle.capi_records.specs.Replay.{flatReplayed, endedNumber, flatResumed}
+use Rattle.book.specs.Book.{Inputs, Book, runBest, replies}
 use Rattle.book.specs.Calls.{Reply, part}
 use Rattle.book.specs.Walk.{Step, handedReply, answeredReply, resultedReply, progressReply, stoppedReply, lastReply, runCall, walk}
 use Rattle.book.specs.Theorem.{optionsOf, startOf, startedList}
+use Rattle.book.proofs.Cases.{case-chosen}
 use Rattle.book.proofs.RunOf.{runOf}
 use Rattle.book.proofs.Theorem.{search-is-book}
-use Rattle.book_journal.specs.Replay.{startNumber, walked}
-use Rattle.book_journal.specs.Resume.{resumeOf}
+use Rattle.book_journal.specs.Replay.{startNumber, walked, standing, replayOf}
+use Rattle.book_journal.specs.Resume.{reportOn, resumeOf}
 use Rattle.book_journal.proofs.Theorem.{journals-right}
 use Rattle.book_replay.specs.Theorem.{withRecord}
 use Rattle.book_replay.proofs.Theorem.{replay-right}
-use Rattle.capi_book.specs.Exported.{Exported, jc-next, jc-seed, jc-answer, jc-result, jc-progress, jc-stop, jc-last-line, jc-counts, callOf, readNext, readAnswer, readResult, readProgress, readStop, readLast, FlatStep, flatCall, flatWalk}
-use Rattle.capi_book.specs.Theorem.{ExportedIsWalk, ExportedIsBook, ExportedReplays, ExportedResumes}
+use Rattle.capi_book.specs.Exported.{Exported, jc-next, jc-seed, jc-answer, jc-result, jc-progress, jc-stop, jc-last-line, jc-counts, callOf, readNext, readAnswer, readResult, readProgress, readStop, readLast, readReplay, readEnded, readReport, readResume, FlatStep, flatCall, flatWalk}
+use Rattle.capi_book.specs.Theorem.{startWith, flatStartList, ExportedStarts, ExportedIsWalk, ExportedIsBook, ExportedReplays, ExportedGivesBack, ExportedResumes}
 
 -- ---- the record in a reply
 next-run : (h : Handed) (r : Run) → flatHanded h r .run ≡ flatRun r
@@ -111,7 +122,7 @@ outcome-read share f sensor center rows flags r = go (outcomeOf share f sensor c
 
 answer-read : (r : Run) (f : Finding) (rows : List Float) (flags : List ℕ) (l : List Float)
     → readAnswer (flatAnswer (answerDef r f rows flags l .reply)) ≡ answeredReply (answerDef r f rows flags l .reply .reply)
-unfolding answerDef
+unfolding answerDef outcomeFor
 answer-read r f rows flags l =
     let t = r .waiting .seed .sensor in
     let share = r .options .«min_counted» in
@@ -182,14 +193,66 @@ accepted : (i : Inputs) (l : List Float) → flatStarted (startOf i l) .number �
 unfolding startReply
 accepted i l h = (_, accepts (startRefusal (i .views) (optionsOf i) (i .xs) (i .ys) (i .decomposition) (length l)) _ h)
 
+pub exported-starts : ExportedStarts
+exported-starts i o l e =
+    let s = search-is-book i l .starts in (
+      (λ n h. let r = s .refuses-all n h in (rw (e, r) refl, rw e (s .leaves-list n r))),
+      (λ h. rw (e, s .accepts-others h .1) refl),
+    )
+
 pub exported-is-book : ExportedIsBook
 exported-is-book i o l e h cs =
     let a = accepted i l (rw e at h) in
     rw (e, a .1) (exported-is-walk (a .0) (startedList i l) cs ∙ search-is-book i l .follows (a .0) (a .1) (map callOf cs) .same-replies)
 
--- ---- a journal run again
+-- ---- a journal run again: no refusal has the number 0, and neither has a line
+standing-read : (b : Book) → readReplay (flatReplayed (standing b)) ≡ standing b
+unfolding standing
+standing-read b = case (b .over) (λ o. case-chosen (runBest b) (λ e. simp (o, e)) (λ w e. simp (o, e))) (λ o. simp o)
+
+reply-read : (s : Stop) (n : ℕ) (a : Replayed) → readReplay (flatReplayed a) ≡ a → readReplay (flatReplayed (replyBy s n a)) ≡ replyBy s n a
+reply-read AllTaken n a h = h
+reply-read NotOfForm n a h = simp (ne-eqb (suc n) 0 (λ z. omega arith))
+reply-read NotTheRun n a h = simp (ne-eqb (suc n) 0 (λ z. omega arith))
+
+replay-read : (i : Inputs) (l : List Float) (bs : List ℕ) → readReplay (flatReplayed (replayOf i l bs .reply)) ≡ replayOf i l bs .reply
+unfolding replayOf
+replay-read i l bs =
+    let w = walked i l bs in
+    case (eqb (startNumber i (length l)) 0) (λ z. simp z (reply-read (w .stop) (w .taken) (standing (w .book)) (standing-read (w .book)))) (λ z. simp z)
+
+replayed-as : (a b : ReplayLeft) → a ≡ b → readReplay (flatReplayed (b .reply)) ≡ b .reply → record { reply = readReplay (flatReplayed (a .reply)); list = a .list } ≡ b
+replayed-as a b e h = rw e (ap (λ (x : Replayed). record { reply = x; list = b .list }) h)
+
 pub exported-replays : ExportedReplays
-exported-replays i o l bs e = rw e (replay-right .replay-is-book i l bs)
+exported-replays i o l bs e =
+    replayed-as (replayFrom (startWith i o l) (flatStartList i o l) bs) (replayOf i l bs) (rw e (replay-right .replay-is-book i l bs)) (replay-read i l bs)
+
+-- ---- a run given back, and its report
+ended-read : (x : EndedBy) → readEnded (endedNumber x) ≡ x
+ended-read by.Nothing = refl
+ended-read by.MissingNewline = refl
+ended-read by.NotOfForm = refl
+ended-read by.NotTheRun = refl
+
+report-read : (r : Run) (q : Report) → readReport (flatResumed (resume.Resumed r q)) ≡ q
+report-read r q = rw (ended-read (q .«ended_by»)) refl
+
+resume-read : (i : Inputs) (l : List Float) (bs : List ℕ) → readResume (flatResumed (withRecord (resumeOf i l bs) .reply)) ≡ withRecord (resumeOf i l bs) .reply
+unfolding resumeOf
+resume-read i l bs =
+    let w = walked i l bs in
+    let r = runOf (w .book) in
+    case (eqb (startNumber i (length l)) 0)
+    (λ z. simp z (rw (run-back r, report-read r (reportOn bs w)) refl))
+    (λ z. simp z)
+
+resumed-as : (a b : ResumeLeft) → a ≡ b → readResume (flatResumed (b .reply)) ≡ b .reply → record { reply = readResume (flatResumed (a .reply)); list = a .list } ≡ b
+resumed-as a b e h = rw e (ap (λ (x : Resumed). record { reply = x; list = b .list }) h)
+
+pub exported-gives-back : ExportedGivesBack
+exported-gives-back i o l bs e =
+    resumed-as (resumeFrom (startWith i o l) (flatStartList i o l) bs) (withRecord (resumeOf i l bs)) (rw e (replay-right .resume-is-book i l bs)) (resume-read i l bs)
 
 -- ---- after Resume: its reply has the number 0 only where Start refuses nothing
 resume-walk : (i : Inputs) (l : List Float) (bs : List ℕ) (cs : List Exported) → flatResumed (withRecord (resumeOf i l bs) .reply) .number ≡ 0

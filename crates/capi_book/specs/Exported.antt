@@ -15,12 +15,21 @@ use Rattle.search_calls.specs.Progress.{progressDef}
 use Rattle.search_calls.specs.Stop.{stopDef}
 use Rattle.search_calls.specs.Last.{lastDef}
 use Rattle.search_calls.specs.Counts.{countsDef}
+use Rattle.journal_replay.specs.declared.Replayed.{Replayed}
+use Rattle.journal_replay.specs.declared.Replayed.the-variants as replayed
+use Rattle.journal_replay.specs.declared.EndedBy.{EndedBy}
+use Rattle.journal_replay.specs.declared.EndedBy.the-variants as by
+use Rattle.journal_replay.specs.declared.Report.{Report}
+use Rattle.journal_replay.specs.declared.Resumed.{Resumed}
+use Rattle.journal_replay.specs.declared.Resumed.the-variants as resumed
 use Rattle.capi_records.specs.declared.record.LastRecord.{LastRecord}
 use Rattle.capi_records.specs.declared.record.RunRecord.{RunRecord}
 use Rattle.capi_records.specs.declared.run.NextFlat.{NextFlat}
 use Rattle.capi_records.specs.declared.run.AnswerFlat.{AnswerFlat}
 use Rattle.capi_records.specs.declared.run.ResultFlat.{ResultFlat}
 use Rattle.capi_records.specs.declared.run.StopFlat.{StopFlat}
+use Rattle.capi_records.specs.declared.replay.ReplayFlat.{ReplayFlat}
+use Rattle.capi_records.specs.declared.replay.ResumeFlat.{ResumeFlat}
 use Rattle.capi_records.specs.Journal.{lineFrom}
 use Rattle.capi_records.specs.Record.{isSet, runFrom}
 use Rattle.capi_records.specs.Run.{flatNext, flatAnswer, flatResult, flatStopped, flatLastLine, findingOf, copied, copyCount}
@@ -72,6 +81,23 @@ readStop f =
 
 abbrev pub readLast : LastRecord → Reply
 readLast f = cond (eqb (f .found) 0) noLine (line (lineFrom (f .line)))
+
+-- of jc_replay's record (02, E5): with a number also the line's, if there is one
+abbrev pub readReplay : ReplayFlat → Replayed
+readReplay f =
+    cond (eqb (f .number) 0)
+    (cond (eqb (f .«is_over») 0) (replayed.Unfinished (f .next)) (replayed.Winner (f .candidate) (f .score)))
+    (cond (eqb (f .«line_number») 0) (replayed.Refused (f .number)) (replayed.RefusedAt (f .number) (f .«line_number»)))
+
+-- of jc_resume's (02, E13): the run and the report
+abbrev pub readEnded : ℕ → EndedBy
+readEnded n = cond (eqb n 0) by.Nothing (cond (eqb n 1) by.MissingNewline (cond (eqb n 29) by.NotOfForm by.NotTheRun))
+
+abbrev pub readReport : ResumeFlat → Report
+readReport f = record { lines = f .lines; kept = f .kept; dropped = f .dropped; «ended_by» = readEnded (f .«ended_by») }
+
+abbrev pub readResume : ResumeFlat → Resumed
+readResume f = cond (eqb (f .number) 0) (resumed.Resumed (runFrom (f .run)) (readReport f)) (resumed.Refused (f .number))
 
 -- ---- what is read of a call, and the record and the whole seed list after it
 pub record FlatStep : Type 0 where

@@ -15,7 +15,7 @@ use Rattle.seed_rules.specs.Layout.{laid, readFrom}
 use Rattle.score_camera.specs.Camera.{damped, finiteIntrinsics, finiteDistortion, validCamera}
 use Rattle.score_camera.specs.Penalties.{distortionPenalty, tiltPenalty, centrePenalty, scoreOf}
 use Rattle.score_rows.specs.Rows.{rowsOf, tiltMatrix, projected, rowError, isCounted, countedErrors, summed, errorSum, meanOf}
-use Rattle.score_outcome.specs.Evaluation.{anyAboveOne, solvedRefusal, findingRefusal, trigOf, errorsWith, meanWith, enough, enoughWith, scoringOf, evaluated, outcomeOf}
+use Rattle.score_outcome.specs.Evaluation.{anyAboveOne, solvedRefusal, findingRefusal, trigOf, errorsWith, meanWith, enough, enoughWith, scoringOf, scoredAs, evaluated, outcomeOf}
 use Rattle.score_best.specs.Best.{beats, unbeaten, firstUnbeaten, bestOf, noBest, isBetter, improved}
 use Rattle.score_floor.specs.Floor.{countedPenalty, floorOf}
 use Rattle.journal_line.specs.Counts.{countIn}
@@ -41,5 +41,5 @@ pub record OnBook : Type 0 where
   pub few-counted : replies (opened (fewInputs 34)) fewCalls ≡ fewReplies
 
 pub on-book : OnBook
-unfolding coefficientOf hornerOf seriesOf beyondHalf trigOf every absOf isFinite minOf maxOf clampOf rootIn isqrt rootOf root productOf firstOther secondOther minorOf cofactorOf determinantOf inverseOf tiltProjectionMatrix tiltVerdict forwardDepth inverseDepth applyHomography applyHomographyInverse radialFactor tangentialX tangentialY distorted jacobianRadial radialDerivative jacobianAt keep hasNear push mergedInto closer tiltNear cameraNear near within inBound pairs seedGrid initialList offsets yOffsets nextList laid readFrom damped finiteIntrinsics finiteDistortion validCamera distortionPenalty tiltPenalty centrePenalty scoreOf rowsOf tiltMatrix projected rowError isCounted countedErrors summed errorSum meanOf anyAboveOne solvedRefusal findingRefusal errorsWith meanWith enough enoughWith scoringOf evaluated outcomeOf beats unbeaten firstUnbeaten bestOf noBest isBetter improved demand scoredOf roundBest runBest stepOf firstList listAround opened withWaiting withEntry withRound withEnd closeRound bookEnter bookNext bookSeed bookAnswer bookResult bookProgress restOf bookStop bookCall replies countedPenalty floorOf add sub mul div neg lt le eq isNan ofBits ofInt sum round units odd size span climb countIn tally bookCounts
+unfolding coefficientOf hornerOf seriesOf beyondHalf trigOf every absOf isFinite minOf maxOf clampOf rootIn isqrt rootOf root productOf firstOther secondOther minorOf cofactorOf determinantOf inverseOf tiltProjectionMatrix tiltVerdict forwardDepth inverseDepth applyHomography applyHomographyInverse radialFactor tangentialX tangentialY distorted jacobianRadial radialDerivative jacobianAt keep hasNear push mergedInto closer tiltNear cameraNear near within inBound pairs seedGrid initialList offsets yOffsets nextList laid readFrom damped finiteIntrinsics finiteDistortion validCamera distortionPenalty tiltPenalty centrePenalty scoreOf rowsOf tiltMatrix projected rowError isCounted countedErrors summed errorSum meanOf anyAboveOne solvedRefusal findingRefusal errorsWith meanWith enough enoughWith scoringOf scoredAs evaluated outcomeOf beats unbeaten firstUnbeaten bestOf noBest isBetter improved demand scoredOf roundBest runBest stepOf firstList listAround opened withWaiting withEntry withRound withEnd closeRound bookEnter bookNext bookSeed bookAnswer bookResult bookProgress restOf bookStop bookCall replies countedPenalty floorOf add sub mul div neg lt le eq isNan ofBits ofInt sum round units odd size span climb countIn tally bookCounts
 on-book = record { empty = refl; failed = refl; whole = refl; first-lost = refl; between-lost = refl; asked = refl; all-lost = refl; one-axis = refl; enough-counted = refl; few-counted = refl }

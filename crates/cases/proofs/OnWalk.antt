@@ -16,13 +16,13 @@ use Rattle.seed_rules.specs.Layout.{laid, readFrom}
 use Rattle.score_camera.specs.Camera.{damped, finiteIntrinsics, finiteDistortion, validCamera}
 use Rattle.score_camera.specs.Penalties.{distortionPenalty, tiltPenalty, centrePenalty, scoreOf}
 use Rattle.score_rows.specs.Rows.{rowsOf, tiltMatrix, projected, rowError, isCounted, countedErrors, summed, errorSum, meanOf}
-use Rattle.score_outcome.specs.Evaluation.{anyAboveOne, solvedRefusal, findingRefusal, trigOf, errorsWith, meanWith, enough, enoughWith, scoringOf, evaluated, outcomeOf}
+use Rattle.score_outcome.specs.Evaluation.{anyAboveOne, solvedRefusal, findingRefusal, trigOf, errorsWith, meanWith, enough, enoughWith, scoringOf, scoredAs, evaluated, outcomeOf}
 use Rattle.score_best.specs.Best.{beats, unbeaten, firstUnbeaten, bestOf, noBest, isBetter, improved}
 use Rattle.journal_line.specs.Report.{total}
 use Rattle.search_record.specs.Record.{hasPlace, addUp, sound, awaiting, withOutcome, entered, nextStep, roundOpened, ended}
 use Rattle.search_start.specs.Start.{goodSeed, onlyZero, tooMany, demandOf, openingOf, startReply, startList}
 use Rattle.search_calls.specs.Next.{nextDef, seedLent, seedPart}
-use Rattle.search_answer.specs.Answer.{nextSeeds, closeRound, enterDef, answerDef}
+use Rattle.search_answer.specs.Answer.{nextSeeds, closeRound, enterDef, outcomeFor, answerDef}
 use Rattle.search_calls.specs.declared.result.Resulted.the-variants.{Result, Refused}
 use Rattle.search_calls.specs.Result.{resultDef}
 use Rattle.search_calls.specs.Progress.{progressDef}
@@ -60,5 +60,5 @@ pub record OnWalk : Type 0 where
   pub whole-result : resultDef (runAfter wholeRun (startedList wholeInputs sixty) wholeCalls) ≡ Result wholeWinner
 
 pub on-walk : OnWalk
-unfolding coefficientOf hornerOf seriesOf beyondHalf trigOf every absOf isFinite minOf maxOf clampOf rootIn isqrt rootOf root productOf firstOther secondOther minorOf cofactorOf determinantOf inverseOf tiltProjectionMatrix tiltVerdict forwardDepth inverseDepth applyHomography applyHomographyInverse radialFactor tangentialX tangentialY distorted jacobianRadial radialDerivative jacobianAt keep hasNear push mergedInto closer tiltNear cameraNear near within inBound pairs seedGrid initialList untiltedY offsets yOffsets nextList laid readFrom damped finiteIntrinsics finiteDistortion validCamera distortionPenalty tiltPenalty centrePenalty scoreOf rowsOf tiltMatrix projected rowError isCounted countedErrors summed errorSum meanOf anyAboveOne solvedRefusal findingRefusal errorsWith meanWith enough enoughWith scoringOf evaluated outcomeOf beats unbeaten firstUnbeaten bestOf noBest isBetter improved hasPlace sound awaiting withOutcome entered nextStep roundOpened ended goodSeed onlyZero tooMany demandOf openingOf startReply startList nextDef seedLent seedPart nextSeeds closeRound enterDef answerDef resultDef progressDef leftSeeds bestSoFar outlookOf stopDef countedPenalty floorOf seedsFrom runCall walk runAfter add sub mul div neg lt le eq isNan ofBits ofInt sum round units odd size span climb total addUp countsDef
+unfolding coefficientOf hornerOf seriesOf beyondHalf trigOf every absOf isFinite minOf maxOf clampOf rootIn isqrt rootOf root productOf firstOther secondOther minorOf cofactorOf determinantOf inverseOf tiltProjectionMatrix tiltVerdict forwardDepth inverseDepth applyHomography applyHomographyInverse radialFactor tangentialX tangentialY distorted jacobianRadial radialDerivative jacobianAt keep hasNear push mergedInto closer tiltNear cameraNear near within inBound pairs seedGrid initialList untiltedY offsets yOffsets nextList laid readFrom damped finiteIntrinsics finiteDistortion validCamera distortionPenalty tiltPenalty centrePenalty scoreOf rowsOf tiltMatrix projected rowError isCounted countedErrors summed errorSum meanOf anyAboveOne solvedRefusal findingRefusal errorsWith meanWith enough enoughWith scoringOf scoredAs evaluated outcomeOf beats unbeaten firstUnbeaten bestOf noBest isBetter improved hasPlace sound awaiting withOutcome entered nextStep roundOpened ended goodSeed onlyZero tooMany demandOf openingOf startReply startList nextDef seedLent seedPart nextSeeds closeRound enterDef outcomeFor answerDef resultDef progressDef leftSeeds bestSoFar outlookOf stopDef countedPenalty floorOf seedsFrom runCall walk runAfter add sub mul div neg lt le eq isNan ofBits ofInt sum round units odd size span climb total addUp countsDef
 on-walk = record { empty = refl; failed = refl; whole = refl; first-lost = refl; between-lost = refl; asked = refl; all-lost = refl; one-axis = refl; enough-counted = refl; few-counted = refl; all-asked = refl; more-asked = refl; all-lost-result = refl; one-axis-result = refl; whole-result = refl }
