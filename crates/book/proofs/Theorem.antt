@@ -1,5 +1,5 @@
 -- The theorem about every list of calls. Assumes nothing.
-use Prim.Native.Nat.{ℕ, suc, _≤_, _<_}
+use Prim.Native.Nat.{ℕ, suc, _≤_}
 use native.Mathlib.Omega.{arith}
 use mathlib.Core.Path.{_≡_, refl, sym, ap, subst, _∙_}
 use mathlib.Core.Logic.{_⊎_, ⊎-elim}
@@ -27,7 +27,7 @@ use Rattle.search_answer.specs.Answer.{answerRefusal}
 use Rattle.search_calls.specs.Result.{resultDef}
 use Rattle.book.specs.Calls.{Call}
 use Rattle.book.specs.Book.{Inputs, demand, Entry, Book, entries, current, runBest, opened, after}
-use Rattle.book.specs.Trace.{Handing, tiltY, handedInRound, handed, handingOf, allHanded, listAfter}
+use Rattle.book.specs.Trace.{Handing, tiltY, PlusZeroLater, handedInRound, handed, handingOf, allHanded, listAfter}
 use Rattle.book.specs.Named.{outcomesIn, handings}
 use Rattle.book.specs.Lent.{through}
 use Rattle.book.specs.Theorem.{startedList, NoNan, Over, ByBook, Ends, SearchIsBook}
@@ -117,6 +117,9 @@ handed-seeded i b g =
     (waiting-all (HandedSeed (b .inputs)) b (λ w. (current b, refl, current-seeded b (g .core) (g .room (waits-going i b g w)))))
 
 -- ---- while a seed waits
+later-plus : (i : Inputs) → i .one-axis ≡ true → (h : Handing) → HandedSeed i h → PlusZeroLater h
+later-plus i one h p = rw (p .1) (p .2 .later one)
+
 answer-open : (i : Inputs) (b : Book) (l : List Float) → State i b l → runOf b .waiting .«is_waiting» ≡ true
     → (f : Finding) (rows : List Float) (flags : List ℕ) → (f ≡ Failed) ⊎ (firstRefusal (rowChecks rows flags) ≡ 0) → answerRefusal (runOf b) (length l) f rows flags ≡ 0
 answer-open i b l s w f rows flags k =
@@ -154,7 +157,7 @@ follows i b l cs q t =
           rw (same, out ∙ over-handed c (g .calm o)) (all-tried i c g o x y mx my lx hx ly hy);
       few-later = λ k. rw out (subst (λ (j : Inputs). length (handedInRound (suc k) (handedIn c)) ≤ mostSeeds (j .one-axis)) (g .inputs-are) (handed-few i c g k));
       untilted = λ one. rw out (all-map (HandedSeed i) (λ h. eq (tiltY h) plusZero ≡ true) (λ h p. rw (p .1) (unfold untiltedY in p .2 .untilted one)) (handedIn c) seeded);
-      later-untilted = λ one. rw out (all-map (HandedSeed i) (λ h. 0 < h .round → tiltY h ≡ plusZero) (λ h p. rw (p .1) (p .2 .later one)) (handedIn c) seeded);
+      later-untilted = λ one. rw out (all-map (HandedSeed i) PlusZeroLater (later-plus i one) (handedIn c) seeded);
       few-answers = rw same (count-bound i c g);
       answer-accepted = rw (w .run-is) (answer-open i c (listAfter (runOf b) l cs) (w .state));
       later-round = rw (w .run-is, same, progress-is i c g) (later-round i c g);

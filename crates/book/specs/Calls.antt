@@ -1,4 +1,4 @@
--- The calls that follow Start, and their replies by 01's numbers. Definitions only.
+-- The calls that follow Start, and their replies by 01's and 02's numbers. Definitions only.
 use Prim.Native.Nat.{ℕ}
 use mathlib.Core.Bool.{Bool}
 use mathlib.Core.List.{List}
@@ -33,6 +33,7 @@ pub data Rest : Type 0 where
   nothing-left : Rest
   floor : Float → Bool → Rest
 
+-- Next's candidate and Over (01's terms), the seed call's part, Answer's Scored and Skipped, Result's winner, the replies of 02's calls, and a refusal's number
 pub data Reply : Type 0 where
   candidate : ℕ → Reply
   over : Reply

@@ -1,4 +1,4 @@
--- Calls that are handed the run as the calls before left it, and any list at all. (The seed call and Result return no run.) Definitions only.
+-- Calls that are handed the run as the calls before left it, and any list at all. (The other calls return no run.) Definitions only.
 use Prim.Native.Nat.{ℕ, _+_, _-_, _*_, _≤_}
 use mathlib.Core.Path.{_≡_}
 use mathlib.Core.Bool.{cond}

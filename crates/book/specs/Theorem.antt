@@ -41,7 +41,7 @@ use Rattle.book.specs.Calls.{Call}
 use Rattle.book.specs.Book.{Inputs, demand, Entry, Book, entries, scoredOf, firstList, opened, replies, after}
 use Rattle.book.specs.Conditions.{FirstHolds, NoneHolds, conditions}
 use Rattle.book.specs.Walk.{walk}
-use Rattle.book.specs.Trace.{Handing, tiltY, handedInRound, allHanded, allAnswers, runAfter, listAfter}
+use Rattle.book.specs.Trace.{Handing, tiltY, PlusZeroLater, handedInRound, allHanded, allAnswers, runAfter, listAfter}
 use Rattle.book.specs.Named.{outcomesIn, handings}
 use Rattle.book.specs.Rounds.{LaterRound}
 use Rattle.book.specs.Share.{Rests}
@@ -99,7 +99,7 @@ pub record TiltTried (i : Inputs) (hs : List Handing) (es : List Entry) (t : Sch
   pub handed-out : List·Memᴰ (record { round = 0; number = number; part = six (by .seed) }) hs
   pub answered : List·Memᴰ (record { number = number; round = 0; seed = by .seed; outcome = outcome }) es
 
--- the run is over: Result gives a result, or 11
+-- the run is over, as 01's 14 means it: Result gives a result, or 11. (01's Over is Next's reply, where there is a result.)
 abbrev pub Over : Run → Type 0
 Over r = ((w : Candidate) × (resultDef r ≡ Result w)) ⊎ (resultDef r ≡ resulted-as.Refused 11)
 
@@ -125,7 +125,7 @@ pub record ByBook (i : Inputs) (b : Book) (kept : List Entry) (r : Run) (l : Lis
   -- A later round hands out at most nine seeds, and at most three in a one-axis run; there the tilt about y is a zero, and +0 in later rounds.
   pub few-later : (k : ℕ) → length (handedInRound (suc k) (allHanded kept r l cs)) ≤ mostSeeds (i .one-axis)
   pub untilted : i .one-axis ≡ true → All (λ h. eq (tiltY h) plusZero ≡ true) (allHanded kept r l cs)
-  pub later-untilted : i .one-axis ≡ true → All (λ h. 0 < h .round → tiltY h ≡ plusZero) (allHanded kept r l cs)
+  pub later-untilted : i .one-axis ≡ true → All PlusZeroLater (allHanded kept r l cs)
   -- at most 656 answers are accepted
   pub few-answers : length (allAnswers kept r l cs) ≤ 656
   -- where a seed waits Answer takes Failed, and Solved with rows that 13 doesn't refuse: 27 comes from a changed list alone
@@ -156,7 +156,7 @@ pub record Ends (i : Inputs) (before : ℕ) (r : Run) (cs : List Lent) (s : Run)
   -- a host whose answers are accepted reaches the end
   pub reaches-end : (ts : List Turn) → AllTaken i s ts → stillLeft s ≤ length ts → through s (turns ts) .place .over ≡ true
 
--- ---- Start refuses just where one of 01's conditions holds, with the first one's number, and leaves the list as it was; it accepts all else
+-- ---- Start refuses just where one of 01's or 02's conditions holds, with the first one's number, and leaves the list as it was; it accepts all else
 pub record Starts (i : Inputs) (l : List Float) : Type 0 where
   pub refuses-rightly : (n : ℕ) → startOf i l ≡ Refused n → FirstHolds (conditions i (length l)) n
   pub refuses-all : (n : ℕ) → FirstHolds (conditions i (length l)) n → startOf i l ≡ Refused n

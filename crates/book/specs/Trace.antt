@@ -1,5 +1,6 @@
 -- What a walk hands out and what it accepts, read off the entry points' definitions alone. Definitions only.
-use Prim.Native.Nat.{ℕ}
+use Prim.Native.Nat.{ℕ, _<_}
+use mathlib.Core.Path.{_≡_}
 use mathlib.Core.Bool.{cond}
 use mathlib.Core.List.{List, [], _∷_, _++_, map}
 use lib.Dec.{eqb}
@@ -8,6 +9,7 @@ use lib.Ieee.{Float, nan}
 use Rattle.seed_rules.specs.Merge.{keep}
 use Rattle.seed_rules.specs.Layout.{six}
 use Rattle.score_outcome.specs.Evaluation.{outcomeOf}
+use Rattle.float.specs.Literals.{plusZero}
 use Rattle.search_record.specs.declared.run.Run.{Run}
 use Rattle.search_calls.specs.declared.next.Handed.{Handed}
 use Rattle.search_calls.specs.declared.next.Handed.the-variants.{Candidate, Over, Refused}
@@ -26,6 +28,10 @@ pub record Handing : Type 0 where
 -- the last of the seed's six numbers, and those that a round handed out
 abbrev pub tiltY : Handing → Float
 tiltY h = getD (h .part) 5 nan
+
+-- from round 1 on the tilt about y is +0
+abbrev pub PlusZeroLater : Handing → Type 0
+PlusZeroLater h = 0 < h .round → tiltY h ≡ plusZero
 
 unfoldable pub handedInRound : ℕ → List Handing → List Handing
 handedInRound k hs = keep (λ h. eqb (h .round) k) hs

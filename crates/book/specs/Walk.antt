@@ -27,7 +27,7 @@ use Rattle.search_calls.specs.declared.last.LastLine.the-variants as lastline
 use Rattle.search_calls.specs.Last.{lastDef}
 use Rattle.search_calls.specs.Counts.{countsDef}
 
--- ---- the entry points' replies, by 01's numbers
+-- ---- the entry points' replies, by 01's and 02's numbers
 abbrev pub handedReply : Handed → Reply
 handedReply (handed.Candidate n) = candidate n
 handedReply handed.Over = over

@@ -124,7 +124,12 @@ fn is_enough(share: usize, counted: u64, all: usize) -> bool
 }
 
 // The outcome of a camera with a finite mean error.
-fn scored_outcome(mean: f64, camera: PinholeCamera, sensor: ScheimpflugParams, center: Pt2) -> Outcome
+fn scored_outcome(
+    mean: f64,
+    camera: PinholeCamera,
+    sensor: ScheimpflugParams,
+    center: Pt2,
+) -> Outcome
     ensures { λ r. ⌜ r ≡ scoredAs (record { camera = camera; mean = mean; score = scoreOf mean camera sensor center }) ⌝ }
 {
     let score = candidate_score(mean, camera, sensor, center);
