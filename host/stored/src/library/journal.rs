@@ -119,3 +119,41 @@ pub(super) fn damaged_line(r: &mut Reader) -> Answer {
     }
     Ok(words.to_vec())
 }
+
+#[cfg(test)]
+mod tests {
+    use super::{Fault, is_read, written};
+
+    #[test]
+    fn buffers_are_looked_at() {
+        let two = |to: &mut [u8]| {
+            to[..2].copy_from_slice(b"ab");
+            Ok(2)
+        };
+        assert_eq!(written(4, two), Ok(vec![0, 2, 97, 98]));
+        assert_eq!(written(4, |_| Err(28)), Ok(vec![28]));
+        type Write = fn(&mut [u8]) -> Result<usize, u8>;
+        let wrong: [Write; 3] = [
+            |to| {
+                to[3] = 0;
+                Ok(2)
+            },
+            |to| {
+                to[0] = 0;
+                Err(28)
+            },
+            |_| Ok(5),
+        ];
+        for write in wrong {
+            assert!(matches!(written(4, write), Err(Fault::Wrong(_))));
+        }
+        assert!(matches!(written(513, |_| Ok(0)), Err(Fault::Malformed(_))));
+    }
+
+    #[test]
+    fn a_refusal_has_its_lines_number() {
+        assert_eq!(is_read(b"no line\n", 0, 0), Ok(false));
+        assert!(is_read(b"no line\n", 0, 1).is_err());
+        assert!(is_read(b"", 0, 0).is_err());
+    }
+}

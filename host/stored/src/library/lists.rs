@@ -11,6 +11,9 @@ pub(super) const UNTOUCHED: f64 = f64::from_bits(0x1234_5678_9abc_def0);
 /// What follows the written list in an answer; or the refusal's number.
 type Reply = Result<Words, u8>;
 
+/// The written list too.
+type Written = Result<(Words, Words), u8>;
+
 /// A list's inputs.
 pub(super) trait Writes: Sized {
     fn read(r: &mut Reader) -> Result<Self, String>;
@@ -21,8 +24,8 @@ pub(super) trait Writes: Sized {
     /// The library's call, with points and destinations of any number of numbers.
     fn by_numbers(&self, to: &mut [f64]) -> Reply;
 
-    /// The same by the crate's own function, where there are whole points alone: the list, and what follows it.
-    fn by_points(&self) -> Option<Result<(Words, Words), u8>>;
+    /// The same by the crate's own function, where there are whole points alone.
+    fn by_points(&self) -> Option<Written>;
 }
 
 /// inputs = 0, list, what follows it; or the refusal's number
@@ -51,10 +54,7 @@ fn is_untouched(numbers: &[f64]) -> bool {
 }
 
 /// Lends a destination with room to spare, with no room to spare, and with one number too few.
-fn lent(
-    len: usize,
-    operation: impl Fn(&mut [f64]) -> Reply,
-) -> Result<Result<(Words, Words), u8>, Fault> {
+fn lent(len: usize, operation: impl Fn(&mut [f64]) -> Reply) -> Result<Written, Fault> {
     let mut roomy = vec![UNTOUCHED; len + 5];
     let reply = operation(&mut roomy);
     let written = if reply.is_ok() { len } else { 0 };
@@ -82,15 +82,11 @@ fn reply(number: u8) -> Reply {
     if number == 0 { Ok(vec![]) } else { Err(number) }
 }
 
-/// As many points as are given, written by the crate's function.
-fn mapped<E>(
-    points: &[Pt2],
-    map: impl Fn(&[Pt2], &mut [Pt2]) -> Result<Words, E>,
-    number: impl Fn(E) -> u8,
-) -> Result<(Words, Words), u8> {
-    let mut to = points.to_vec();
-    let behind = map(points, &mut to).map_err(number)?;
-    Ok((points_words(&to), behind))
+/// As many points as the numbers make, written by the crate's function.
+fn mapped(numbers: &[f64], map: impl Fn(&[Pt2], &mut [Pt2]) -> Reply) -> Option<Written> {
+    let points = points(numbers)?;
+    let mut to = points.clone();
+    Some(map(&points, &mut to).map(|behind| (points_words(&to), behind)))
 }
 
 /// fx fy cx cy sin_x cos_x sin_y cos_y, points
@@ -113,11 +109,11 @@ impl Writes for Untilt {
         reply(raw::untilt_points(self.k, self.trig, &self.points, to))
     }
 
-    fn by_points(&self) -> Option<Result<(Words, Words), u8>> {
-        let map = |from: &[Pt2], to: &mut [Pt2]| {
-            geometry::untilt_points(self.k, self.trig, from, to).map(|()| vec![])
-        };
-        Some(mapped(&points(&self.points)?, map, |e| e.number()))
+    fn by_points(&self) -> Option<Written> {
+        mapped(&self.points, |from, to| {
+            let mapped = geometry::untilt_points(self.k, self.trig, from, to);
+            mapped.map(|()| vec![]).map_err(|e| e.number())
+        })
     }
 }
 
@@ -143,11 +139,11 @@ impl Writes for Ideal {
         reply(raw::ideal_points(self.camera, self.iters, self.trig, &self.points, to))
     }
 
-    fn by_points(&self) -> Option<Result<(Words, Words), u8>> {
-        let map = |from: &[Pt2], to: &mut [Pt2]| {
-            geometry::ideal_points(self.camera, self.iters, self.trig, from, to).map(|()| vec![])
-        };
-        Some(mapped(&points(&self.points)?, map, |e| e.number()))
+    fn by_points(&self) -> Option<Written> {
+        mapped(&self.points, |from, to| {
+            let mapped = geometry::ideal_points(self.camera, self.iters, self.trig, from, to);
+            mapped.map(|()| vec![]).map_err(|e| e.number())
+        })
     }
 }
 
@@ -170,12 +166,11 @@ impl Writes for Normalize {
         reply(t.number).map(|_| float_words(&[t.t00, t.t02, t.t12]))
     }
 
-    fn by_points(&self) -> Option<Result<(Words, Words), u8>> {
-        let map = |from: &[Pt2], to: &mut [Pt2]| {
-            let t = geometry::normalize_points_2d(from, to)?;
+    fn by_points(&self) -> Option<Written> {
+        mapped(&self.points, |from, to| {
+            let t = geometry::normalize_points_2d(from, to).map_err(|e| e.number())?;
             Ok(float_words(&[t.scale, t.offset_x, t.offset_y]))
-        };
-        Some(mapped(&points(&self.points)?, map, |e: jinnychair::NormalizeError| e.number()))
+        })
     }
 }
 
@@ -198,10 +193,58 @@ impl Writes for Rows {
         reply(raw::design_rows(&self.source, &self.destination, to))
     }
 
-    fn by_points(&self) -> Option<Result<(Words, Words), u8>> {
+    fn by_points(&self) -> Option<Written> {
         let (source, destination) = (points(&self.source)?, points(&self.destination)?);
         let mut to = vec![UNTOUCHED; self.len()];
         let rows = geometry::design_rows(&source, &destination, &mut to);
         Some(rows.map(|()| (float_words(&to), vec![])).map_err(|e| e.number()))
+    }
+}
+
+#[cfg(test)]
+mod tests {
+    use super::{Fault, Reply, lent};
+    use words::float_words;
+
+    type Spoil = fn(&mut [f64]);
+
+    /// A list of two numbers by a call that keeps to 01, but for what `spoil` does to the destination.
+    fn lent_to(spoil: Spoil, keeps_room: bool) -> Result<(), Fault> {
+        let call = |to: &mut [f64]| -> Reply {
+            spoil(to);
+            if keeps_room && to.len() < 2 {
+                return Err(18);
+            }
+            to.iter_mut().take(2).for_each(|number| *number = 1.5);
+            Ok(vec![7])
+        };
+        let reply = lent(2, call)?;
+        assert_eq!(reply, Ok((float_words(&[1.5, 1.5]), vec![7])));
+        Ok(())
+    }
+
+    #[test]
+    fn lent_memory_is_looked_at() {
+        assert_eq!(lent_to(|_| {}, true), Ok(()));
+        let wrong: [(Spoil, bool, &str); 3] = [
+            (|to| to[to.len() - 1] = 0.0, true, "a number beyond what is written changed"),
+            (|to| to[0] = 0.0, true, "too little room gives Err(18)"),
+            (|_| {}, false, "too little room gives Ok([7])"),
+        ];
+        for (spoil, keeps_room, said) in wrong {
+            assert_eq!(lent_to(spoil, keeps_room), Err(Fault::Wrong(said.into())));
+        }
+    }
+
+    #[test]
+    fn a_refusal_writes_nothing() {
+        let writes = |to: &mut [f64]| {
+            to[0] = 1.5;
+            Err(19)
+        };
+        assert!(matches!(lent(2, writes), Err(Fault::Wrong(_))));
+        let by_room = |to: &mut [f64]| if to.len() > 2 { Err(19) } else { Err(15) };
+        let said = "exact room gives Err(15), more room Err(19)";
+        assert_eq!(lent(2, by_room), Err(Fault::Wrong(said.into())));
     }
 }
