@@ -4,7 +4,6 @@ use crate::file::{Stored, case, counted, named};
 use crate::library::{Fault, Operation};
 use std::fmt::{Display, Formatter, Result as FmtResult};
 use std::path::Path;
-use words::line;
 
 /// How a file ends, and whether as it should.
 #[derive(Clone, Copy, Debug, PartialEq, Eq)]
@@ -132,22 +131,31 @@ fn compare_cases(operation: Operation, stored: Stored) -> Tally {
 }
 
 /// In what a case differs; nothing where the line, or its input, hasn't its form.
-fn compare_line(operation: Operation, text: &str) -> Option<Result<(), String>> {
-    let [input, output] = case(text)?;
-    Some(match operation.answer(&input) {
-        Ok(words) if are_same(&words, &output) => Ok(()),
-        Ok(words) => {
-            Err(format!("the library gives {}, and stored is {}", line(&words), line(&output)))
-        }
-        Err(Fault::Malformed(_)) => return None,
-        Err(Fault::Wrong(text)) => Err(text),
-    })
+fn compare_line(operation: Operation, line: &str) -> Option<Result<(), String>> {
+    let [input, output] = case(line)?;
+    match operation.answer(&input) {
+        Ok(words) => Some(compare_words(&words, &output)),
+        Err(Fault::Wrong(text)) => Some(Err(text)),
+        Err(Fault::Malformed(_)) => None,
+    }
 }
 
-/// Whether all words are the same, any two NaNs too.
-fn are_same(a: &[u64], b: &[u64]) -> bool {
+fn compare_words(library: &[u64], stored: &[u64]) -> Result<(), String> {
+    let mut pairs = library.iter().zip(stored).enumerate();
+    if let Some((i, (a, b))) = pairs.find(|(_, (a, b))| !is_same(**a, **b)) {
+        let place = i + 1;
+        return Err(format!("word {place} is {a:016x}, and {b:016x} is stored"));
+    }
+    match (library.len(), stored.len()) {
+        (given, expected) if given == expected => Ok(()),
+        (given, expected) => Err(format!("{given} words, and {expected} are stored")),
+    }
+}
+
+/// Whether two words are the same; any two NaNs are.
+fn is_same(a: u64, b: u64) -> bool {
     let is_nan = |word: u64| f64::from_bits(word).is_nan();
-    a.len() == b.len() && a.iter().zip(b).all(|(&a, &b)| a == b || is_nan(a) && is_nan(b))
+    a == b || is_nan(a) && is_nan(b)
 }
 
 #[cfg(test)]
@@ -198,11 +206,13 @@ mod tests {
         let wrong = roots().replace(ROOTS[3], "4010000000000000 = 4000000000000001\n");
         let said = compare_text(&wrong);
         assert_eq!(said.to_string(), "sqrt, 5 compared, 1 differ, first in case 4");
-        let difference = "the library gives 4000000000000000, and stored is 4000000000000001";
+        let difference = "word 1 is 4000000000000000, and 4000000000000001 is stored";
         assert_eq!(said.difference(), Some(difference));
         let two = wrong.replace(ROOTS[4], "4014000000000000 = 4001e3779b97f4a8 0000000000000000\n");
         let said = compare_text(&two).to_string();
         assert_eq!(said, "sqrt, 5 compared, 2 differ, first in case 4");
+        let longer = roots().replace(ROOTS[0], &ROOTS[0].replace('\n', " 3ff0000000000000\n"));
+        assert_eq!(compare_text(&longer).difference(), Some("1 words, and 2 are stored"));
     }
 
     /// The last word of an answer begins with another digit, with which it is no NaN either.

@@ -11,7 +11,10 @@ use words::STORED;
 /// A file's name, and what is to be said of it.
 fn expected() -> Vec<(&'static str, &'static str)> {
     let lines = include_str!("report.txt").lines();
-    lines.map(|line| line.split_once(": ").expect("a name and what is said")).collect()
+    let pair = |line: &'static str| line.split_once(": ").expect("a name and what is said");
+    let all: Vec<_> = lines.map(pair).collect();
+    assert!(all.iter().all(|(_, said)| said.ends_with(" compared, 0 differ")), "none may differ");
+    all
 }
 
 #[test]
@@ -19,8 +22,14 @@ fn the_folder_has_the_listed_files_and_no_others() {
     let found = fs::read_dir(STORED).expect("the stored files").map(|file| {
         file.expect("a file of the folder").file_name().into_string().expect("a name of letters")
     });
-    let listed = expected().into_iter().map(|(name, _)| name.to_owned());
-    assert_eq!(found.collect::<BTreeSet<_>>(), listed.collect());
+    let found: BTreeSet<String> = found.collect();
+    let listed: BTreeSet<String> = expected().iter().map(|(name, _)| (*name).to_owned()).collect();
+    let unlisted: Vec<_> = found.difference(&listed).collect();
+    let missing: Vec<_> = listed.difference(&found).collect();
+    assert!(
+        unlisted.is_empty() && missing.is_empty(),
+        "not listed {unlisted:?}, not there {missing:?}"
+    );
 }
 
 #[test]
@@ -30,8 +39,8 @@ fn every_stored_answer_is_the_librarys() {
         let said = compare(&Path::new(STORED).join(name));
         println!("{name}: {said}");
         if said.to_string() != expected {
-            let difference = said.difference().unwrap_or("");
-            faults.push(format!("{name}: {said}\n  and not: {expected}\n  {difference:.2000}"));
+            let difference = said.difference().map_or(String::new(), |text| format!("\n  {text}"));
+            faults.push(format!("{name}: {said}{difference}\n  and not: {expected}"));
         }
     }
     assert!(faults.is_empty(), "\n{}", faults.join("\n"));
