@@ -99,8 +99,8 @@ fn run_with_best(best: Best, refine_step: f64, max_abs_tilt: f64) -> Run {
     }
 }
 
-/// fx fy cx cy tilt_x tilt_y step max_abs_tilt = n(seeds), six numbers a seed. The next list is made by the answer to a round's last
-/// seed; here by a run whose round has its best already.
+/// fx fy cx cy tilt_x tilt_y step max_abs_tilt = n(seeds), six numbers a seed. The next list is made by the answer to a round's
+/// last seed; here by a run whose round has its best already.
 pub(super) fn local_seed_grid(r: &mut Reader) -> Answer {
     let (k, sensor) = (intrinsics(r)?, sensor(r)?);
     let [refine_step, max_abs_tilt] = r.floats()?;
