@@ -36,14 +36,6 @@ fn estimated(s: Scaled) -> f64
     rounded(s, reciprocal_root(s.significand))
 }
 
-// The root of s from any guess.
-fn guessed(s: Scaled, guess: u64) -> f64
-    requires { ⌜ Bounded s ⌝ }
-    ensures { λ r. ⌜ r ≡ rootOf binary64 (s .significand * 4 ^ s .half) ⌝ }
-{
-    rounded(s, guess % 0x1_0000_0000)
-}
-
 // The square root, correctly rounded.
 pub fn sqrt(x: f64) -> f64
     ensures { λ r. ⌜ r ≡ root binary64 x ⌝ }
@@ -51,15 +43,5 @@ pub fn sqrt(x: f64) -> f64
     match decompose(x) {
         Operand::Known(r) => r,
         Operand::Positive(s) => estimated(s),
-    }
-}
-
-// The same root from any guess, good or bad: only the time differs. It is there to run the way that a good guess never takes.
-pub fn sqrt_from(x: f64, guess: u64) -> f64
-    ensures { λ r. ⌜ r ≡ root binary64 x ⌝ }
-{
-    match decompose(x) {
-        Operand::Known(r) => r,
-        Operand::Positive(s) => guessed(s, guess),
     }
 }

@@ -7,11 +7,11 @@ use beside::inputs::{on_one_axis, share};
 use beside::lines::{LineTally, write_and_read};
 use beside::{reports, winners};
 use compare::blocks;
-use compare::library::answer_words;
 use oracle::generate::{Endless, endless};
-use oracle::operations::search::Inputs;
 use random::Random;
 use std::process::ExitCode;
+use stored::library::Operation;
+use words::start::Inputs;
 use words::{Reader, line, word};
 
 /// Beyond this many, differences are counted and not printed.
@@ -81,8 +81,9 @@ fn compare_blocks(count: usize, seed: &str, differences: &mut Differences) {
 
 fn compare_with_oracle(family: Endless, count: usize, differences: &mut Differences) {
     let operation = family.operation;
+    let library = Operation::named(operation).expect("the library has the oracle's operations");
     for (input, output) in family.cases.take(count) {
-        match answer_words(operation, &input) {
+        match library.answer(&input) {
             Ok(words) if words == output => {}
             Ok(words) => differences.add(&format!(
                 "{operation} {}: the library gives {}, the oracle {}",

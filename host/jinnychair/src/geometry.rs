@@ -8,6 +8,7 @@ use crate::{
     BrownConrady5, ConicError, CountError, FxFyCxCy, NormalizeError, PinholeCamera, PointMapError,
     Pt2, Rows, RowsError, ScheimpflugParams, TiltError, TiltTrig, TrigError, raw,
 };
+use raw::{coordinates, coordinates_mut};
 
 /// Three rows of three numbers.
 pub type Matrix3 = [[f64; 3]; 3];
@@ -273,7 +274,7 @@ pub fn untilt_points(
     points: &[Pt2],
     to: &mut [Pt2],
 ) -> Result<(), PointMapError> {
-    PointMapError::check(raw::untilt_points(k, trig, points, to))
+    PointMapError::check(raw::untilt_points(k, trig, coordinates(points), coordinates_mut(to)))
 }
 
 /// The pixels that a camera with neither tilt nor distortion would show. `iters` is that of
@@ -289,7 +290,13 @@ pub fn ideal_points(
     points: &[Pt2],
     to: &mut [Pt2],
 ) -> Result<(), PointMapError> {
-    PointMapError::check(raw::ideal_points(camera, iters, trig, points, to))
+    PointMapError::check(raw::ideal_points(
+        camera,
+        iters,
+        trig,
+        coordinates(points),
+        coordinates_mut(to),
+    ))
 }
 
 /// The points moved and scaled so that their centroid is the origin and their mean distance from it is √2.
@@ -301,7 +308,7 @@ pub fn normalize_points_2d(
     points: &[Pt2],
     to: &mut [Pt2],
 ) -> Result<Normalization, NormalizeError> {
-    let reply = raw::normalize_points_2d(points, to);
+    let reply = raw::normalize_points_2d(coordinates(points), coordinates_mut(to));
     NormalizeError::check(reply.number)?;
     Ok(Normalization { scale: reply.t00, offset_x: reply.t02, offset_y: reply.t12 })
 }
@@ -318,7 +325,7 @@ pub fn normalize_points_2d(
 /// ```
 #[must_use]
 pub fn points_are_collinear(points: &[Pt2]) -> bool {
-    raw::points_are_collinear(points).collinear != 0
+    raw::points_are_collinear(coordinates(points)).collinear != 0
 }
 
 /// The rows of the homography's design matrix from source to destination points, both normalised: two rows of nine
@@ -328,7 +335,7 @@ pub fn points_are_collinear(points: &[Pt2]) -> bool {
 ///
 /// Nothing is written.
 pub fn design_rows(source: &[Pt2], destination: &[Pt2], to: &mut [f64]) -> Result<(), RowsError> {
-    RowsError::check(raw::design_rows(source, destination, to))
+    RowsError::check(raw::design_rows(coordinates(source), coordinates(destination), to))
 }
 
 /// The camera of a conic, by Zhang's closed form.
@@ -352,5 +359,5 @@ pub fn conic_to_camera(b: Conic) -> Result<FxFyCxCy, ConicError> {
 /// The centre of the pixels that are seen: half the greatest coordinates, or, where one is negative, the middle of their range.
 #[must_use]
 pub fn observed_pixel_center(pixels: &[Pt2]) -> Pt2 {
-    raw::observed_pixel_center(pixels).center
+    raw::observed_pixel_center(coordinates(pixels)).center
 }

@@ -51,7 +51,10 @@ mod error;
 pub mod geometry;
 pub mod journal;
 mod known_plate;
-mod raw;
+// Not for users: its few public functions are for tests, which give the library what the functions above can't say, such as an odd
+// number of coordinates.
+#[doc(hidden)]
+pub mod raw;
 pub mod record;
 mod search;
 mod types;

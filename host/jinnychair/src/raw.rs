@@ -5,7 +5,7 @@
 //! slice, which is valid for its length, and a `&mut` slice overlaps no other.
 #![allow(unsafe_code)]
 
-pub(crate) mod journal;
+pub mod journal;
 pub(crate) mod replay;
 
 use crate::geometry::{Conic, DistortedPoint, Jacobian};
@@ -13,10 +13,10 @@ use crate::record::{
     Best, Counts, FlatLine, Inputs, LastLine, Options, Place, Progress, Run, Waiting,
 };
 use crate::{
-    BrownConrady5, Finding, FxFyCxCy, PinholeCamera, Pt2, Rows, ScheimpflugParams, Seed, TiltTrig,
-    Winner,
+    BrownConrady5, FxFyCxCy, PinholeCamera, Pt2, Rows, ScheimpflugParams, Seed, TiltTrig, Winner,
 };
 use std::mem::{offset_of, size_of};
+use std::slice::{from_raw_parts, from_raw_parts_mut};
 
 /// A matrix, row by row.
 #[derive(Clone, Copy, Debug, PartialEq)]
@@ -60,7 +60,7 @@ pub(crate) struct PlateReply {
 
 #[derive(Clone, Copy, Debug, PartialEq)]
 #[repr(C)]
-pub(crate) struct NormalizeReply {
+pub struct NormalizeReply {
     pub number: u8,
     pub t00: f64,
     pub t02: f64,
@@ -69,14 +69,14 @@ pub(crate) struct NormalizeReply {
 
 #[derive(Clone, Copy, Debug, PartialEq)]
 #[repr(C)]
-pub(crate) struct LineReply {
+pub struct LineReply {
     pub number: u8,
     pub collinear: u8,
 }
 
 #[derive(Clone, Copy, Debug, PartialEq)]
 #[repr(C)]
-pub(crate) struct CenterReply {
+pub struct CenterReply {
     pub number: u8,
     pub center: Pt2,
 }
@@ -114,7 +114,7 @@ pub(crate) struct NextReply {
 
 #[derive(Clone, Copy, Debug, PartialEq)]
 #[repr(C)]
-pub(crate) struct AnswerReply {
+pub struct AnswerReply {
     pub number: u8,
     pub skipped: u8,
     pub score: f64,
@@ -332,56 +332,57 @@ pub(crate) fn count_errors(
     }
 }
 
-/// Points as the numbers that they are, x then y: `Pt2` is two numbers and nothing else.
-fn coordinates(points: &[Pt2]) -> (*const f64, usize) {
-    (points.as_ptr().cast(), 2 * points.len())
+/// Points as the numbers that they are, x then y.
+pub(crate) fn coordinates(points: &[Pt2]) -> &[f64] {
+    // SAFETY: a `Pt2` is two numbers and nothing else.
+    unsafe { from_raw_parts(points.as_ptr().cast(), 2 * points.len()) }
 }
 
-fn coordinates_mut(points: &mut [Pt2]) -> (*mut f64, usize) {
-    (points.as_mut_ptr().cast(), 2 * points.len())
+pub(crate) fn coordinates_mut(points: &mut [Pt2]) -> &mut [f64] {
+    // SAFETY: a `Pt2` is two numbers and nothing else, and any two numbers are one.
+    unsafe { from_raw_parts_mut(points.as_mut_ptr().cast(), 2 * points.len()) }
 }
 
-pub(crate) fn untilt_points(k: FxFyCxCy, trig: TiltTrig, points: &[Pt2], to: &mut [Pt2]) -> u8 {
-    let ((from, from_len), (to, to_len)) = (coordinates(points), coordinates_mut(to));
+pub fn untilt_points(k: FxFyCxCy, trig: TiltTrig, points: &[f64], to: &mut [f64]) -> u8 {
     // SAFETY: both slices are valid for their lengths, and `to` overlaps nothing.
-    unsafe { jc_untilt_points(k, trig, from, from_len, to, to_len) }
+    unsafe { jc_untilt_points(k, trig, points.as_ptr(), points.len(), to.as_mut_ptr(), to.len()) }
 }
 
-pub(crate) fn ideal_points(
+pub fn ideal_points(
     camera: PinholeCamera,
     iters: u32,
     trig: TiltTrig,
-    points: &[Pt2],
-    to: &mut [Pt2],
+    points: &[f64],
+    to: &mut [f64],
 ) -> u8 {
-    let ((from, from_len), (to, to_len)) = (coordinates(points), coordinates_mut(to));
+    let (from, from_len) = (points.as_ptr(), points.len());
     // SAFETY: both slices are valid for their lengths, and `to` overlaps nothing.
-    unsafe { jc_ideal_points(camera, iters, trig, from, from_len, to, to_len) }
+    unsafe { jc_ideal_points(camera, iters, trig, from, from_len, to.as_mut_ptr(), to.len()) }
 }
 
-pub(crate) fn normalize_points_2d(points: &[Pt2], to: &mut [Pt2]) -> NormalizeReply {
-    let ((from, from_len), (to, to_len)) = (coordinates(points), coordinates_mut(to));
+pub fn normalize_points_2d(points: &[f64], to: &mut [f64]) -> NormalizeReply {
     // SAFETY: both slices are valid for their lengths, and `to` overlaps nothing.
-    unsafe { jc_normalize_points_2d(from, from_len, to, to_len) }
+    unsafe { jc_normalize_points_2d(points.as_ptr(), points.len(), to.as_mut_ptr(), to.len()) }
 }
 
-pub(crate) fn points_are_collinear(points: &[Pt2]) -> LineReply {
-    let (from, from_len) = coordinates(points);
+#[must_use]
+pub fn points_are_collinear(points: &[f64]) -> LineReply {
     // SAFETY: the slice is valid for its length.
-    unsafe { jc_points_are_collinear(from, from_len) }
+    unsafe { jc_points_are_collinear(points.as_ptr(), points.len()) }
 }
 
-pub(crate) fn design_rows(source: &[Pt2], destination: &[Pt2], to: &mut [f64]) -> u8 {
-    let (source, source_len) = coordinates(source);
-    let (seen, seen_len) = coordinates(destination);
+pub fn design_rows(source: &[f64], destination: &[f64], to: &mut [f64]) -> u8 {
+    let (seen, seen_len) = (destination.as_ptr(), destination.len());
     // SAFETY: all three slices are valid for their lengths, and `to` overlaps nothing.
-    unsafe { jc_design_rows(source, source_len, seen, seen_len, to.as_mut_ptr(), to.len()) }
+    unsafe {
+        jc_design_rows(source.as_ptr(), source.len(), seen, seen_len, to.as_mut_ptr(), to.len())
+    }
 }
 
-pub(crate) fn observed_pixel_center(pixels: &[Pt2]) -> CenterReply {
-    let (from, from_len) = coordinates(pixels);
+#[must_use]
+pub fn observed_pixel_center(pixels: &[f64]) -> CenterReply {
     // SAFETY: the slice is valid for its length.
-    unsafe { jc_observed_pixel_center(from, from_len) }
+    unsafe { jc_observed_pixel_center(pixels.as_ptr(), pixels.len()) }
 }
 
 pub(crate) fn start(inputs: &Inputs, list: &mut [f64]) -> StartReply {
@@ -410,16 +411,18 @@ pub(crate) fn next(run: Run, list: &[f64]) -> NextReply {
     unsafe { jc_next(run, list.as_ptr(), list.len()) }
 }
 
-pub(crate) fn seed(run: Run, list: &[f64], to: &mut [f64]) -> usize {
+pub fn seed(run: Run, list: &[f64], to: &mut [f64]) -> usize {
     // SAFETY: both slices are valid for their lengths, and `to` overlaps nothing.
     unsafe { jc_seed(run, list.as_ptr(), list.len(), to.as_mut_ptr(), to.len()) }
 }
 
-pub(crate) fn answer(run: Run, finding: &Finding, list: &mut [f64]) -> AnswerReply {
-    let (is_solved, solved, rows) = match *finding {
-        Finding::Failed => (0, NOT_SOLVED, Rows { numbers: &[], flags: &[] }),
-        Finding::Solved { camera, rows } => (1, camera, rows),
-    };
+pub fn answer(
+    run: Run,
+    is_solved: u8,
+    solved: PinholeCamera,
+    rows: Rows,
+    list: &mut [f64],
+) -> AnswerReply {
     // SAFETY: all three slices are valid for their lengths, and `list` overlaps nothing.
     unsafe {
         jc_answer(
@@ -437,7 +440,7 @@ pub(crate) fn answer(run: Run, finding: &Finding, list: &mut [f64]) -> AnswerRep
 }
 
 /// What is passed beside Failed; it isn't read.
-const NOT_SOLVED: PinholeCamera = PinholeCamera {
+pub(crate) const NOT_SOLVED: PinholeCamera = PinholeCamera {
     k: FxFyCxCy { fx: 0.0, fy: 0.0, cx: 0.0, cy: 0.0 },
     dist: BrownConrady5 { k1: 0.0, k2: 0.0, k3: 0.0, p1: 0.0, p2: 0.0 },
 };

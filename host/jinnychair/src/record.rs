@@ -7,7 +7,7 @@
 use crate::journal::{EndedBy, Line, Replayed, ResumeReport};
 use crate::{
     AnswerError, Finding, FxFyCxCy, Handed, NextError, Outcome, Pt2, ReplayError, ResultError,
-    Seed, SkipReason, StartError, StopError, Stopped, Winner, check_version, raw,
+    Rows, Seed, SkipReason, StartError, StopError, Stopped, Winner, check_version, raw,
 };
 
 /// The numbers of a search's options; the tilts of its grid stand beside them.
@@ -226,7 +226,11 @@ pub fn seed(run: &Run, list: &[f64]) -> Option<[f64; 6]> {
 ///
 /// The answer isn't taken; the run and the list are as they were.
 pub fn answer(run: &mut Run, finding: &Finding, list: &mut [f64]) -> Result<Outcome, AnswerError> {
-    let reply = raw::answer(*run, finding, list);
+    let (is_solved, solved, rows) = match *finding {
+        Finding::Failed => (0, raw::NOT_SOLVED, Rows { numbers: &[], flags: &[] }),
+        Finding::Solved { camera, rows } => (1, camera, rows),
+    };
+    let reply = raw::answer(*run, is_solved, solved, rows, list);
     *run = reply.run;
     AnswerError::check(reply.number)?;
     Ok(match reply.skipped {

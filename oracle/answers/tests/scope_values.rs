@@ -1,7 +1,7 @@
 //! 01's values on each side, through the oracle.
 
 use oracle::operations::answer;
-use oracle::operations::search::Inputs;
+use words::start::Inputs;
 
 fn answered(operation: &str, input: &[u64]) -> Vec<u64> {
     answer(operation, input).expect("the oracle has the operation and its input is whole")

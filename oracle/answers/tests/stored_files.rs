@@ -2,12 +2,12 @@
 
 use oracle::generate::files;
 use std::path::Path;
+use words::STORED;
 
 #[test]
 fn the_stored_files_are_the_generated_ones() {
-    let folder = Path::new(env!("CARGO_MANIFEST_DIR")).join("../../crates/vectors/data");
     for (operation, text) in files() {
-        let path = folder.join(format!("{operation}.txt"));
+        let path = Path::new(STORED).join(format!("{operation}.txt"));
         let stored = std::fs::read_to_string(&path)
             .unwrap_or_else(|error| panic!("{}: {error}", path.display()));
         assert!(stored == text, "{} isn't what `generate` writes", path.display());

@@ -1,7 +1,12 @@
 //! 01's distortion lines and 02's rule for NaN scores beside the published ones.
 
 use oracle::operations::answer;
-use words::{float_words, parse};
+use std::path::Path;
+use words::{STORED, float_words, parse};
+
+fn stored(name: &str) -> String {
+    std::fs::read_to_string(Path::new(STORED).join(name)).expect("the stored file")
+}
 
 fn both(operation: &str, input: &[u64]) -> [Vec<u64>; 2] {
     [operation.to_owned(), format!("{operation}_as_published")]
@@ -18,9 +23,7 @@ fn the_tangential_parts_differ() {
 /// The derivatives agree on every stored input, the points not always.
 #[test]
 fn the_derivatives_agree() {
-    let path =
-        concat!(env!("CARGO_MANIFEST_DIR"), "/../../crates/vectors/data/distort_with_jacobian.txt");
-    let stored = std::fs::read_to_string(path).expect("the stored file");
+    let stored = stored("distort_with_jacobian.txt");
     let mut other_points = 0;
     for case in stored.lines().filter(|line| !line.starts_with('#')) {
         let (input, _) = case.split_once(" = ").expect("two sides");
@@ -35,8 +38,7 @@ fn the_derivatives_agree() {
 /// On every stored search the two agree but where a score is NaN.
 #[test]
 fn searches_without_nan_agree() {
-    let path = concat!(env!("CARGO_MANIFEST_DIR"), "/../../crates/vectors/data/search.txt");
-    let stored = std::fs::read_to_string(path).expect("the stored file");
+    let stored = stored("search.txt");
     let mut others = 0;
     for case in stored.lines().filter(|line| !line.starts_with('#')) {
         let (input, output) = case.split_once(" = ").expect("two sides");

@@ -54,15 +54,6 @@ fn damaged(line: &Line, before: u64, damage: Damage) -> String {
     case(&[line.words(), vec![before], damage.words().to_vec()].concat(), &words)
 }
 
-/// Two lines without their newlines, the second stored as if the first byte could be left out: the program that compares must see it.
-pub fn wrong() -> Vec<String> {
-    let line = drawn(&mut Random::named("journal wrong damage"), 5, 0, 1);
-    let right = damaged(&line, 1, Damage::Dropped);
-    let (input, output) = right.split_once(" = ").expect("input and output");
-    let wrong = format!("{input} = 0000000000000001{}", &output[16..]);
-    vec![right.clone(), wrong]
-}
-
 pub fn cases() -> Vec<String> {
     let random = &mut Random::named("journal damage");
     let mut lines: Vec<Line> = [

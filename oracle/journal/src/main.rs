@@ -1,6 +1,6 @@
-//! Writes the stored cases of the journal and of the report: `journal [FOLDER]`, by default the data folder of the crate
-//! `vectors`. What a line's text is, and whether bytes are one, is worked out in `form.rs` from 02's words, what a report's text
-//! is in `report.rs`; no published file is needed. Each run writes the same bytes.
+//! Writes the stored cases of the journal and of the report: `journal [FOLDER]`, by default `oracle/stored`. What a line's text is,
+//! and whether bytes are one, is worked out in `form.rs` from 02's words, what a report's text is in `report.rs`; no published file
+//! is needed. Each run writes the same bytes.
 
 mod damage;
 mod form;
@@ -11,23 +11,19 @@ mod writing;
 use form::Line;
 use random::Random;
 use std::path::PathBuf;
-use words::file;
+use words::{STORED, file};
 
 fn main() -> Result<(), String> {
-    let beside = concat!(env!("CARGO_MANIFEST_DIR"), "/../../crates/vectors/data");
-    let folder = PathBuf::from(std::env::args().nth(1).unwrap_or_else(|| beside.to_owned()));
+    let folder = PathBuf::from(std::env::args().nth(1).unwrap_or_else(|| STORED.to_owned()));
     std::fs::create_dir_all(&folder).map_err(|e| format!("{}: {e}", folder.display()))?;
     let made_by = "oracle/journal: lines as 02's words have them; draws named journal";
-    for (name, operation, cases) in [
-        ("write_line", "write_line", writing::cases()),
-        ("read_line", "read_line", reading::cases()),
-        ("damaged_line", "damaged_line", damage::cases()),
-        ("write_report", "write_report", report::cases()),
-        ("wrong_line", "write_line", writing::wrong()),
-        ("wrong_damage", "damaged_line", damage::wrong()),
-        ("wrong_report", "write_report", report::wrong()),
+    for (operation, cases) in [
+        ("write_line", writing::cases()),
+        ("read_line", reading::cases()),
+        ("damaged_line", damage::cases()),
+        ("write_report", report::cases()),
     ] {
-        let path = folder.join(format!("{name}.txt"));
+        let path = folder.join(format!("{operation}.txt"));
         let text = file(operation, made_by, &cases);
         std::fs::write(&path, text).map_err(|e| format!("{}: {e}", path.display()))?;
         println!("{}", path.display());

@@ -26,14 +26,6 @@ fn reported(counts: Counts, buffer: u64) -> String {
     answer(&input, text(&counts).filter(|_| buffer >= LEAST_BUFFER))
 }
 
-/// A report, and one whose total of 10 is stored as 11: the program that compares must see it.
-pub fn wrong() -> Vec<String> {
-    let wrong = reported([3, 1, 0, 4, 2], LEAST_BUFFER);
-    let last = wrong.rfind("0000000000000030 000000000000000a").expect("a digit 0 at the end");
-    let (before, behind) = wrong.split_at(last);
-    vec![reported([0; 5], LEAST_BUFFER), format!("{before}0000000000000031{}", &behind[16..])]
-}
-
 /// Five counts that add up to the total.
 fn parted(random: &mut Random, total: usize) -> Counts {
     let mut cuts: [usize; 4] = std::array::from_fn(|_| random.below(total + 1));

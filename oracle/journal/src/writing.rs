@@ -25,15 +25,6 @@ fn written(line: &Line, buffer: u64) -> String {
     answer(&input, line.text().filter(|_| buffer >= LEAST_BUFFER))
 }
 
-/// A line, and one whose text is stored with another last digit: the program that compares must see it.
-pub fn wrong() -> Vec<String> {
-    let random = &mut Random::named("journal wrong");
-    let [right, wrong] = [0, 1].map(|number| written(&drawn(random, number, 0, 0), LEAST_BUFFER));
-    let last = wrong.rfind("0000000000000031 000000000000002c").expect("a digit 1 before a comma");
-    let (before, behind) = wrong.split_at(last);
-    vec![right, format!("{before}0000000000000032{}", &behind[16..])]
-}
-
 pub fn cases() -> Vec<String> {
     let random = &mut Random::named("journal");
     let mut cases = vec![];

@@ -1,7 +1,7 @@
-//! Writes the stored cases of every refusal of every call: `refusals [FOLDER]`, by default the
-//! data folder of the crate `vectors`. Each reply is written down here from the paragraphs of 01
-//! and 02, none is computed by the code that it judges; no published file is needed. Each run
-//! writes the same bytes.
+//! Writes the stored cases of every refusal of every call: `refusals [FOLDER]`, by default
+//! `oracle/stored`. Each reply is written down here from the paragraphs of 01 and 02, none is
+//! computed by the code that it judges; no published file is needed. Each run writes the same
+//! bytes.
 
 mod plates;
 mod points;
@@ -9,7 +9,7 @@ mod runs;
 mod series;
 
 use std::path::PathBuf;
-use words::{case, file, float_words};
+use words::{STORED, case, file, float_words};
 
 /// Input words and the words that answer them.
 pub struct Case {
@@ -38,7 +38,7 @@ pub fn lent(length: usize) -> Vec<f64> {
 }
 
 fn main() -> Result<(), String> {
-    let folder = std::env::args().nth(1).map_or_else(beside, PathBuf::from);
+    let folder = PathBuf::from(std::env::args().nth(1).unwrap_or_else(|| STORED.to_owned()));
     std::fs::create_dir_all(&folder).map_err(|e| format!("{}: {e}", folder.display()))?;
     for (name, text) in files() {
         let path = folder.join(name);
@@ -46,10 +46,6 @@ fn main() -> Result<(), String> {
         println!("{}", path.display());
     }
     Ok(())
-}
-
-fn beside() -> PathBuf {
-    PathBuf::from(concat!(env!("CARGO_MANIFEST_DIR"), "/../../crates/vectors/data"))
 }
 
 /// Each file's name and text.
@@ -82,12 +78,13 @@ fn cases() -> Vec<(&'static str, &'static str, Vec<Case>)> {
 
 #[cfg(test)]
 mod tests {
-    use super::{beside, cases, files};
+    use super::{STORED, cases, files};
+    use std::path::Path;
 
     #[test]
     fn the_stored_files_are_the_written_ones() {
         for (name, text) in files() {
-            let stored = std::fs::read_to_string(beside().join(&name));
+            let stored = std::fs::read_to_string(Path::new(STORED).join(&name));
             assert!(stored.is_ok_and(|stored| stored == text), "{name}");
         }
     }

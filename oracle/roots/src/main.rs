@@ -1,12 +1,12 @@
 //! Writes the stored vectors of the square root, sqrt.txt and sqrt_from.txt: `roots [FOLDER]`, by
-//! default the data folder of the crate `vectors`. The answers are the machine's own roots, which
-//! IEEE 754 fixes; no published file is needed. Each run writes the same bytes.
+//! default `oracle/stored`. The answers are the machine's own roots, which IEEE 754 fixes; no
+//! published file is needed. Each run writes the same bytes.
 
 mod middles;
 
 use random::Random;
 use std::path::PathBuf;
-use words::{case, file, word};
+use words::{STORED, case, file, word};
 
 /// The word of an argument's root.
 fn answer(argument: f64) -> u64 {
@@ -14,8 +14,7 @@ fn answer(argument: f64) -> u64 {
 }
 
 fn main() -> Result<(), String> {
-    let beside = concat!(env!("CARGO_MANIFEST_DIR"), "/../../crates/vectors/data");
-    let folder = PathBuf::from(std::env::args().nth(1).unwrap_or_else(|| beside.to_owned()));
+    let folder = PathBuf::from(std::env::args().nth(1).unwrap_or_else(|| STORED.to_owned()));
     std::fs::create_dir_all(&folder).map_err(|e| format!("{}: {e}", folder.display()))?;
     for (name, text) in [("sqrt.txt", text()), ("sqrt_from.txt", text_from_guesses())] {
         let path = folder.join(name);
@@ -117,7 +116,8 @@ fn squares(random: &mut Random) -> Vec<u64> {
 
 #[cfg(test)]
 mod tests {
-    use super::{answer, arguments, text, text_from_guesses};
+    use super::{STORED, answer, arguments, text, text_from_guesses};
+    use std::path::Path;
 
     #[test]
     fn a_second_run_writes_the_same_bytes() {
@@ -127,10 +127,9 @@ mod tests {
 
     #[test]
     fn the_stored_files_are_the_generated_ones() {
-        let folder = concat!(env!("CARGO_MANIFEST_DIR"), "/../../crates/vectors/data/");
         for (name, text) in [("sqrt.txt", text()), ("sqrt_from.txt", text_from_guesses())] {
             let stored =
-                std::fs::read_to_string(folder.to_owned() + name).expect("the stored file");
+                std::fs::read_to_string(Path::new(STORED).join(name)).expect("the stored file");
             assert!(stored == text, "{name} isn't what `roots` writes");
         }
     }

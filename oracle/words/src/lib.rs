@@ -1,7 +1,12 @@
 //! Words: 64 bits, written as 16 hexadecimal digits; a float's bits, a count, a flag or a number.
 //! Requests, answers and the stored files are made of them.
 
+pub mod start;
+
 use std::hint::black_box;
+
+/// The folder of the stored files.
+pub const STORED: &str = concat!(env!("CARGO_MANIFEST_DIR"), "/../stored");
 
 /// The one NaN that floats are written with.
 pub const NAN: u64 = 0x7ff8_0000_0000_0000;
@@ -123,11 +128,16 @@ impl<'a> Reader<'a> {
         (0..length).map(|_| self.float()).collect()
     }
 
+    /// Whether all words are read.
+    pub fn is_empty(&self) -> bool {
+        self.rest.is_empty()
+    }
+
     /// # Errors
     ///
     /// The input has words left over.
     pub fn end(self) -> Result<(), String> {
-        if self.rest.is_empty() {
+        if self.is_empty() {
             return Ok(());
         }
         Err(format!("{} words are left over", self.rest.len()))

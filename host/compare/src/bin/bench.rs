@@ -13,10 +13,11 @@ use jinnychair::{
     BrownConrady5, Counts, Finding as LibraryFinding, FxFyCxCy, Handed, PinholeCamera, Pt2, Rows,
     ScheimpflugParams, Seed, SkipReason, TiltTrig, geometry,
 };
-use oracle::operations::search::{Inputs, run};
+use oracle::operations::search::{Published, run};
 use random::Random;
 use std::hint::black_box;
 use std::rc::Rc;
+use stored::library::library_inputs;
 use vision_calibration_core::given_tilt::{self, GivenTilt};
 use vision_calibration_core::{
     BrownConrady5 as PublishedDistortion, DistortionModel, Pt2 as PublishedPoint,
@@ -26,6 +27,7 @@ use vision_calibration_linear::scheimpflug_init::access as published;
 use vision_calibration_linear::script::{
     Finding, Row, SeedNumbers, dataset_of_rows, identity_poses, pinhole_camera, play,
 };
+use words::start::Inputs;
 
 #[path = "bench/growth.rs"]
 mod growth;
@@ -355,7 +357,7 @@ fn close_seeds() -> Inputs {
 }
 
 fn first_list(name: &str, inputs: &Inputs, kept: usize) {
-    let for_library = compare::library::library_inputs(inputs);
+    let for_library = library_inputs(inputs);
     let mut list = vec![0.0; 6 * 512];
     let library = || {
         let run = start(black_box(&for_library), &mut list).expect("good inputs");
@@ -380,7 +382,7 @@ fn whole_run(name: &str, rows: &[Row]) {
     let camera = library_camera();
     let library = || {
         let mut list = vec![0.0; 6 * 512];
-        let for_library = compare::library::library_inputs(&inputs);
+        let for_library = library_inputs(&inputs);
         let mut run = start(&for_library, &mut list).expect("good inputs");
         while let Ok(Handed::Candidate { .. }) = next(&mut run, &list) {
             black_box(seed(&run, &list)).expect("a seed waits");
@@ -487,7 +489,7 @@ fn run_lines(inputs: &record::Inputs) -> Vec<u8> {
 /// Runs a journal again and goes on from it, beside plain Rust and beside the book.
 fn replays() {
     let inputs = most_seeds();
-    let for_library = compare::library::library_inputs(&inputs);
+    let for_library = library_inputs(&inputs);
     let for_book = book_inputs(&inputs);
     let journal = run_lines(&for_library);
     let mut list = vec![0.0; 6 * 512];

@@ -6,7 +6,7 @@ use std::mem::{offset_of, size_of};
 
 #[derive(Clone, Copy, Debug, PartialEq)]
 #[repr(C)]
-pub(crate) struct WriteReply {
+pub struct WriteReply {
     pub number: u8,
     pub len: usize,
 }
@@ -33,7 +33,7 @@ unsafe extern "C" {
     fn jc_read_line(bytes: *const u8, bytes_len: usize, at: usize) -> ReadReply;
 }
 
-pub(crate) fn write_line(line: FlatLine, to: &mut [u8]) -> WriteReply {
+pub fn write_line(line: FlatLine, to: &mut [u8]) -> WriteReply {
     // SAFETY: the slice is valid for its length.
     unsafe { jc_write_line(line, to.as_mut_ptr(), to.len()) }
 }

@@ -2,11 +2,12 @@
 //! numbers as decimals, and the bits on both sides. docs/DIFFERENCES.md lists them.
 
 use oracle::operations::answer;
-use oracle::operations::search::{Inputs, finding_words};
+use oracle::operations::search::finding_words;
 use random::Random;
 use std::hint::black_box;
 use vision_calibration_core::given_tilt::GivenTilt;
 use vision_calibration_linear::script::{Finding, Row};
+use words::start::Inputs;
 use words::{float_words, line};
 
 fn main() {

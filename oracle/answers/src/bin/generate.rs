@@ -1,12 +1,12 @@
-//! Writes the stored vectors: `generate [FOLDER]`, by default the data folder of the crate
-//! `vectors`. Each run writes the same bytes.
+//! Writes the stored vectors: `generate [FOLDER]`, by default `oracle/stored`. Each run writes the
+//! same bytes.
 
 use oracle::generate::files;
 use std::path::PathBuf;
+use words::STORED;
 
 fn main() -> Result<(), String> {
-    let beside = concat!(env!("CARGO_MANIFEST_DIR"), "/../../crates/vectors/data");
-    let folder = PathBuf::from(std::env::args().nth(1).unwrap_or_else(|| beside.to_owned()));
+    let folder = PathBuf::from(std::env::args().nth(1).unwrap_or_else(|| STORED.to_owned()));
     std::fs::create_dir_all(&folder).map_err(|e| format!("{}: {e}", folder.display()))?;
     for (operation, text) in files() {
         let path = folder.join(format!("{operation}.txt"));

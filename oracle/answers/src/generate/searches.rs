@@ -3,12 +3,13 @@
 use super::Family;
 use super::seeds::{CAMERA, most_seeds, plain_inputs, start_inputs};
 use super::values::{after, before, edge};
-use crate::operations::search::{Inputs, finding_words, run};
+use crate::operations::search::{Published, finding_words, run};
 use random::Random;
 use std::cell::RefCell;
 use std::ops::Range;
 use std::rc::Rc;
 use vision_calibration_linear::script::{Finding, Row, SeedNumbers};
+use words::start::Inputs;
 
 const RANDOM_SEARCHES: usize = 260;
 

@@ -2,9 +2,9 @@
 
 use super::Family;
 use super::values::{Draw, edge, near};
-use crate::operations::search::Inputs;
 use random::Random;
 use words::float_words;
+use words::start::Inputs;
 
 /// Lists are long, so these files have fewer cases.
 const RANDOM_CASES: usize = 320;

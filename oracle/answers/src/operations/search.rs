@@ -9,6 +9,7 @@ use vision_calibration_linear::scheimpflug_init::{
     estimate_scheimpflug_intrinsics_iterative,
 };
 use vision_calibration_linear::script::{Finding, Given, Outcome, Record, SeedNumbers, play};
+use words::start::Inputs;
 use words::{Reader, float_words, word};
 
 /// 01's limits of Start, which the published search doesn't have.
@@ -16,79 +17,39 @@ const MOST_TILT_SEEDS: usize = 16;
 const MOST_DECOMPOSITION_SEEDS: usize = 256;
 const MOST_ROUNDS: usize = 16;
 
-/// More views than this have no case: the scripted dataset holds each of them.
-const MOST_VIEWS: usize = 64;
-
 /// 01's number for a run in which nothing is scored.
 const NOTHING_SCORED: u64 = 11;
 
-/// Start's inputs.
-#[derive(Clone, Debug)]
-pub struct Inputs {
-    pub views: usize,
-    pub tilt_x_seeds: Vec<f64>,
-    pub tilt_y_seeds: Vec<f64>,
-    pub rounds: usize,
-    pub refine_step: f64,
-    pub max_abs_tilt: f64,
-    /// Six numbers a seed.
-    pub decomposition: Vec<f64>,
-    pub base: [f64; 4],
-    pub center: [f64; 2],
-}
-
-impl Inputs {
-    /// # Errors
-    ///
-    /// The words don't make up Start's inputs.
-    pub fn read(input: &mut Reader) -> Result<Self, String> {
-        let inputs = Self {
-            views: input.count()?,
-            tilt_x_seeds: input.list()?,
-            tilt_y_seeds: input.list()?,
-            rounds: input.count()?,
-            refine_step: input.float()?,
-            max_abs_tilt: input.float()?,
-            decomposition: input.list()?,
-            base: input.floats()?,
-            center: input.floats()?,
-        };
-        if inputs.views > MOST_VIEWS {
-            return Err(format!("more than {MOST_VIEWS} views"));
-        }
-        Ok(inputs)
-    }
-
-    /// The words that [`Inputs::read`] reads.
-    pub fn words(&self) -> Vec<u64> {
-        let mut words = vec![self.views as u64];
-        for list in [&self.tilt_x_seeds, &self.tilt_y_seeds] {
-            words.push(list.len() as u64);
-            words.extend(float_words(list));
-        }
-        words.push(self.rounds as u64);
-        words.extend(float_words(&[self.refine_step, self.max_abs_tilt]));
-        words.push(self.decomposition.len() as u64);
-        words.extend(float_words(&self.decomposition));
-        words.extend(float_words(&self.base));
-        words.extend(float_words(&self.center));
-        words
-    }
-
+/// Start's inputs as the published search takes them.
+pub trait Published {
     /// The number with which Start refuses, 8 apart: no buffer is lent here. 1 to 4 and 7 are
     /// the published search's; 5 and 6 are 01's, 27 is 02's.
     ///
     /// # Errors
     ///
     /// The published search refuses for a reason that 01 doesn't know.
-    pub fn refusal(&self) -> Result<Option<u64>, String> {
+    fn refusal(&self) -> Result<Option<u64>, String>;
+
+    /// The published options. What the host's estimator would read isn't used.
+    fn options(&self) -> ScheimpflugIntrinsicsInitOptions;
+
+    /// As many views as were stated, each with the four points that the published search asks
+    /// for. Only the number of views is read: the estimates and the rows are scripted.
+    fn dataset(&self) -> PlanarDataset;
+
+    /// What the script gives the search.
+    fn given(&self, nan_loses: bool) -> Given;
+}
+
+impl Published for Inputs {
+    fn refusal(&self) -> Result<Option<u64>, String> {
         if let Err(error) = access::validate_options(&self.dataset(), &self.options()) {
             return option_refusal(&error).map(Some);
         }
-        if self.is_beyond_limits() {
+        if is_beyond_limits(self) {
             return Ok(Some(5));
         }
-        if self.decomposition_seeds().any(|seed| self.is_bad_seed(&seed)) {
+        if decomposition_seeds(self).any(|seed| is_bad_seed(&seed, self.max_abs_tilt)) {
             return Ok(Some(6));
         }
         let mut tilts = self.tilt_x_seeds.iter().chain(&self.tilt_y_seeds);
@@ -98,31 +59,7 @@ impl Inputs {
         Ok((self.max_abs_tilt > series::MOST).then_some(series::BEYOND))
     }
 
-    fn is_beyond_limits(&self) -> bool {
-        self.tilt_x_seeds.len() > MOST_TILT_SEEDS
-            || self.tilt_y_seeds.len() > MOST_TILT_SEEDS
-            || self.decomposition.len() > 6 * MOST_DECOMPOSITION_SEEDS
-            || self.rounds > MOST_ROUNDS
-            || !self.decomposition.len().is_multiple_of(6)
-    }
-
-    fn is_bad_seed(&self, seed: &SeedNumbers) -> bool {
-        let [fx, fy, _, _, tilt_x, tilt_y] = *seed;
-        let is_focal_length = |f: f64| f > 0.0;
-        let is_within = |tilt: f64| tilt.abs() <= self.max_abs_tilt;
-        let is_good = seed.iter().all(|number| number.is_finite())
-            && [fx, fy].into_iter().all(is_focal_length)
-            && [tilt_x, tilt_y].into_iter().all(is_within);
-        !is_good
-    }
-
-    fn decomposition_seeds(&self) -> impl Iterator<Item = SeedNumbers> {
-        let seeds = self.decomposition.chunks_exact(6);
-        seeds.map(|numbers| numbers.try_into().expect("six numbers a seed"))
-    }
-
-    /// The published options. What the host's estimator would read isn't used.
-    pub fn options(&self) -> ScheimpflugIntrinsicsInitOptions {
+    fn options(&self) -> ScheimpflugIntrinsicsInitOptions {
         ScheimpflugIntrinsicsInitOptions {
             tilt_x_seeds: self.tilt_x_seeds.clone(),
             tilt_y_seeds: self.tilt_y_seeds.clone(),
@@ -132,22 +69,43 @@ impl Inputs {
         }
     }
 
-    /// As many views as were stated, each with the four points that the published search asks
-    /// for. Only the number of views is read: the estimates and the rows are scripted.
-    pub fn dataset(&self) -> PlanarDataset {
+    fn dataset(&self) -> PlanarDataset {
         let points = (vec![Pt3::new(0.0, 0.0, 0.0); 4], vec![Pt2::new(0.0, 0.0); 4]);
         let view = CorrespondenceView::new(points.0, points.1).expect("four points each");
         PlanarDataset { views: vec![View::without_meta(view); self.views] }
     }
 
-    pub fn given(&self, nan_loses: bool) -> Given {
+    fn given(&self, nan_loses: bool) -> Given {
         Given {
             base: self.base,
             center: self.center,
-            decomposition: self.decomposition_seeds().collect(),
+            decomposition: decomposition_seeds(self).collect(),
             nan_loses,
         }
     }
+}
+
+fn is_beyond_limits(inputs: &Inputs) -> bool {
+    inputs.tilt_x_seeds.len() > MOST_TILT_SEEDS
+        || inputs.tilt_y_seeds.len() > MOST_TILT_SEEDS
+        || inputs.decomposition.len() > 6 * MOST_DECOMPOSITION_SEEDS
+        || inputs.rounds > MOST_ROUNDS
+        || !inputs.decomposition.len().is_multiple_of(6)
+}
+
+fn is_bad_seed(seed: &SeedNumbers, max_abs_tilt: f64) -> bool {
+    let [fx, fy, _, _, tilt_x, tilt_y] = *seed;
+    let is_focal_length = |f: f64| f > 0.0;
+    let is_within = |tilt: f64| tilt.abs() <= max_abs_tilt;
+    let is_good = seed.iter().all(|number| number.is_finite())
+        && [fx, fy].into_iter().all(is_focal_length)
+        && [tilt_x, tilt_y].into_iter().all(is_within);
+    !is_good
+}
+
+fn decomposition_seeds(inputs: &Inputs) -> impl Iterator<Item = SeedNumbers> {
+    let seeds = inputs.decomposition.chunks_exact(6);
+    seeds.map(|numbers| numbers.try_into().expect("six numbers a seed"))
 }
 
 /// The published default options with another bound.

@@ -1,9 +1,10 @@
 //! The lists of seeds: a search's first one, and the one around a best seed.
 
-use super::search::{Inputs, options};
+use super::search::{Published, options};
 use vision_calibration_core::FxFyCxCy;
 use vision_calibration_linear::scheimpflug_init::access as published;
 use vision_calibration_linear::script::{Finding, SeedNumbers, play};
+use words::start::Inputs;
 use words::{Reader, float_words};
 
 fn list_words(seeds: &[SeedNumbers]) -> Vec<u64> {
