@@ -191,6 +191,11 @@ rest-run : (b : Book) → runOf (atRest b) ≡ noneWaiting (runOf b)
 unfolding runOf atRest roundBest runBest
 rest-run b = refl
 
+-- of the kept lines it has the counts, the last one and the best of the run
+rest-answers : (b : Book) → (runOf (atRest b) .counts ≡ noneWaiting (runOf b) .counts) × (runOf (atRest b) .last ≡ noneWaiting (runOf b) .last) × (runOf (atRest b) .«run_best» ≡ noneWaiting (runOf b) .«run_best»)
+unfolding runOf atRest roundBest runBest
+rest-answers b = (refl, refl, refl)
+
 -- ---- what Start or Resume opened, over the plain book
 record From (i : Inputs) (l : List Float) (r : Run) (m : List Float) (held : List ℕ) : Type 0 where
   started : NoneHolds (conditions i (length l))
