@@ -200,26 +200,18 @@ jc_read_flat jc_read_line(const uint8_t *bytes, size_t bytes_len, size_t at) {
     CALL(jc_read_line, bytes, bytes_len, at);
 }
 
-jc_replay_flat jc_replay(size_t views, jc_options options, const double *tilt_x_seeds, size_t tilt_x_seeds_len,
-                         const double *tilt_y_seeds, size_t tilt_y_seeds_len, const double *decomposition, size_t decomposition_len,
-                         jc_intrinsics base, jc_pt2 center, const uint8_t *bytes, size_t bytes_len, double *list, size_t list_len) {
-    READ(tilt_x_seeds);
-    READ(tilt_y_seeds);
-    READ(decomposition);
-    READ(bytes);
-    WRITE(list);
-    CALL(jc_replay, views, options, tilt_x_seeds, tilt_x_seeds_len, tilt_y_seeds, tilt_y_seeds_len, decomposition, decomposition_len,
-         base, center, bytes, bytes_len, list, list_len);
-}
+#define OF_JOURNAL(reply_type, name)                                                                                                \
+    reply_type name(size_t views, jc_options options, const double *tilt_x_seeds, size_t tilt_x_seeds_len,                          \
+                    const double *tilt_y_seeds, size_t tilt_y_seeds_len, const double *decomposition, size_t decomposition_len,     \
+                    jc_intrinsics base, jc_pt2 center, const uint8_t *bytes, size_t bytes_len, double *list, size_t list_len) {     \
+        READ(tilt_x_seeds);                                                                                                         \
+        READ(tilt_y_seeds);                                                                                                         \
+        READ(decomposition);                                                                                                        \
+        READ(bytes);                                                                                                                \
+        WRITE(list);                                                                                                                \
+        CALL(name, views, options, tilt_x_seeds, tilt_x_seeds_len, tilt_y_seeds, tilt_y_seeds_len, decomposition, decomposition_len, \
+             base, center, bytes, bytes_len, list, list_len);                                                                       \
+    }
 
-jc_resume_flat jc_resume(size_t views, jc_options options, const double *tilt_x_seeds, size_t tilt_x_seeds_len,
-                         const double *tilt_y_seeds, size_t tilt_y_seeds_len, const double *decomposition, size_t decomposition_len,
-                         jc_intrinsics base, jc_pt2 center, const uint8_t *bytes, size_t bytes_len, double *list, size_t list_len) {
-    READ(tilt_x_seeds);
-    READ(tilt_y_seeds);
-    READ(decomposition);
-    READ(bytes);
-    WRITE(list);
-    CALL(jc_resume, views, options, tilt_x_seeds, tilt_x_seeds_len, tilt_y_seeds, tilt_y_seeds_len, decomposition, decomposition_len,
-         base, center, bytes, bytes_len, list, list_len);
-}
+OF_JOURNAL(jc_replay_flat, jc_replay)
+OF_JOURNAL(jc_resume_flat, jc_resume)
