@@ -2,7 +2,8 @@
  * own functions are then named unguarded_jc_start and so on. By turns a slice ends where a page begins that can't be read, and begins where one ends:
  * a read or write beyond it, on either side, ends the program with the call's name. What a call may only read must come back unchanged.
  *
- * JINNYCHAIR_GUARD=heap takes the memory from malloc instead, for tools that watch that; =short lends one number less than it says, to try the guards.
+ * JINNYCHAIR_GUARD=heap takes the memory from malloc instead, for tools that watch that; =short lends one number less than it says, to try the guards;
+ * =heap,short tries such a tool.
  */
 #define _GNU_SOURCE
 #include "jinnychair.h"
@@ -46,8 +47,8 @@ static void say_counts(void) { fprintf(stderr, "guard: %lu calls, %lu slices\n",
 
 __attribute__((constructor)) static void set_up(void) {
     const char *asked = getenv("JINNYCHAIR_GUARD");
-    on_heap = asked && !strcmp(asked, "heap");
-    is_short = asked && !strcmp(asked, "short");
+    on_heap = asked && strstr(asked, "heap");
+    is_short = asked && strstr(asked, "short");
     signal(SIGSEGV, on_fault);
     atexit(say_counts);
 }
@@ -79,7 +80,8 @@ static void give_back(void) {
     for (int i = 0; i < lent_count; i++) {
         lent_slice slice = lent[i];
         if (slice.to) memcpy(slice.to, slice.copy, slice.size);
-        if (memcmp(slice.of, slice.copy, slice.size)) fail("writes to what it may only read");
+        /* Numbers that the caller never set may be lent, and a tool that watches the heap takes comparing them for a fault. */
+        if (!slice.to && !on_heap && memcmp(slice.of, slice.copy, slice.size)) fail("writes to what it may only read");
         if (on_heap) free(slice.copy);
     }
     atomic_fetch_add(&calls, 1);
