@@ -41,30 +41,46 @@ pub fn chart(record: &Record) -> String {
     heading(&mut svg, record, winner);
     let parts = parts(tried, winner);
     let one_axis = record.is_one_axis();
-    let draw = if one_axis { one_axis::draw } else { two_axes };
-    let plots = draw(&mut svg, tried, winner, bound, &parts);
-    let top = if one_axis { PARTS_TOP } else { SECTIONS_TOP };
-    let legend = Legend { tried, bound, one_axis, left: COLUMNS[2], top }.draw(&mut svg);
-    let bottom = notes(&mut svg, record, legend.max(plots) + 32.0);
+    let best = winner.map(|_| best_names(record)[0]);
+    let plots = if one_axis {
+        one_axis::draw(&mut svg, tried, winner, bound, &parts)
+    } else {
+        two_axes(&mut svg, tried, winner.zip(best), bound, &parts)
+    };
+    // Without a winner there are neither enlarged parts nor lines through it.
+    let [left, top] = match (one_axis, winner) {
+        (true, _) => [COLUMNS[2], PARTS_TOP],
+        (false, None) => [COLUMNS[1], PARTS_TOP],
+        (false, Some(_)) => [COLUMNS[2], SECTIONS_TOP],
+    };
+    let legend = Legend { tried, bound, one_axis, best, left, top }.draw(&mut svg);
+    let bottom = notes(&mut svg, record, legend.max(plots));
     svg.finish([WIDTH, bottom + 24.0])
 }
 
-/// Parts of the plane of tilts, and the score along two lines through the winner; gives where they end.
+/// What the best tilt is called, within a text and at its begin.
+fn best_names(record: &Record) -> [&'static str; 2] {
+    match record.about("stopped") {
+        Some(_) => ["the best so far", "Best so far"],
+        None => ["the winner", "Winner"],
+    }
+}
+
+/// Parts of the plane of tilts, and the score along two lines through the best tilt; gives where they end.
 fn two_axes(
     svg: &mut Svg,
     tried: &[Tried],
-    winner: Option<&Tried>,
+    best: Option<(&Tried, &str)>,
     bound: Option<f64>,
     parts: &[Part],
 ) -> f64 {
     for (i, part) in parts.iter().enumerate() {
-        part.draw(svg, tried, winner, bound, parts.get(i + 1));
+        part.draw(svg, tried, best.map(|best| best.0), bound, parts.get(i + 1));
     }
+    let Some((winner, name)) = best else { return PARTS_TOP + PART + UNDER_A_PLOT };
     let range = parts.get(1).unwrap_or(&parts[0]);
-    if let Some(winner) = winner {
-        for (axis, left) in [0, 1].into_iter().zip(COLUMNS) {
-            Section::new(tried, winner, axis, range, [left, SECTIONS_TOP]).draw(svg);
-        }
+    for (axis, left) in [0, 1].into_iter().zip(COLUMNS) {
+        Section::new(tried, winner, axis, range, [left, SECTIONS_TOP]).draw(svg, name);
     }
     SECTIONS_TOP + section::HEIGHT + UNDER_A_PLOT
 }
@@ -92,9 +108,9 @@ fn parts(tried: &[Tried], winner: Option<&Tried>) -> Vec<Part> {
     parts
 }
 
-fn heading(svg: &mut Svg, record: &Record, winner: Option<&Tried>) {
+/// How many tilts were tried, and the best of them.
+fn summary(record: &Record, winner: Option<&Tried>) -> String {
     let tried = &record.tried;
-    svg.text([COLUMNS[0], 34.0], "start", 20.0, INK, "Every tried tilt");
     let skipped = tried.iter().filter(|one| one.outcome.score().is_none()).count();
     let won = winner.map_or("No winner.".into(), |winner| {
         let [x, y] = degrees(winner).map(|tilt| signed(tilt, 3));
@@ -103,13 +119,19 @@ fn heading(svg: &mut Svg, record: &Record, winner: Option<&Tried>) {
             format!(", mean error {:.3} px{rms}", scored.mean)
         });
         let y = if record.is_one_axis() { "held at 0".into() } else { format!("{y}°") };
-        format!("Winner: no. {}, tilt x {x}°, tilt y {y}{errors}.", winner.number)
+        let [_, name] = best_names(record);
+        format!("{name}: no. {}, tilt x {x}°, tilt y {y}{errors}.", winner.number)
     });
-    let rounds = last_round(tried);
-    let summary = format!(
-        "{} tilts tried, {skipped} skipped; {rounds} rounds after the first. {won}",
-        tried.len()
-    );
+    let counted =
+        |count: usize, name: &str| format!("{count} {name}{}", if count == 1 { "" } else { "s" });
+    let tilts = counted(tried.len(), "tilt");
+    let rounds = counted(last_round(tried), "round");
+    format!("{tilts} tried, {skipped} skipped; {rounds} after the first. {won}")
+}
+
+fn heading(svg: &mut Svg, record: &Record, winner: Option<&Tried>) {
+    svg.text([COLUMNS[0], 34.0], "start", 20.0, INK, "Every tried tilt");
+    let summary = summary(record, winner);
     svg.text([COLUMNS[0], 58.0], "start", 13.0, INK, &summary);
     if let Some(verdict) = record.about("verdict") {
         let colour = if verdict.starts_with("good") { GOOD } else { ALARM };
@@ -126,9 +148,14 @@ fn heading(svg: &mut Svg, record: &Record, winner: Option<&Tried>) {
     }
 }
 
-/// What was asked and found, line by line; gives where they end.
-fn notes(svg: &mut Svg, record: &Record, mut y: f64) -> f64 {
-    for (name, text) in record.about.iter().filter(|(name, _)| name != "bound_rad") {
+/// What was asked and found, line by line below the plots; gives where they end.
+fn notes(svg: &mut Svg, record: &Record, plots: f64) -> f64 {
+    let shown = record.about.iter().filter(|(name, _)| name != "bound_rad");
+    if shown.clone().count() == 0 {
+        return plots;
+    }
+    let mut y = plots + 32.0;
+    for (name, text) in shown {
         let colour = if name == "against" { ALARM } else { INK };
         for (i, line) in wrapped(text, LETTERS).iter().enumerate() {
             if i == 0 {

@@ -18,11 +18,11 @@ use crate::residuals::Fit;
 use crate::stretches::{self, Stretch, Won};
 use crate::table::{Record, SKIPS};
 use crate::verdict::{self, ONLY_BY_VIEWS, Point};
-use html::{element, escaped, facts, list, paragraph, part, section};
+use html::{css_string, element, escaped, facts, list, paragraph, part, section, wide};
 use jinnychair::journal::{
     EndedBy, Line, Resumed, StoredInputs, Views, inputs_path, sha256, what_differs,
 };
-use jinnychair::{LineRefusal, Search};
+use jinnychair::{LineRefusal, RunError, Search};
 use std::path::Path;
 
 /// How a page begins.
@@ -116,14 +116,13 @@ impl<'a> Told<'a> {
     }
 
     fn judge(&mut self, case: Result<Case, String>) -> Result<(), String> {
-        let winner = match (self.finished.winner, &self.finished.stop) {
-            (Ok(winner), _) => winner,
-            (Err(_), Some(_)) => {
-                self.head = "nothing is scored yet, and the journal ends before the run".into();
-                return Ok(());
-            }
-            (Err(error), None) => {
-                self.head = error.to_string();
+        let winner = match self.finished.winner {
+            Ok(winner) => winner,
+            Err(error) => {
+                self.head = no_winner(&self.finished, error);
+                let few = || verdict::too_few_counted(&self.finished.tried, &self.inputs.options);
+                self.against = case.as_ref().ok().and_then(|_| few()).into_iter().collect();
+                self.no_views = case.err();
                 return Ok(());
             }
         };
@@ -170,7 +169,7 @@ impl<'a> Told<'a> {
             self.chart(),
             self.counts(),
             self.winners(typed),
-            self.views(),
+            self.errors(),
             self.tried(),
             self.options(),
             self.versions(),
@@ -180,11 +179,19 @@ impl<'a> Told<'a> {
             "{HEAD}\n<html lang=\"en\">\n<head>\n<meta charset=\"utf-8\">\n\
              <meta name=\"viewport\" content=\"width=device-width, initial-scale=1\">\n\
              <meta http-equiv=\"Content-Security-Policy\" content=\"{POLICY}\">\n<title>{title}</title>\n\
-             <style>\n{}</style>\n</head>\n<body>\n{}<script>\n{}</script>\n</body>\n</html>\n",
+             <style>\n{}{}</style>\n</head>\n<body>\n{}<script>\n{}</script>\n</body>\n</html>\n",
             include_str!("page/style.css"),
+            self.footer(),
             body.concat(),
             include_str!("page/sort.js")
         )
+    }
+
+    /// What stands below each printed page.
+    fn footer(&self) -> String {
+        let (name, date, sum) = (&self.name, &self.inputs.date, &self.sums[0][..16]);
+        let text = format!("Tilt search: {name}, begun {date}, journal's SHA-256 {sum}...");
+        format!("@page {{ @bottom-left {{ content: {}; }} }}\n", css_string(&text))
     }
 
     fn heading(&self) -> String {
@@ -219,13 +226,20 @@ impl<'a> Told<'a> {
         if let Some(why) = &self.no_views {
             let why = format!("The views aren't at hand: {why}. So this wasn't looked at:");
             text += &element("p", &why);
-            let missing = ONLY_BY_VIEWS.iter().map(|what| element("li", what));
-            let held = "whether the sensor leans about the axis that is held";
-            let held = self.inputs.options.one_axis.then(|| element("li", held));
-            let missing = missing.chain(held);
+            let missing = self.not_looked_at().into_iter().map(|what| element("li", what));
             text += &format!("<ul>\n{}</ul>\n", missing.collect::<String>());
         }
         text + "</section>\n"
+    }
+
+    /// What only the views tell.
+    fn not_looked_at(&self) -> Vec<&'static str> {
+        if self.kind == Kind::Failed {
+            return vec!["how many dots were counted for each tilt"];
+        }
+        let held = "whether the sensor leans about the axis that is held";
+        let held = self.inputs.options.one_axis.then_some(held);
+        ONLY_BY_VIEWS.iter().copied().chain(held).collect()
     }
 
     fn winner(&self) -> String {
@@ -248,6 +262,8 @@ impl<'a> Told<'a> {
         // The tilts stand above; of one that is held more is said.
         let is_tilt = |row: &Row| row.0 == "tilt x" || (row.0 == "tilt y" && open.held.is_none());
         let mut rows: Vec<Row> = rows.into_iter().filter(|row| !is_tilt(row)).collect();
+        let place = rows.iter().position(|row| row.0.starts_with(' ')).unwrap_or(rows.len());
+        rows.insert(place, ("left open".into(), sum_text(open)));
         if self.no_views.is_some() {
             rows.iter_mut()
                 .filter(|row| row.0.trim() == "by noise")
@@ -270,8 +286,11 @@ impl<'a> Told<'a> {
         let about = journal::about(self.inputs).about;
         let needed = |name: &str| ["bound_rad", "axes"].contains(&name);
         let about = about.into_iter().filter(|(name, _)| needed(name)).collect();
-        let chart = chart(&Record { about, tried: self.finished.tried.clone() });
-        section("keep", "Chart", &format!("<figure>\n{chart}</figure>\n"))
+        let mut record = Record { about, tried: self.finished.tried.clone() };
+        if let Some(stop) = &self.finished.stop {
+            record.add("stopped", &report::stop_place(stop));
+        }
+        section("keep", "Chart", &wide(&format!("<figure>\n{}</figure>", chart(&record))))
     }
 
     fn counts(&self) -> String {
@@ -291,16 +310,21 @@ impl<'a> Told<'a> {
         let mut text = part("Of rounds", &won("Round", &stretches::of_rounds(&self.lines)));
         if let Some(typed) = typed {
             let mut holds = won("Lines", &stretches::of_stretches(&self.lines, typed));
-            let gaps = stretches::left_out(self.lines.len(), typed);
+            let count = self.lines.len();
+            let gaps = stretches::left_out(count, typed);
             let gaps = gaps.iter().map(|gap| element("p", &format!("In no stretch: {gap}.")));
             holds.extend(gaps);
+            if typed.last().is_some_and(|stretch| stretch.last > count) {
+                holds += &element("p", &format!("The journal has {count} lines."));
+            }
+            holds += &paragraph("note", "Lines are counted from 1, candidates from 0.");
             text += &part("Of stretches", &holds);
         }
         section("", "Winners", &format!("<div class=\"beside\">\n{text}</div>\n"))
     }
 
     /// The winner's errors, view by view.
-    fn views(&self) -> String {
+    fn errors(&self) -> String {
         let Some(fit) = &self.fit else { return String::new() };
         let heads = ["#View", "#Counted", "#Mean px", "#RMS px", "#Worst px"];
         let rows: Vec<_> = report::view_rows(fit).iter().map(|row| row.to_vec()).collect();
@@ -346,9 +370,12 @@ impl<'a> Told<'a> {
             row("views", inputs.views.to_string()),
             row(
                 "base camera",
-                [base.fx, base.fy, base.cx, base.cy].map(|n| format!("{n:.3}")).join("  ") + " px",
+                format!(
+                    "fx {:.3} px  fy {:.3} px  cx {:.3} px  cy {:.3} px",
+                    base.fx, base.fy, base.cx, base.cy
+                ),
             ),
-            row("centre of views", format!("{:.3}  {:.3} px", inputs.center.x, inputs.center.y)),
+            row("centre of views", format!("{:.3} px  {:.3} px", inputs.center.x, inputs.center.y)),
         ];
         rows.extend(self.choices());
         section("keep", "Options", &facts(&rows))
@@ -393,6 +420,28 @@ impl<'a> Told<'a> {
                     that the search hands out, bit by bit, and the score that its own numbers give.";
         section("keep", "Versions and checksums", &(facts(&rows) + &paragraph("note", text)))
     }
+}
+
+/// Why there is no winner.
+fn no_winner(finished: &Finished, error: RunError) -> String {
+    let RunError::Result(error) = error else { return error.to_string() };
+    if finished.stop.is_some() {
+        return "nothing is scored yet, and the journal ends before the run".into();
+    }
+    let why = match finished.tried.len() {
+        0 => "no tilt was tried: no pair of typed tilts lies within the bound, and there is no seed beside the grid".into(),
+        tried => format!("every tried tilt was skipped, {tried} in all. Look at the reasons below"),
+    };
+    format!("{} ({}): {why}.", error.fault(), error.number())
+}
+
+/// What the bounds of the tilts are made of.
+fn sum_text(open: &Open) -> String {
+    let [x, y] = open.total().map(degrees);
+    let y = if open.held.is_some() { String::new() } else { format!(", ±{y}° y") };
+    let is_known = open.noise.is_some() && open.centre_within.is_some();
+    let these = if is_known { "these" } else { "what is known of these" };
+    format!("±{x}° x{y}, the sum of {these}")
 }
 
 /// A verdict without the word that stands above it.

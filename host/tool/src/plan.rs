@@ -20,10 +20,12 @@ pub struct Axis {
     pub dropped: Vec<f64>,
     /// Those that were typed before.
     pub merged: Vec<f64>,
+    /// Those that no tilt about the other axis is left to be tried with.
+    pub alone: Vec<f64>,
     /// Stretches between tried tilts that no round can reach.
     pub holes: Vec<[f64; 2]>,
-    /// The outermost tilts that can be reached.
-    pub ends: [f64; 2],
+    /// The outermost tilts that can be reached; nothing where none is tried.
+    pub ends: Option<[f64; 2]>,
 }
 
 /// What will be tried.
@@ -47,14 +49,18 @@ impl Plan {
             let from = if *source == Source::SeedFile { "the file's" } else { "by decomposition" };
             format!("{from} {}° {}°", degrees(seed.sensor.tilt_x), degrees(seed.sensor.tilt_y))
         });
-        let x = Axis::new("x", &options.tilt_x_seeds, &tilts(|seed| seed.sensor.tilt_x), options);
-        let y = Axis::new("y", &options.tilt_y_seeds, &tilts(|seed| seed.sensor.tilt_y), options);
-        Self {
-            axes: [x, if options.one_axis { Axis::held("y") } else { y }],
-            seeds: words.collect(),
-            options: options.clone(),
-            is_grid_whole: true,
+        let x = Axis::new("x", &options.tilt_x_seeds, options.max_abs_tilt);
+        let y = Axis::new("y", &options.tilt_y_seeds, options.max_abs_tilt);
+        let mut axes = [x, if options.one_axis { Axis::held("y") } else { y }];
+        // The grid has pairs: where one list is empty, none of the other's is tried.
+        if axes.iter().any(|axis| axis.kept.is_empty()) {
+            axes.iter_mut().for_each(|axis| axis.alone = std::mem::take(&mut axis.kept));
         }
+        axes[0].reach_from(&tilts(|seed| seed.sensor.tilt_x), options);
+        if !options.one_axis {
+            axes[1].reach_from(&tilts(|seed| seed.sensor.tilt_y), options);
+        }
+        Self { axes, seeds: words.collect(), options: options.clone(), is_grid_whole: true }
     }
 
     /// The options that it is the plan of.
@@ -124,32 +130,37 @@ impl Plan {
 }
 
 impl Axis {
-    fn new(name: &'static str, typed: &[f64], seeds: &[f64], options: &Options) -> Self {
-        let (mut kept, mut dropped, mut merged) = (vec![], vec![], vec![]);
+    fn new(name: &'static str, typed: &[f64], bound: f64) -> Self {
+        let mut axis = Self::held(name);
+        (axis.is_held, axis.kept) = (false, vec![]);
         for &tilt in typed {
-            if tilt.abs() > options.max_abs_tilt {
-                dropped.push(tilt);
-            } else if kept.iter().any(|other: &f64| (tilt - other).abs() < NEAR) {
-                merged.push(tilt);
-            } else {
-                kept.push(tilt);
-            }
+            let is_near = |other: &f64| (tilt - other).abs() < NEAR;
+            let list = match tilt {
+                tilt if tilt.abs() > bound => &mut axis.dropped,
+                _ if axis.kept.iter().any(is_near) => &mut axis.merged,
+                _ => &mut axis.kept,
+            };
+            list.push(tilt);
         }
-        kept.sort_by(f64::total_cmp);
-        let mut starts: Vec<f64> = kept.iter().chain(seeds).copied().collect();
-        starts.sort_by(f64::total_cmp);
-        let (reach, bound) = (reach(options), options.max_abs_tilt);
-        let holes = starts.windows(2).map(|pair| [pair[0] + reach, pair[1] - reach]);
-        let holes = holes.filter(|[a, b]| b - a > last_step(options).max(NEAR)).collect();
-        let within =
-            |tilt: Option<&f64>, by: f64| tilt.map_or(0.0, |tilt| (tilt + by).clamp(-bound, bound));
-        let ends = [within(starts.first(), -reach), within(starts.last(), reach)];
-        Self { name, is_held: false, kept, dropped, merged, holes, ends }
+        axis.kept.sort_by(f64::total_cmp);
+        axis
     }
 
     fn held(name: &'static str) -> Self {
-        let (dropped, merged, holes) = (vec![], vec![], vec![]);
-        Self { name, is_held: true, kept: vec![0.0], dropped, merged, holes, ends: [0.0; 2] }
+        let (dropped, merged, alone, holes) = (vec![], vec![], vec![], vec![]);
+        Self { name, is_held: true, kept: vec![0.0], dropped, merged, alone, holes, ends: None }
+    }
+
+    /// Works out what the rounds reach from the typed tilts and from the seeds.
+    fn reach_from(&mut self, seeds: &[f64], options: &Options) {
+        let mut starts: Vec<f64> = self.kept.iter().chain(seeds).copied().collect();
+        starts.sort_by(f64::total_cmp);
+        let (reach, bound) = (reach(options), options.max_abs_tilt);
+        let holes = starts.windows(2).map(|pair| [pair[0] + reach, pair[1] - reach]);
+        self.holes = holes.filter(|[a, b]| b - a > last_step(options).max(NEAR)).collect();
+        let within = |tilt: f64| tilt.clamp(-bound, bound);
+        let ends = starts.first().zip(starts.last());
+        self.ends = ends.map(|(first, last)| [within(first - reach), within(last + reach)]);
     }
 
     fn width(&self) -> f64 {
@@ -179,6 +190,12 @@ impl Axis {
         if !self.merged.is_empty() {
             lines.push(format!("  merged        {name} {}: typed before", list(&self.merged)));
         }
+        if !self.alone.is_empty() {
+            let tilts = list(&self.alone);
+            lines.push(format!(
+                "  left out      {name} {tilts}: no tilt about the other axis is left"
+            ));
+        }
         lines
     }
 
@@ -196,8 +213,12 @@ impl Axis {
                 degrees(b)
             ));
         }
-        let [least, most] = self.ends.map(degrees);
-        lines.push(format!("  tilt {name}        nothing below {least}°, nothing above {most}°"));
+        lines.push(match self.ends.map(|ends| ends.map(degrees)) {
+            Some([least, most]) => {
+                format!("  tilt {name}        nothing below {least}°, nothing above {most}°")
+            }
+            None => format!("  tilt {name}        every tilt about {name}: none is tried"),
+        });
         if rounds > 0 {
             lines.extend(self.hole_texts().iter().map(|hole| format!("  HOLE          {hole}")));
         }
@@ -257,8 +278,28 @@ mod tests {
     fn rounds_that_meet_leave_no_hole_and_the_bound_ends_them() {
         let plan = plan(&[-14.5, -11.0, 0.0], &[0.0, 3.5], 3);
         assert_eq!(plan.axes[1].holes, Vec::<[f64; 2]>::new());
-        assert!((plan.axes[0].ends[0].to_degrees() + 15.0).abs() < 1e-12);
+        assert!((plan.axes[0].ends.unwrap()[0].to_degrees() + 15.0).abs() < 1e-12);
         assert_eq!(plan.axes[0].holes.len(), 1);
+    }
+
+    #[test]
+    fn without_a_tilt_about_x_no_typed_tilt_about_y_is_tried() {
+        let text = plan(&[20.0], &[0.0, 3.5], 3).text();
+        for said in [
+            "tilts x       none of the typed ones\n  left out      x 20.000°: beyond the bound\n",
+            "tilts y       none of the typed ones\n  left out      y 0°, 3.500°: no tilt about the other axis is left\n",
+            "tilt x        every tilt about x: none is tried\n",
+            "tilt y        every tilt about y: none is tried\n",
+        ] {
+            assert!(text.contains(said), "{said}\n{text}");
+        }
+        let seed = Seed::from_numbers([1000.0, 1000.0, 640.0, 480.0, 0.01, 0.0]);
+        let options = options(&[20.0], &[0.0, 3.5], 3);
+        let text = Plan::new(&options, &[(Source::Decomposition, seed)]).text();
+        assert!(
+            text.contains("tilt y        nothing below -1.750°, nothing above 1.750°"),
+            "{text}"
+        );
     }
 
     #[test]

@@ -76,6 +76,17 @@ fn sort_value(row: &str, column: usize) -> Option<f64> {
     if value.is_empty() { None } else { Some(value.parse().unwrap()) }
 }
 
+/// The order of a row's seed by its text: a round's by the number that it lies around, which letters would sort otherwise.
+fn source_order(row: &str) -> f64 {
+    let cell = row.split("<td").nth(3).unwrap().split('>').nth(1).unwrap();
+    match cell.split('<').next().unwrap() {
+        "decomposition" => -3.0,
+        "seed file" => -2.0,
+        "grid" => -1.0,
+        around => around.strip_prefix("around ").unwrap().parse().unwrap(),
+    }
+}
+
 fn rows(page: &str) -> Vec<&str> {
     let table = page.split("id=\"candidates\"").nth(1).unwrap();
     let body = table.split("<tbody>\n").nth(1).unwrap().split("</tbody>").next().unwrap();
@@ -98,7 +109,8 @@ fn a_good_search_is_on_its_page_with_all_that_was_asked_and_found() {
             "✓ GOOD</p>\n<p>nothing that was looked at speaks against the winner</p>",
             "<h2>Winner</h2>",
             "<span>tilt x</span>−1.1942° ± 0.123°<span>−0.020843 rad</span>",
-            "±0.031° x, ±0.031° y</td>",
+            "<th scope=\"row\">left open</th><td>±0.123° x, ±0.123° y, the sum of these</td></tr>\n\
+             <tr><th scope=\"row\" class=\"in\">by the steps</th><td>±0.031° x, ±0.031° y</td>",
             "±0.081° x, ±0.081° y for a centre within 2 px",
             "<figure>\n<!-- A chart of jinnychair. -->\n<svg ",
             "<td>S</td><td class=\"n\">52</td><td>scored</td>",
@@ -106,7 +118,9 @@ fn a_good_search_is_on_its_page_with_all_that_was_asked_and_found() {
             "<code>52,0,0,0,0,52</code>",
             "<td>round 5</td><td>no. ",
             "<td>lines 8 to 30</td><td>no. ",
-            "<p>In no stretch: lines 31 to 39.</p>",
+            "<p>In no stretch: lines 31 to 39.</p>\n<p class=\"note\">Lines are counted from 1, candidates from 0.</p>",
+            "<td>fx 1418.856 px  fy 1415.043 px  cx 655.000 px  cy 470.000 px</td>",
+            "★ the winner. S scored; H skipped: the host found no camera; ",
             "<h2>The winner&#39;s errors</h2>",
             "view 13, place 180 60: 0.22",
             "5 after the grid, steps from 0.500° down to 0.031°; they reach 0.969° from a seed",
@@ -126,6 +140,7 @@ fn a_good_search_is_on_its_page_with_all_that_was_asked_and_found() {
     assert_eq!(rows.len(), lines.len());
     for (row, line) in rows.iter().zip(&lines) {
         assert_eq!(sort_value(row, 0), Some(line.number as f64));
+        assert_eq!(sort_value(row, 2), Some(source_order(row)));
         assert_eq!(sort_value(row, 3), Some(line.seed.sensor.tilt_x.to_degrees()));
         assert_eq!(sort_value(row, 6), line.outcome().score());
         assert!(sort_value(row, 8).is_some() && row.contains(">980/980<"));
@@ -134,11 +149,16 @@ fn a_good_search_is_on_its_page_with_all_that_was_asked_and_found() {
     for name in ["no", "round", "seed", "tilt-x", "outcome", "score", "rms", "p2"] {
         assert_has(&page, &[&format!("id=\"by-{name}\"")]);
     }
-    // It prints, and it is written anew.
-    assert_has(
-        &page,
-        &["@media print", "@page { size: A4;", "thead { display: table-header-group; }"],
+    // It prints, each sheet with the journal's name, and it is written anew.
+    let begun = file(here.join("night.inputs"));
+    let begun = begun.lines().find_map(|line| line.strip_prefix("date ")).unwrap();
+    let footer = format!(
+        "@page {{ @bottom-left {{ content: \"Tilt search: night, begun {begun}, journal\\27 s SHA-256 {}...\"; }} }}",
+        &journal[..16]
     );
+    let parts = ["@media print", "@page { size: A4;", "thead { display: table-header-group; }"];
+    assert_has(&page, &parts);
+    assert_has(&page, &["\"page \" counter(page) \" of \" counter(pages)", &footer]);
     assert_eq!(self::page(&here, &["--views=views.txt"], 0).matches("<h1>").count(), 1);
 }
 
@@ -193,7 +213,10 @@ fn without_the_views_the_page_says_what_could_not_be_looked_at() {
         &[
             "? NOT WHOLE</p>\n<p>nothing that can be looked at without the views speaks against the winner</p>",
             "The views aren&#39;t at hand: views.txt: can&#39;t be read: ",
+            "±0.031° x, ±0.031° y, the sum of what is known of these",
             "by noise</th><td>not known without the views</td>",
+            // An option stays on one line.
+            "tolerance with <span class=\"word\">--centre-within</span> PX</td>",
             "<span>tilt x</span>−1.1942° ± 0.031°",
         ],
     );
@@ -229,10 +252,11 @@ fn runs_without_a_winner_and_unfinished_ones_have_a_page() {
     let none = page(&here, &[], 3);
     assert_sound(&none);
     let parts = [
-        "✗ NO WINNER</p>\n<p>the run ended and no candidate was scored (11). Look at",
+        "✗ NO WINNER</p>\n<p>the run ended and no candidate was scored (11): no tilt was tried: no pair",
         "<p>No tilt was tried.</p>",
         "none: nothing was scored",
         "<td>none of the typed ones</td>",
+        "<td>every tilt about y: none is tried</td>",
     ];
     assert_has(&none, &parts);
     assert!(!none.contains("<h2>Candidates</h2>"));
@@ -245,6 +269,9 @@ fn runs_without_a_winner_and_unfinished_ones_have_a_page() {
         "Go on with it: `jinnychair resume` and the journal&#39;s name.</li>",
         "<p>The journal: line 27 has no end: it was cut off, or is being written. It is left out.</p>",
         "<td>by the end of the journal, in round 3 of 5",
+        "3 rounds after the first. Best so far: no. ",
+        ">the best so far</text>",
+        "★ the best so far. S scored",
     ];
     let unfinished = page(&here, &[], 3);
     assert_sound(&unfinished);
@@ -253,6 +280,29 @@ fn runs_without_a_winner_and_unfinished_ones_have_a_page() {
     let empty = page(&here, &[], 3);
     assert_sound(&empty);
     assert_has(&empty, &["✗ NO WINNER</p>\n<p>nothing is scored yet, and the journal ends before"]);
+}
+
+#[test]
+fn a_run_whose_tilts_were_all_skipped_has_a_page() {
+    let here = searched("page-skipped", &[]);
+    let mut lines = Journal::read(&here.join("night")).unwrap().lines;
+    lines.retain(|line| line.round == 0);
+    lines.iter_mut().for_each(|line| line.outcome = Recorded::Skipped(SkipReason::NoMean));
+    write_journal(&here.join("night"), &lines);
+    let skipped = page(&here, &[], 3);
+    assert_sound(&skipped);
+    let head = "✗ NO WINNER</p>\n<p>the run ended and no candidate was scored (11): every tried tilt was skipped, 7 in all. Look";
+    assert_has(&skipped, &[head, "<code>0,0,0,7,0,7</code>", "E</text>"]);
+    // Neither colours nor marks of what there isn't.
+    for part in ["best score", "the winner", "colours", "★"] {
+        assert!(!skipped.contains(part), "{part}");
+    }
+    fs::remove_file(here.join("views.txt")).unwrap();
+    let told = "views           not at hand: views.txt: can't be read: ";
+    assert_said(&here, &["report", "night", "--page=night.html"], 3, &[told]);
+    let parts =
+        ["So this wasn&#39;t looked at:", "<li>how many dots were counted for each tilt</li>"];
+    assert_has(&file(here.join("night.html")), &parts);
 }
 
 #[test]
@@ -291,6 +341,7 @@ fn names_are_texts_and_no_page_vouches_for_a_changed_journal() {
     let odd = file(here.join("odd.html"));
     assert_sound(&odd);
     assert_has(&odd, &["<title>Tilt search: &lt;b&gt;&amp;&quot;&#39;</title>"]);
+    assert_has(&odd, &["content: \"Tilt search: \\3c b\\3e \\26 \\22 \\27 , begun "]);
     let mut lines = Journal::read(&here.join("night")).unwrap().lines;
     lines[9].round = 3;
     write_journal(&here.join("night"), &lines);

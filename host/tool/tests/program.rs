@@ -237,7 +237,7 @@ fn a_time_limit_stops_between_two_tilts() {
         "{table}"
     );
     assert!(table.contains("\n# against: the search was stopped by the time limit"), "{table}");
-    assert!(file(here.join("tilts.svg")).contains("1 tilts tried, 0 skipped"));
+    assert!(file(here.join("tilts.svg")).contains("1 tilt tried, 0 skipped"));
     // Time enough.
     fs::write(here.join("lab.txt"), "minutes 1e9\n").unwrap();
     said(&here, &small(&["--options=lab.txt"]), 0);

@@ -13,6 +13,8 @@ pub struct Legend<'a> {
     pub tried: &'a [Tried],
     pub bound: Option<f64>,
     pub one_axis: bool,
+    /// What the ring marks, if there is one.
+    pub best: Option<&'a str>,
     pub left: f64,
     pub top: f64,
 }
@@ -23,13 +25,14 @@ impl Legend<'_> {
         let y = self.rounds(svg, self.top - 10.0);
         let y = self.reasons(svg, y + 12.0);
         let y = self.marks(svg, y + 14.0);
-        if self.one_axis {
+        if self.one_axis || self.best.is_none() {
             return y;
         }
         let part = (1.0 / BESIDE).round();
         let text = format!("Score along a tilt: beside the line by at most 1/{part}");
         svg.text([self.left, y], "start", 11.0, INK, &text);
-        svg.text([self.left, y + 15.0], "start", 11.0, INK, "of the distance from the winner");
+        let text = format!("of the distance from {}", self.best.unwrap_or_default());
+        svg.text([self.left, y + 15.0], "start", 11.0, INK, &text);
         y + 15.0
     }
 
@@ -38,7 +41,8 @@ impl Legend<'_> {
     }
 
     fn rounds(&self, svg: &mut Svg, y: f64) -> f64 {
-        let colours = if self.one_axis { "" } else { " (colours: score within each part)" };
+        let has_colours = !self.one_axis && self.best.is_some();
+        let colours = if has_colours { " (colours: score within each part)" } else { "" };
         svg.text([self.left, y], "start", 13.0, INK, &format!("Round{colours}"));
         let last = last_round(self.tried);
         for round in 0..=last {
@@ -61,10 +65,12 @@ impl Legend<'_> {
         y + ROW * (SKIPS.len() + 1) as f64
     }
 
-    fn marks(&self, svg: &mut Svg, y: f64) -> f64 {
-        svg.ring([self.left + 14.0, y]);
-        self.text(svg, y, "the winner");
-        let mut y = y + 38.0;
+    fn marks(&self, svg: &mut Svg, mut y: f64) -> f64 {
+        if let Some(best) = self.best {
+            svg.ring([self.left + 14.0, y]);
+            self.text(svg, y, best);
+            y += 38.0;
+        }
         for (source, words) in
             [(Source::Decomposition, "seed by decomposition"), (Source::SeedFile, "seed of a file")]
         {

@@ -107,7 +107,7 @@ impl Part {
         if let Some(bound) = bound {
             self.bound(svg, bound);
         }
-        self.marks(svg, tried, &scale);
+        self.marks(svg, tried, scale.as_ref());
         if let Some(winner) = winner.filter(|winner| self.holds(winner)) {
             svg.ring(self.place(winner));
         }
@@ -116,7 +116,9 @@ impl Part {
         }
         svg.close();
         svg.rectangle(self.corner, [PART, PART], &format!(r#"fill="none" stroke="{INK}""#));
-        scale.bar(svg, [self.corner[0], self.corner[1] + PART + 48.0]);
+        if let Some(scale) = &scale {
+            scale.bar(svg, [self.corner[0], self.corner[1] + PART + 48.0]);
+        }
     }
 
     /// Title, grid and axes.
@@ -166,13 +168,16 @@ impl Part {
         );
     }
 
-    fn marks(&self, svg: &mut Svg, tried: &[Tried], scale: &Scale) {
+    fn marks(&self, svg: &mut Svg, tried: &[Tried], scale: Option<&Scale>) {
         let largest = self.largest_mark(tried);
         for one in tried.iter().filter(|one| self.holds(one)) {
             let place = self.place(one);
             svg.told(&told(one));
             match one.outcome.score() {
-                Some(score) => svg.mark(place, one.round, largest, &scale.colour(score)),
+                Some(score) => {
+                    let share = scale.map_or(0.0, |scale| scale.share(score));
+                    svg.mark(place, one.round, largest, &colour(share));
+                }
                 None => svg.skipped(place, letter(&one.outcome)),
             }
             if matches!(one.source, Source::Decomposition | Source::SeedFile) {
@@ -258,24 +263,22 @@ struct Scale {
 }
 
 impl Scale {
-    fn new<'a>(tried: impl Iterator<Item = &'a Tried>) -> Self {
+    /// Nothing where no score is finite and above 0.
+    fn new<'a>(tried: impl Iterator<Item = &'a Tried>) -> Option<Self> {
         let scores: Vec<f64> = tried
             .filter_map(|one| one.outcome.score())
             .filter(|s| s.is_finite() && *s > 0.0)
             .collect();
-        let high = scores.iter().copied().fold(f64::MIN_POSITIVE, f64::max);
+        let high = scores.iter().copied().reduce(f64::max)?;
         let low = scores.iter().copied().fold(high, f64::min);
         // A single score still needs a scale of some length.
-        if low < high { Self { low, high } } else { Self { low: 0.5 * high, high: 2.0 * high } }
+        let [low, high] = if low < high { [low, high] } else { [0.5 * high, 2.0 * high] };
+        Some(Self { low, high })
     }
 
     /// 0 for the lowest score, 1 for the highest.
     fn share(&self, score: f64) -> f64 {
         ((score / self.low).ln() / (self.high / self.low).ln()).clamp(0.0, 1.0)
-    }
-
-    fn colour(&self, score: f64) -> String {
-        colour(self.share(score))
     }
 
     /// The colours with the lowest and the highest score of the part.

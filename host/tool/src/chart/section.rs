@@ -48,10 +48,11 @@ impl<'a> Section<'a> {
         Self { winner, plot: plot.with_room_for(&on_line, ROOM), on_line }
     }
 
-    pub fn draw(&self, svg: &mut Svg) {
+    /// `best` is what the winner is called.
+    pub fn draw(&self, svg: &mut Svg, best: &str) {
         let [left, top] = self.plot.corner;
         let name = ["x", "y"][self.plot.axis];
-        let title = format!("Score along tilt {name}, through the winner");
+        let title = format!("Score along tilt {name}, through {best}");
         svg.text([left, top - 10.0], "start", 13.0, INK, &title);
         if finite_score(self.winner).is_none() {
             let text = "The winner's score isn't finite.";

@@ -1,7 +1,7 @@
 //! Every tried tilt, in a table that a click on a heading sorts.
 
-use super::html::{escaped, section};
-use crate::drive::{Finished, Scored, Tried};
+use super::html::{escaped, paragraph, section, wide};
+use crate::drive::{Finished, Scored, Source, Tried};
 use crate::table::{SKIPS, letter, source_text};
 
 /// For each column the name behind `#sort=`, its heading, and whether it holds numbers.
@@ -24,7 +24,7 @@ const COLUMNS: [(&str, &str, bool); 16] = [
     ("p2", "p2", true),
 ];
 
-/// What stands in a cell, and the number by which it is sorted: of a column of numbers nothing where it has none.
+/// What stands in a cell, and the number by which it is sorted; where it has none, a text goes by its letters.
 struct Cell(String, Option<f64>);
 
 /// The table; nothing where no tilt was tried.
@@ -43,19 +43,27 @@ pub fn table(finished: &Finished) -> String {
             "<th scope=\"col\" id=\"by-{name}\"{class} aria-sort=\"{sorted}\"><span>{heading}</span></th>"
         )
     };
+    let table = format!(
+        "<table class=\"list\" id=\"candidates\"><thead><tr>{}</tr></thead><tbody>\n{rows}</tbody></table>",
+        COLUMNS.iter().map(head).collect::<String>()
+    );
+    let click = "Click a heading to sort by it, and again for the other order.";
+    let notes = paragraph("note", &notes(finished)) + &paragraph("script", click);
+    section("candidates", "Candidates", &(notes + &wide(&table)))
+}
+
+/// What the table's signs mean.
+fn notes(finished: &Finished) -> String {
+    let star = match (&finished.winner, &finished.stop) {
+        (Err(_), _) => "",
+        (Ok(_), None) => "★ the winner. ",
+        (Ok(_), Some(_)) => "★ the best so far. ",
+    };
     let skips = SKIPS.iter().map(|(_, letter, words)| format!("{letter} skipped: {words}"));
-    let letters = format!("S scored; {}.", skips.collect::<Vec<_>>().join("; "));
-    section(
-        "candidates",
-        "Candidates",
-        &format!(
-            "<p class=\"note\">★ the winner. {} A cell without a number has a minus sign.</p>\n\
-             <p class=\"script\">Click a heading to sort by it, and again for the other order.</p>\n\
-             <div class=\"wide\"><table class=\"list\" id=\"candidates\"><thead><tr>{}</tr></thead><tbody>\n{rows}\
-             </tbody></table></div>\n",
-            escaped(&letters),
-            COLUMNS.iter().map(head).collect::<String>()
-        ),
+    format!(
+        "{star}S scored; {}. A cell without a number has a minus sign. Candidates are counted from 0. Numbers are \
+         rounded; the journal has every bit.",
+        skips.collect::<Vec<_>>().join("; ")
     )
 }
 
@@ -67,13 +75,13 @@ fn row(one: &Tried, is_winner: bool) -> String {
     };
     let cells =
         cells(one, is_winner).into_iter().zip(COLUMNS).map(|(Cell(text, value), column)| {
-            let text = escaped(&text);
-            if !column.2 {
-                return format!("<td>{text}</td>");
+            let (text, value) = (escaped(&text), value.filter(|value| value.is_finite()));
+            let class = if column.2 { " class=\"n\"" } else { "" };
+            match value {
+                Some(value) => format!("<td{class} data-v=\"{value}\">{text}</td>"),
+                None if column.2 => format!("<td{class} data-v=\"\">{text}</td>"),
+                None => format!("<td>{text}</td>"),
             }
-            let value =
-                value.filter(|value| value.is_finite()).map_or(String::new(), |v| v.to_string());
-            format!("<td class=\"n\" data-v=\"{value}\">{text}</td>")
         });
     format!("<tr{class}>{}</tr>\n", cells.collect::<String>())
 }
@@ -91,7 +99,7 @@ fn cells(one: &Tried, is_winner: bool) -> Vec<Cell> {
     vec![
         Cell(format!("{star}{}", one.number), Some(one.number as f64)),
         Cell(one.round.to_string(), Some(one.round as f64)),
-        Cell(source_text(one.source), None),
+        Cell(source_text(one.source), Some(source_order(one.source))),
         number(Some(sensor.tilt_x.to_degrees()), 4),
         number(Some(sensor.tilt_y.to_degrees()), 4),
         Cell(letter(&one.outcome).into(), None),
@@ -106,4 +114,14 @@ fn cells(one: &Tried, is_winner: bool) -> Vec<Cell> {
         of(|scored| scored.camera.dist.p1, 5),
         of(|scored| scored.camera.dist.p2, 5),
     ]
+}
+
+/// The decomposition's seeds, a file's, the grid's, then those of rounds by the candidate that they lie around.
+fn source_order(source: Source) -> f64 {
+    match source {
+        Source::Decomposition => -3.0,
+        Source::SeedFile => -2.0,
+        Source::Grid => -1.0,
+        Source::Around(number) => number as f64,
+    }
 }

@@ -16,14 +16,40 @@ pub fn escaped(text: &str) -> String {
     escaped
 }
 
+/// A text whose options, as --step, stay on one line.
+fn unbroken(text: &str) -> String {
+    let word = |word: &str| {
+        let escaped = escaped(word);
+        if word.contains("--") { format!("<span class=\"word\">{escaped}</span>") } else { escaped }
+    };
+    text.split(' ').map(word).collect::<Vec<_>>().join(" ")
+}
+
+/// A text as a string of CSS, which no letter of it can end.
+pub fn css_string(text: &str) -> String {
+    let letter = |c: char| match c {
+        c if c.is_ascii_alphanumeric() || " .,:-_".contains(c) => c.to_string(),
+        c => format!("\\{:x} ", u32::from(c)),
+    };
+    format!("\"{}\"", text.chars().map(letter).collect::<String>())
+}
+
 /// An element with a text.
 pub fn element(name: &str, text: &str) -> String {
-    format!("<{name}>{}</{name}>\n", escaped(text))
+    format!("<{name}>{}</{name}>\n", unbroken(text))
 }
 
 /// A paragraph that looks as its class says.
 pub fn paragraph(class: &str, text: &str) -> String {
-    format!("<p class=\"{class}\">{}</p>\n", escaped(text))
+    format!("<p class=\"{class}\">{}</p>\n", unbroken(text))
+}
+
+/// What is as wide as it has to be: a narrow screen shows a part of it at a time.
+pub fn wide(holds: &str) -> String {
+    format!(
+        "{}<div class=\"wide\">{holds}</div>\n",
+        paragraph("note narrow", "Wider than this screen: move it sideways.")
+    )
 }
 
 /// A section with its heading; what it holds is HTML.
@@ -40,7 +66,7 @@ pub fn part(heading: &str, holds: &str) -> String {
 pub fn facts(rows: &[(String, String)]) -> String {
     let row = |(name, value): &(String, String)| {
         let class = if name.starts_with(' ') || name.is_empty() { " class=\"in\"" } else { "" };
-        let (name, value) = (escaped(name.trim()), escaped(value));
+        let (name, value) = (escaped(name.trim()), unbroken(value));
         format!("<tr><th scope=\"row\"{class}>{name}</th><td>{value}</td></tr>\n")
     };
     format!(
@@ -65,6 +91,6 @@ pub fn list(heads: &[&str], rows: &[Vec<String>], has_sum: bool) -> String {
     let heads: String = heads.iter().enumerate().map(head).collect();
     let rows: String = rows.iter().enumerate().map(row).collect();
     format!(
-        "<table class=\"list\"><thead><tr>{heads}</tr></thead><tbody>\n{rows}</tbody></table>\n"
+        "<div class=\"wide\"><table class=\"list\"><thead><tr>{heads}</tr></thead><tbody>\n{rows}</tbody></table></div>\n"
     )
 }
