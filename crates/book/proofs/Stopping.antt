@@ -22,7 +22,7 @@ use Rattle.score_outcome.specs.declared.Outcome.the-variants.{Scored}
 use Rattle.score_outcome.specs.Facts.{ScoredFacts}
 use Rattle.score_best.specs.declared.Candidate.{Candidate}
 use Rattle.score_best.specs.Best.{beats, chosen, bestOf, candidateOf}
-use Rattle.score_best.specs.Order.{Sound, lower-beats, best-leads, lead-on, found-leads}
+use Rattle.score_best.specs.Order.{HasNumber, lower-beats, best-leads, lead-on, found-leads}
 use Rattle.score_floor.specs.Floor.{floorOf}
 use Rattle.score_floor.specs.FloorLaws.{floor-number, above-floor}
 use Rattle.book.specs.Calls.{Call}
@@ -142,7 +142,7 @@ module _ (i : Inputs) (b : Book) where
       (h .0)
 
   -- ---- none of these beats a best whose score the floor isn't below
-  module _ (w : Candidate) (number : Sound w) (high : lt (floorOf (leftIn b)) (w .score) ≡ false) where
+  module _ (w : Candidate) (number : HasNumber w) (high : lt (floorOf (leftIn b)) (w .score) ≡ false) where
     one-loses : (e : Entry) → FromLeft e → (m : Scoring) → e .outcome ≡ Scored m → beats (candidateOf (e .number) (e .seed .sensor) m) w ≡ false
     one-loses e f m q =
         let v = candidateOf (e .number) (e .seed .sensor) m in

@@ -14,7 +14,7 @@ use Rattle.seed_rules.specs.Rules.{within, inBound, untiltedY}
 use Rattle.seed_rules.specs.Bound.{within-order}
 use Rattle.score_best.specs.declared.Candidate.{Candidate}
 use Rattle.score_best.specs.Best.{beats, chosen, bestOf}
-use Rattle.score_best.specs.Order.{Sound, lower-beats, beats-number, Leads, found-leads}
+use Rattle.score_best.specs.Order.{HasNumber, lower-beats, beats-number, Leads, found-leads}
 use Rattle.book.specs.Book.{Inputs, Entry, scoredOf}
 use Rattle.book.specs.Theorem.{Wins}
 use Rattle.book.proofs.Cases.{case-outcome}
@@ -62,45 +62,45 @@ module _ (w : Candidate) where
   Later v = eq (w .score) (v .score) ≡ true → (v ≡ w) ⊎ (w .number < v .number)
 
   -- where every score is a number
-  beaten-lower : (v : Candidate) → Sound v → beats w v ≡ true → lt (w .score) (v .score) ≡ true
+  beaten-lower : (v : Candidate) → HasNumber v → beats w v ≡ true → lt (w .score) (v .score) ≡ true
   beaten-lower v n h = sym (lower-beats w v (beats-number w v h) n) ∙ h
 
-  not-lower : (v : Candidate) → Sound w → Sound v → beats v w ≡ false → lt (v .score) (w .score) ≡ false
+  not-lower : (v : Candidate) → HasNumber w → HasNumber v → beats v w ≡ false → lt (v .score) (w .score) ≡ false
   not-lower v m n h = sym (lower-beats v w n m) ∙ h
 
-  ahead-most : (v : Candidate) → Sound v × (beats w v ≡ true) → AtMost v
+  ahead-most : (v : Candidate) → HasNumber v × (beats w v ≡ true) → AtMost v
   unfolding AtMost
   ahead-most v h = below-le (w .score) (v .score) (beaten-lower v (h .0) (h .1))
 
-  ahead-later : (v : Candidate) → Sound v × (beats w v ≡ true) → Later v
+  ahead-later : (v : Candidate) → HasNumber v × (beats w v ≡ true) → Later v
   unfolding Later
   ahead-later v h e = absurd (true≢false (sym e ∙ lt-not-eq (w .score) (v .score) (beaten-lower v (h .0) (h .1))))
 
-  own-most : Sound w → AtMost w
+  own-most : HasNumber w → AtMost w
   unfolding AtMost
   own-most n = le-of-not-lt (w .score) (w .score) n n (lt-irrefl (w .score))
 
-  behind-most : Sound w → (v : Candidate) → Sound v × (beats v w ≡ false) → AtMost v
+  behind-most : HasNumber w → (v : Candidate) → HasNumber v × (beats v w ≡ false) → AtMost v
   unfolding AtMost
   behind-most n v h = le-of-not-lt (w .score) (v .score) n (h .0) (not-lower v n (h .0) (h .1))
 
-  all-most : (ws : List Candidate) → All Sound ws → Leads ws w → All AtMost ws
+  all-most : (ws : List Candidate) → All HasNumber ws → Leads ws w → All AtMost ws
   all-most ws s l =
-      let t : All Sound (l .before ++ w ∷ l .behind) = rw (l .split) at s in
-      let r = all-right Sound (l .before) (w ∷ l .behind) t in
+      let t : All HasNumber (l .before ++ w ∷ l .behind) = rw (l .split) at s in
+      let r = all-right HasNumber (l .before) (w ∷ l .behind) t in
       rw (l .split)
       (all-append AtMost (l .before) (w ∷ l .behind)
-      (all-both Sound (λ v. beats w v ≡ true) AtMost ahead-most (l .before) (all-left Sound (l .before) (w ∷ l .behind) t) (l .ahead))
-      (own-most (l .number), all-both Sound (λ v. beats v w ≡ false) AtMost (behind-most (l .number)) (l .behind) (r .1) (l .unbeaten-by)))
+      (all-both HasNumber (λ v. beats w v ≡ true) AtMost ahead-most (l .before) (all-left HasNumber (l .before) (w ∷ l .behind) t) (l .ahead))
+      (own-most (l .number), all-both HasNumber (λ v. beats v w ≡ false) AtMost (behind-most (l .number)) (l .behind) (r .1) (l .unbeaten-by)))
 
-  all-earliest : (ws : List Candidate) → All Sound ws → Rising ws → Leads ws w → All Later ws
+  all-earliest : (ws : List Candidate) → All HasNumber ws → Rising ws → Leads ws w → All Later ws
   unfolding Later
   all-earliest ws n s l =
       let t : Rising (l .before ++ w ∷ l .behind) = rw (l .split) at s in
-      let m : All Sound (l .before ++ w ∷ l .behind) = rw (l .split) at n in
+      let m : All HasNumber (l .before ++ w ∷ l .behind) = rw (l .split) at n in
       rw (l .split)
       (all-append Later (l .before) (w ∷ l .behind)
-      (all-both Sound (λ v. beats w v ≡ true) Later ahead-later (l .before) (all-left Sound (l .before) (w ∷ l .behind) m) (l .ahead))
+      (all-both HasNumber (λ v. beats w v ≡ true) Later ahead-later (l .before) (all-left HasNumber (l .before) (w ∷ l .behind) m) (l .ahead))
       ((λ e. inl refl), all-map (λ v. w .number < v .number) Later (λ v p e. inr p) (l .behind) (rising-behind (l .before) w (l .behind) t)))
 
   leads-mem : (ws : List Candidate) → Leads ws w → List·Memᴰ w ws
@@ -116,8 +116,8 @@ unfolding inBound
 bound-parts i w h = both-true (within (i .max) (w .sensor .«tilt_x»)) (within (i .max) (w .sensor .«tilt_y»)) h
 
 -- every score is a number
-pub numbers : (i : Inputs) (es : List Entry) → All (Proper i) es → All Sound (scoredOf es)
-numbers i es p = all-map (ProperCandidate i) Sound (λ v q. q .facts .score-number) (scoredOf es) (scored-proper i es p)
+pub numbers : (i : Inputs) (es : List Entry) → All (Proper i) es → All HasNumber (scoredOf es)
+numbers i es p = all-map (ProperCandidate i) HasNumber (λ v q. q .facts .score-number) (scoredOf es) (scored-proper i es p)
 
 pub winner : (i : Inputs) (es : List Entry) (w : Candidate) → Counted 0 es → All (Proper i) es → bestOf (scoredOf es) ≡ chosen w → Wins i es w
 unfolding AtMost Later

@@ -1,4 +1,4 @@
-// The search: Start, Next, the seed call, Answer, Result, the progress call, the stop call, the last line and the counts over the run's record. The caller keeps the record that a call returns and hands it to the next.
+// The search: Start, Next, the seed call, Answer, Result, the progress call, the stop call, the last line and the counts over the run's record; and the winner of two stretches. The caller keeps the record that a call returns and hands it to the next.
 ghost use mathlib.Core.Path.{_≡_};
 ghost use Rattle.search_start.specs.Start.{startReply, startList};
 ghost use Rattle.search_calls.specs.Next.{nextDef, seedPart};
@@ -73,7 +73,7 @@ pub extern "C" fn jc_next(run: RunRecord, list: &[f64]) -> NextFlat
     next_flat(search_calls::next::next(run_of(run), list))
 }
 
-// The seed call: the waiting seed's six numbers are copied to the front of `to`. How many were copied: 6, or 0 where none waits or `to` is too short.
+// The seed call: the waiting seed's six numbers are copied to the front of `to`. How many were copied: 6, or 0 where none waits, or the list or `to` is too short.
 #[no_mangle]
 pub extern "C" fn jc_seed(run: RunRecord, list: &[f64], to: &mut [f64]) -> usize
     ensures count { λ r. ⌜ r ≡ copyCount (seedPart (runFrom run) (now (list .entry))) (now (to .entry)) ⌝ }

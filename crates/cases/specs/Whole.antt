@@ -1,5 +1,5 @@
--- A run through three rounds: decomposition and grid seeds, a merged seed and one beyond the bound, equal scores, a round that scores nothing, every
--- skip reason, a scored candidate with a tangential coefficient, and refused calls in between, with the counts while a seed waits and at the end. Definitions only.
+-- A run through three rounds: decomposition and grid seeds, a merged seed and one beyond the bound, equal scores, a round that scores nothing, skip
+-- reasons 1, 2 and 3, a scored candidate with a tangential coefficient, and refused calls in between, with the counts while a seed waits and at the end. Definitions only.
 use mathlib.Core.Bool.{false}
 use mathlib.Core.List.{List, [], _∷_, _++_}
 use lib.Ieee.{Float}

@@ -23,12 +23,12 @@ abbrev pub isCutLine : List ℕ → Bool
 isCutLine [] = false
 isCutLine (c ∷ cs) = eqb (newlines (c ∷ cs)) 0
 
--- 02: a missing newline is looked for before 29 and 30
 abbrev pub stoppedBy : Stop → EndedBy
 stoppedBy stop.AllTaken = Nothing
 stoppedBy stop.NotOfForm = NotOfForm
 stoppedBy stop.NotTheRun = NotTheRun
 
+-- 02: a missing newline is looked for before 29 and 30
 unfoldable pub endedBy : Stop → List ℕ → EndedBy
 endedBy e rest = cond (isCutLine rest) MissingNewline (stoppedBy e)
 

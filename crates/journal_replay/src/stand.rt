@@ -3,7 +3,8 @@
 ghost use mathlib.Core.Path.{_≡_};
 ghost use Rattle.seed_rules.specs.Layout.{six};
 ghost use Rattle.seed_rules.specs.Rules.{within};
-ghost use Rattle.score_camera.specs.Camera.{tangentialBound};
+ghost use mathlib.Core.Bool.{_&&_};
+ghost use Rattle.score_camera.specs.Camera.{tangentialBound, validCamera};
 ghost use Rattle.journal_replay.specs.Stand.{sameReal, sameReals, isMean, canBeScored, canStand};
 ghost use Rattle.journal_replay.specs.Walk.{answersWaiting};
 use camera_models::math::Pt2;
@@ -13,6 +14,7 @@ use journal_line::Recorded;
 use journal_line::ScoredFields;
 use journal_line::outcome::scoring_in;
 use score_camera::penalties::candidate_score;
+use score_camera::pinhole::PinholeCamera;
 use score_camera::pinhole::validate_camera;
 use search_record::run::Run;
 use seed_rules::CandidateSeed;
@@ -49,14 +51,19 @@ fn is_mean(x: f64) -> bool
     float::is_finite(x) & !(x < 0.0)
 }
 
+// Answer's camera check, and damped tangential coefficients.
+fn passes_check(camera: PinholeCamera, p1: f64, p2: f64) -> bool
+    ensures { λ r. ⌜ r ≡ (validCamera camera && within tangentialBound p1 && within tangentialBound p2) ⌝ }
+{
+    validate_camera(camera) & is_damped(p1) & is_damped(p2)
+}
+
 // What a scored line records: Answer's camera check, damped tangential coefficients, a mean, and the very score that Answer would work out from it.
 fn can_be_scored(center: Pt2, sensor: ScheimpflugParams, fields: ScoredFields) -> bool
     ensures { λ r. ⌜ r ≡ canBeScored center sensor fields ⌝ }
 {
     let camera = scoring_in(fields).camera;
-    validate_camera(camera)
-        & is_damped(fields.p1)
-        & is_damped(fields.p2)
+    passes_check(camera, fields.p1, fields.p2)
         & is_mean(fields.mean)
         & is_same_real(
             fields.score,

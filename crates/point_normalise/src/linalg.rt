@@ -17,7 +17,7 @@ pub struct Similarity {
 
 pub enum Normalizer {
     Found(Similarity),
-    // no points, or all of them in one place
+    // no points, or a mean distance of at most 2^-52
     Degenerate,
 }
 
@@ -100,7 +100,7 @@ fn scaled_to(c: Pt2, mean: f64) -> Similarity
 }
 
 // The similarity that brings the centroid to the origin and the mean distance from it to √2. Of points that aren't collinear that
-// distance is never too small (homography/specs/Spread.antt), so Rows asks nothing more.
+// distance is never too small (point_homography/specs/Spread.antt), so Rows asks nothing more.
 pub fn normalizing(points: &[f64]) -> Similarity
     requires { ⌜ length (now points) ≤ 800 ⌝ }
     ensures { λ r. ⌜ r ≡ similarityOf (now (points .entry)) ⌝ }
@@ -109,7 +109,7 @@ pub fn normalizing(points: &[f64]) -> Similarity
     scaled_to(c, mean_distance(points, c))
 }
 
-// The same, unless the points are all in one place.
+// The same, unless there are no points or their mean distance is at most 2^-52.
 fn hartley(points: &[f64]) -> Normalizer
     requires { ⌜ length (now points) ≤ 800 ⌝ }
     ensures { λ r. ⌜ r ≡ hartleyOf (now (points .entry)) ⌝ }

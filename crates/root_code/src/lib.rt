@@ -1,4 +1,4 @@
-// The square root that IEEE 754 asks for, worked out from the bits of an f64 with whole numbers. The crate root defines it.
+// The square root that IEEE 754 asks for, worked out from the bits of an f64 with whole numbers. The crate `root` defines it.
 //
 // A guess from a short fixed-point calculation is checked exactly and, if it fails, the digits are worked out one by one, so the
 // answer does not rest on the guess. Every loop has a constant number of turns.

@@ -2,7 +2,8 @@
 use Prim.Native.Nat.{ℕ}
 use mathlib.Core.Bool.{Bool, true, false, not, _&&_, _||_, cond}
 use mathlib.Core.List.{List, [], _∷_}
-use lib.Ieee.{Float, binary64, ofBits, lt, isNan}
+use lib.Ieee.{lt, isNan}
+use Rattle.float.specs.Literals.{plusZero}
 use Rattle.camera_tilt.specs.declared.sensor.ScheimpflugParams.{ScheimpflugParams}
 use Rattle.score_outcome.specs.declared.Scoring.{Scoring}
 use Rattle.score_best.specs.declared.Candidate.{Candidate}
@@ -37,18 +38,15 @@ unfoldable pub bestOf : List Candidate → Chosen
 bestOf ws = firstUnbeaten ws ws
 
 -- ---- as a run keeps it
-abbrev zero64 : Float
-zero64 = ofBits binary64 0
-
 unfoldable pub noBest : Best
 noBest = record {
   found = false;
   candidate = record {
     number = 0;
-    camera = record { k = record { fx = zero64; fy = zero64; cx = zero64; cy = zero64 }; dist = record { k1 = zero64; k2 = zero64; k3 = zero64; p1 = zero64; p2 = zero64 } };
-    sensor = record { «tilt_x» = zero64; «tilt_y» = zero64 };
-    «mean_reproj_error» = zero64;
-    score = zero64;
+    camera = record { k = record { fx = plusZero; fy = plusZero; cx = plusZero; cy = plusZero }; dist = record { k1 = plusZero; k2 = plusZero; k3 = plusZero; p1 = plusZero; p2 = plusZero } };
+    sensor = record { «tilt_x» = plusZero; «tilt_y» = plusZero };
+    «mean_reproj_error» = plusZero;
+    score = plusZero;
   };
 }
 

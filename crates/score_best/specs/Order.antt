@@ -16,29 +16,29 @@ use Rattle.score_best.specs.declared.Best.{Best}
 use Rattle.score_best.specs.Best.{isNumber, beats, nothing, chosen, unbeaten, firstUnbeaten, bestOf, noBest, held, isBetter, improved}
 
 -- the score is a number, or it is NaN
-abbrev pub Sound : Candidate → Type 0
-Sound w = isNan (w .score) ≡ false
+abbrev pub HasNumber : Candidate → Type 0
+HasNumber w = isNan (w .score) ≡ false
 
-abbrev pub Lost : Candidate → Type 0
-Lost w = isNan (w .score) ≡ true
+abbrev pub HasNan : Candidate → Type 0
+HasNan w = isNan (w .score) ≡ true
 
 -- ---- the comparison
 -- a NaN never beats
-pub nan-never-beats : (v w : Candidate) → Lost v → beats v w ≡ false
+pub nan-never-beats : (v w : Candidate) → HasNan v → beats v w ≡ false
 unfolding beats
 nan-never-beats v w h = simp h
 
 -- it is beaten by every number
-pub number-beats-nan : (v w : Candidate) → Sound v → Lost w → beats v w ≡ true
+pub number-beats-nan : (v w : Candidate) → HasNumber v → HasNan w → beats v w ≡ true
 unfolding beats
 number-beats-nan v w h k = simp (h, k)
 
 -- of two numbers the lower beats, as IEEE 754 compares
-pub lower-beats : (v w : Candidate) → Sound v → Sound w → beats v w ≡ lt (v .score) (w .score)
+pub lower-beats : (v w : Candidate) → HasNumber v → HasNumber w → beats v w ≡ lt (v .score) (w .score)
 unfolding beats
 lower-beats v w h k = simp (h, k)
 
-pub beats-number : (v w : Candidate) → beats v w ≡ true → Sound v
+pub beats-number : (v w : Candidate) → beats v w ≡ true → HasNumber v
 beats-number v w h = case (isNan (v .score)) (λ n. absurd (true≢false (sym h ∙ nan-never-beats v w n))) (λ n. n)
 
 pub asym : (v w : Candidate) → beats v w ≡ true → beats w v ≡ false
@@ -62,15 +62,15 @@ cotrans u v w h k =
 
 -- ---- whether a candidate replaces the best of a record, whatever it holds
 module _ (v : Candidate) (b : Best) where
-  pub nan-never-better : Lost v → isBetter v b ≡ false
+  pub nan-never-better : HasNan v → isBetter v b ≡ false
   unfolding isBetter
   nan-never-better h = case (b .found) (λ f. simp (f, nan-never-beats v (b .candidate) h)) (λ f. simp (f, h))
 
-  pub first-better : Sound v → b .found ≡ false → isBetter v b ≡ true
+  pub first-better : HasNumber v → b .found ≡ false → isBetter v b ≡ true
   unfolding isBetter
   first-better h f = simp (f, h)
 
-  pub lower-better : Sound v → b .found ≡ true → isBetter v b ≡ (isNan (b .candidate .score) || lt (v .score) (b .candidate .score))
+  pub lower-better : HasNumber v → b .found ≡ true → isBetter v b ≡ (isNan (b .candidate .score) || lt (v .score) (b .candidate .score))
   unfolding isBetter beats
   lower-better h f = simp (f, h, not-not)
     where
@@ -83,7 +83,7 @@ pub record Leads (ws : List Candidate) (w : Candidate) : Type 0 where
   pub before : List Candidate
   pub behind : List Candidate
   pub split : ws ≡ before ++ w ∷ behind
-  pub number : Sound w
+  pub number : HasNumber w
   pub ahead : All (λ v. beats w v ≡ true) before
   pub unbeaten-by : All (λ v. beats v w ≡ false) behind
 
@@ -133,9 +133,9 @@ best-leads ws w l =
     (all-map (λ v. beats w v ≡ true) (Out (a ++ w ∷ b)) (λ v h. beaten-out (a ++ w ∷ b) v (unbeaten-false v w a b h)) a (l .ahead))
     (simp (l .number, u)))
 
-pub best-none : (ws : List Candidate) → All Lost ws → bestOf ws ≡ nothing
+pub best-none : (ws : List Candidate) → All HasNan ws → bestOf ws ≡ nothing
 unfolding bestOf
-best-none ws h = none ws ws (all-map Lost (Out ws) (λ v n. simp n) ws h)
+best-none ws h = none ws ws (all-map HasNan (Out ws) (λ v n. simp n) ws h)
 
 -- ---- one more candidate
 pub lead-new : (ws : List Candidate) (w v : Candidate) → Leads ws w → beats v w ≡ true → Leads (ws ++ v ∷ []) v
@@ -166,18 +166,18 @@ lead-on ws w [] l h = rw append-nil l
 lead-on ws w (v ∷ vs) l h = rw (append-assoc ws (v ∷ []) vs) at (lead-on (ws ++ v ∷ []) w vs (lead-old ws w v l (h .0)) (h .1))
 
 -- the first number
-pub lead-first : (ws : List Candidate) (v : Candidate) → All Lost ws → Sound v → Leads (ws ++ v ∷ []) v
-lead-first ws v h n = record { before = ws; behind = []; split = refl; number = n; ahead = all-map Lost (λ u. beats v u ≡ true) (λ u k. number-beats-nan v u n k) ws h; unbeaten-by = tt }
+pub lead-first : (ws : List Candidate) (v : Candidate) → All HasNan ws → HasNumber v → Leads (ws ++ v ∷ []) v
+lead-first ws v h n = record { before = ws; behind = []; split = refl; number = n; ahead = all-map HasNan (λ u. beats v u ≡ true) (λ u k. number-beats-nan v u n k) ws h; unbeaten-by = tt }
 
 -- ---- a list has a leader, unless no score of it is a number
 abbrev pub Led : List Candidate → Type 0
-Led ws = ((w : Candidate) × Leads ws w) ⊎ All Lost ws
+Led ws = ((w : Candidate) × Leads ws w) ⊎ All HasNan ws
 
 led-more : (ws : List Candidate) (v : Candidate) → Led ws → Led (ws ++ v ∷ [])
 led-more ws v =
     ⊎-elim
     (λ p. case (beats v (p .0)) (λ e. inl (v, lead-new ws (p .0) v (p .1) e)) (λ e. inl (p .0, lead-old ws (p .0) v (p .1) e)))
-    (λ h. case (isNan (v .score)) (λ n. inr (all-append Lost ws (v ∷ []) h (n, tt))) (λ n. inl (v, lead-first ws v h n)))
+    (λ h. case (isNan (v .score)) (λ n. inr (all-append HasNan ws (v ∷ []) h (n, tt))) (λ n. inl (v, lead-first ws v h n)))
 
 led-on : (ws vs : List Candidate) → Led ws → Led (ws ++ vs)
 led-on ws [] l = rw append-nil l
@@ -209,8 +209,8 @@ best-snoc ws v =
         (λ e. simp (best-leads ws w l, best-leads (ws ++ v ∷ []) v (lead-new ws w v l e), e))
         (λ e. simp (best-leads ws w l, best-leads (ws ++ v ∷ []) w (lead-old ws w v l e), e))
 
-    after-none : All Lost ws → held (bestOf (ws ++ v ∷ [])) ≡ improved (held (bestOf ws)) v
+    after-none : All HasNan ws → held (bestOf (ws ++ v ∷ [])) ≡ improved (held (bestOf ws)) v
     after-none h = unfold improved isBetter noBest in
         case (isNan (v .score))
-        (λ n. simp (best-none ws h, best-none (ws ++ v ∷ []) (all-append Lost ws (v ∷ []) h (n, tt)), n))
+        (λ n. simp (best-none ws h, best-none (ws ++ v ∷ []) (all-append HasNan ws (v ∷ []) h (n, tt)), n))
         (λ n. simp (best-none ws h, best-leads (ws ++ v ∷ []) v (lead-first ws v h n), n))

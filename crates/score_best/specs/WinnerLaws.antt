@@ -1,4 +1,4 @@
--- The winner of two groups as one likes, with none as its unit; the best of a list is that of the winners of its parts, wherever it is cut, ties included. No score
+-- The winner of two is associative, with none as its unit; the best of a list is that of the winners of its parts, wherever it is cut, ties included. No score
 -- need be a number for it. Assumes nothing.
 use mathlib.Core.Path.{_≡_, refl, sym, ap, _∙_}
 use mathlib.Core.Logic.{⊎-elim}
@@ -10,7 +10,7 @@ use Rattle.common.specs.Tests.{case}
 use Rattle.score_best.specs.declared.Candidate.{Candidate}
 use Rattle.score_best.specs.declared.Best.{Best}
 use Rattle.score_best.specs.Best.{beats, Chosen, nothing, chosen, firstUnbeaten, bestOf, noBest, held, isBetter}
-use Rattle.score_best.specs.Order.{Sound, Lost, nan-never-beats, number-beats-nan, asym, cotrans, Leads, best-leads, best-none, led, lead-first}
+use Rattle.score_best.specs.Order.{HasNumber, HasNan, nan-never-beats, number-beats-nan, asym, cotrans, Leads, best-leads, best-none, led, lead-first}
 use Rattle.score_best.specs.Winners.{winnerOfTwo, winnerOfBests, present, winnerOf, joined}
 
 -- ---- the winner of two
@@ -69,13 +69,13 @@ module _ (a b : Best) where
 -- ---- two lists in a row
 module _ (ws vs : List Candidate) where
   -- the second one's leader, where nothing of the first is a number
-  second-leads : (v : Candidate) → All Lost ws → Leads vs v → Leads (ws ++ vs) v
+  second-leads : (v : Candidate) → All HasNan ws → Leads vs v → Leads (ws ++ vs) v
   second-leads v h l = record {
     before = ws ++ l .before;
     behind = l .behind;
     split = ap (λ (z : List Candidate). ws ++ z) (l .split) ∙ sym (append-assoc ws (l .before) (v ∷ l .behind));
     number = l .number;
-    ahead = all-append (λ u. beats v u ≡ true) ws (l .before) (all-map Lost (λ u. beats v u ≡ true) (λ u n. number-beats-nan v u (l .number) n) ws h) (l .ahead);
+    ahead = all-append (λ u. beats v u ≡ true) ws (l .before) (all-map HasNan (λ u. beats v u ≡ true) (λ u n. number-beats-nan v u (l .number) n) ws h) (l .ahead);
     unbeaten-by = l .unbeaten-by;
   }
 
@@ -124,22 +124,22 @@ module _ (ws vs : List Candidate) where
       (λ e. simp (best-leads ws w l, best-leads vs v m, e, best-leads (ws ++ vs) v (better-leads w v l m e)))
       (λ e. simp (best-leads ws w l, best-leads vs v m, e, best-leads (ws ++ vs) w (first-leads w l (none-better w v m e))))
 
-  led-lost : (w : Candidate) → Leads ws w → All Lost vs → bestOf (ws ++ vs) ≡ winnerOfTwo (bestOf ws) (bestOf vs)
+  led-lost : (w : Candidate) → Leads ws w → All HasNan vs → bestOf (ws ++ vs) ≡ winnerOfTwo (bestOf ws) (bestOf vs)
   led-lost w l n =
-      best-leads (ws ++ vs) w (first-leads w l (all-map Lost (λ u. beats u w ≡ false) (λ u k. nan-never-beats u w k) vs n))
+      best-leads (ws ++ vs) w (first-leads w l (all-map HasNan (λ u. beats u w ≡ false) (λ u k. nan-never-beats u w k) vs n))
       ∙ sym (rw (best-leads ws w l, best-none vs n) (none-second (chosen w)))
 
-  lost-led : All Lost ws → (v : Candidate) → Leads vs v → bestOf (ws ++ vs) ≡ winnerOfTwo (bestOf ws) (bestOf vs)
+  lost-led : All HasNan ws → (v : Candidate) → Leads vs v → bestOf (ws ++ vs) ≡ winnerOfTwo (bestOf ws) (bestOf vs)
   lost-led n v m = best-leads (ws ++ vs) v (second-leads v n m) ∙ sym (rw (best-none ws n, best-leads vs v m) (none-first (chosen v)))
 
-  lost-lost : All Lost ws → All Lost vs → bestOf (ws ++ vs) ≡ winnerOfTwo (bestOf ws) (bestOf vs)
-  lost-lost n m = best-none (ws ++ vs) (all-append Lost ws vs n m) ∙ sym (rw (best-none ws n, best-none vs m) (none-first nothing))
+  lost-lost : All HasNan ws → All HasNan vs → bestOf (ws ++ vs) ≡ winnerOfTwo (bestOf ws) (bestOf vs)
+  lost-lost n m = best-none (ws ++ vs) (all-append HasNan ws vs n m) ∙ sym (rw (best-none ws n, best-none vs m) (none-first nothing))
 
   pub best-append : bestOf (ws ++ vs) ≡ winnerOfTwo (bestOf ws) (bestOf vs)
   best-append =
       ⊎-elim
-      (λ (p : (w : Candidate) × Leads ws w). ⊎-elim (λ (q : (v : Candidate) × Leads vs v). led-led (p .0) (q .0) (p .1) (q .1)) (λ (m : All Lost vs). led-lost (p .0) (p .1) m) (led vs))
-      (λ (n : All Lost ws). ⊎-elim (λ (q : (v : Candidate) × Leads vs v). lost-led n (q .0) (q .1)) (λ (m : All Lost vs). lost-lost n m) (led vs))
+      (λ (p : (w : Candidate) × Leads ws w). ⊎-elim (λ (q : (v : Candidate) × Leads vs v). led-led (p .0) (q .0) (p .1) (q .1)) (λ (m : All HasNan vs). led-lost (p .0) (p .1) m) (led vs))
+      (λ (n : All HasNan ws). ⊎-elim (λ (q : (v : Candidate) × Leads vs v). lost-led n (q .0) (q .1)) (λ (m : All HasNan vs). lost-lost n m) (led vs))
       (led ws)
 
 none-best : bestOf [] ≡ nothing
@@ -155,12 +155,12 @@ best-fold (w ∷ ws) = best-append (w ∷ []) ws ∙ ap (winnerOfTwo (bestOf (w 
 -- a winner's score is a number
 abbrev pub IsNumber : Chosen → Type 0
 IsNumber nothing = Unit {0}
-IsNumber (chosen w) = Sound w
+IsNumber (chosen w) = HasNumber w
 
 pub best-number : (ws : List Candidate) → IsNumber (bestOf ws)
 best-number ws = ⊎-elim (λ p. rw (best-leads ws (p .0) (p .1)) (p .1 .number)) (λ n. rw (best-none ws n) tt) (led ws)
 
-alone : (w : Candidate) → Sound w → bestOf (w ∷ []) ≡ chosen w
+alone : (w : Candidate) → HasNumber w → bestOf (w ∷ []) ≡ chosen w
 alone w n = best-leads (w ∷ []) w (lead-first [] w tt n)
 
 pub winner-fold : (cs : List Chosen) → All IsNumber cs → winnerOf cs ≡ foldr winnerOfTwo nothing cs

@@ -95,7 +95,7 @@ module _ (share all : ℕ) (h : share ≤ 100) where
       (λ e. let k = leb-true least counted e in e ∙ sym (le-leb (share * all) (counted * 100) (omega (arith, parts))))
       (λ e. let k = leb-false least counted e in e ∙ sym (lt-leb (share * all) (counted * 100) (omega (arith, parts))))
 
--- ---- 01's outcome, which asks for no share
+-- ---- 01's outcome, with the reason 4 of 02, E3: it asks for no share
 abbrev pub evaluated01 : SolvedCamera → ScheimpflugParams → Pt2 → List Float → List ℕ → Outcome
 evaluated01 s sensor center rows flags =
     cond (not (validCamera (dampedCamera (s .camera)))) (Skipped 2)

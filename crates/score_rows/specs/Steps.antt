@@ -23,7 +23,7 @@ use Rattle.score_camera.specs.declared.pinhole.PinholeCamera.{PinholeCamera}
 use Rattle.score_rows.specs.declared.Row.{Row}
 use Rattle.score_rows.specs.declared.ErrorSum.{ErrorSum}
 
--- A row that counts joins its error to the sum and one to the count. A count at 2 ^ 64 - 1 goes on from 0; no list of rows brings it there.
+-- A row that counts adds its error to the sum and one to the count. A count at 2 ^ 64 - 1 goes on from 0; no list of rows brings it there.
 unfoldable pub addError : ErrorSum → Bool → Float → ErrorSum
 addError s counted e = cond counted (record { sum = s .sum +₆₄ e; count = (s .count + 1) % 2 ^ 64 }) s
 

@@ -1,4 +1,4 @@
--- Next, the seed call and Result, as functions of the run's record and the lent list, for every record and list. Definitions only.
+-- Next and the seed call, as functions of the run's record and the lent list, for every record and list. Definitions only.
 use Prim.Native.Nat.{ℕ, _*_}
 use mathlib.Core.Bool.{Bool, not, _&&_, cond}
 use mathlib.Core.List.{List, [], _∷_}
@@ -13,7 +13,8 @@ use Rattle.search_calls.specs.declared.next.Handed.{Handed}
 use Rattle.search_calls.specs.declared.next.Handed.the-variants.{Candidate, Over, Refused}
 use Rattle.search_calls.specs.declared.next.NextReply.{NextReply}
 
--- 01, 'Next': 9 a seed is waiting, 10 the list is shorter than Start's 8 demands, 11 the run ended with no candidate scored.
+-- 01, 'Next': 9 a seed is waiting, 10 the list is shorter than Start's 8 demands, 11 the run ended with no candidate scored. Before them
+-- 11 for a record that isn't sound.
 abbrev pub nextChecks : Run → ℕ → List Check
 nextChecks r n =
     (11 when not (sound r))

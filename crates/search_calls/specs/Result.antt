@@ -9,7 +9,7 @@ use Rattle.search_record.specs.declared.run.Run.{Run}
 use Rattle.search_calls.specs.declared.result.Resulted.{Resulted}
 use Rattle.search_calls.specs.declared.result.Resulted.the-variants.{Result, Refused}
 
--- 01, 'Result': 14 the run isn't over, 11 it ended with no candidate scored.
+-- 01, 'Result': 14 the run isn't over, 11 it ended with no candidate scored. Before them 11 for a record that isn't sound.
 abbrev pub resultRefusal : Run → ℕ
 resultRefusal r =
     firstRefusal

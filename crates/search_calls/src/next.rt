@@ -6,6 +6,7 @@ use search_record::run::Run;
 use search_record::run::awaiting;
 use search_record::run::is_sound;
 
+// Next's reply: the candidate's number; Over (01's term: the run is over and has a result); or a refusal's number.
 pub enum Handed {
     Candidate(usize),
     Over,

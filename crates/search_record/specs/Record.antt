@@ -23,8 +23,8 @@ use Rattle.search_record.specs.declared.run.Place.{Place}
 use Rattle.search_record.specs.declared.run.Waiting.{Waiting}
 use Rattle.search_record.specs.declared.run.Run.{Run}
 
--- ---- a record that Start or a call can have made: all that the calls' sums and indexes need.
--- Any other is answered as a run that ended with nothing scored.
+-- ---- a record that Start or a call can have made
+-- an open run has a seed left in its list, and where the run is over none waits
 unfoldable pub hasPlace : Place → Waiting → Bool
 hasPlace p w = cond (p .over) (not (w .«is_waiting»)) (ltb (p .at) (p .len))
 
@@ -32,6 +32,7 @@ hasPlace p w = cond (p .over) (not (w .«is_waiting»)) (ltb (p .at) (p .len))
 unfoldable pub addUp : Counts → ℕ → Bool
 addUp c n = leb n 656 && eqb (total c) n
 
+-- all that the calls' sums and indexes need; any other record is answered as a run that ended with nothing scored
 unfoldable pub sound : Run → Bool
 sound r =
     let p = r .place in
@@ -78,7 +79,8 @@ abbrev pub lastAnswer : ℕ → ℕ → CandidateSeed → Recorded → LastAnswe
 lastAnswer n r s (recorded.Scored f) = record { found = true; number = n; round = r; seed = s; skipped = 0; scored = f }
 lastAnswer n r s (recorded.Skipped reason) = record { found = true; number = n; round = r; seed = s; skipped = reason; scored = noFields }
 
--- ---- the waiting seed's outcome is entered: nothing waits, the place moves on, a scored candidate may become the best, and it is counted
+-- ---- the waiting seed's outcome is entered: nothing waits, the place moves on, a scored candidate may become the best, its
+-- line's fields are kept, and it is counted
 unfoldable pub withOutcome : Best → ℕ → ScheimpflugParams → Outcome → Best
 withOutcome b n t (Skipped reason) = b
 withOutcome b n t (Scored s) = improved b (candidateOf n t s)

@@ -30,6 +30,7 @@ pub struct Options {
 
 // How far the run has come. `demand` is how many numbers the lent list must have. `step` is the one that the current list was made with,
 // 0 in round 0. Of the list's `len` seeds the first `at` are answered. `number` is the next candidate's, counted over the run.
+// `round` is 01's, from 0; `over` says that the run is over, with a result or with 11.
 pub struct Place {
     pub demand: usize,
     pub round: usize,
@@ -40,7 +41,7 @@ pub struct Place {
     pub over: bool,
 }
 
-// The seed that was handed out and is not answered yet. Its numbers are 0 where there is none.
+// The seed that waits (01's term): handed out and not answered yet. Its numbers are 0 where there is none.
 pub struct Waiting {
     pub is_waiting: bool,
     pub seed: CandidateSeed,
@@ -57,6 +58,7 @@ pub struct LastAnswer {
     pub scored: ScoredFields,
 }
 
+// The run's record (01's term), which each call takes, and which Start, Next and Answer return.
 pub struct Run {
     pub options: Options,
     pub center: Pt2,

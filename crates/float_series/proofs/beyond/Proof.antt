@@ -4,11 +4,12 @@ use mathlib.Core.Bool.{true, false, _||_, or-false}
 use lib.Ieee.{Float, nan, inf, fin, ofBits, lt, neg, isNan}
 use Rattle.float.specs.Float.{absOf}
 use Rattle.float.specs.Order.{ne-self}
-use Rattle.float_series.specs.Answer.{half, beyondHalf}
+use Rattle.float.specs.Literals.{half₆₄}
+use Rattle.float_series.specs.Answer.{beyondHalf}
 use Rattle.float_series.proofs.beyond.Statement.{statement}
 use Rattle.float_series.proofs.beyond.Tie as tie
 
-outside : (x : Float) → ((isNan x || lt x (neg half)) || lt half x) ≡ beyondHalf x
+outside : (x : Float) → ((isNan x || lt x (neg half₆₄)) || lt half₆₄ x) ≡ beyondHalf x
 unfolding beyondHalf isNan lt absOf neg ofBits
 outside nan = refl
 outside (inf true) = refl

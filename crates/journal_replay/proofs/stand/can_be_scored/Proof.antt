@@ -7,14 +7,8 @@ use Rattle.journal_replay.proofs.stand.can_be_scored.Tie as tie
 scoring-in-requires : tie.Need-scoring-in-requires
 scoring-in-requires c κs = search needs
 
-validate-camera-requires : tie.Need-validate-camera-requires
-validate-camera-requires c κs = search needs
-
-is-damped-requires : tie.Need-is-damped-requires
-is-damped-requires c κs = search needs
-
-is-damped-requires-2 : tie.Need-is-damped-requires-2
-is-damped-requires-2 c κs = search needs
+passes-check-requires : tie.Need-passes-check-requires
+passes-check-requires c κs = search needs
 
 is-mean-requires : tie.Need-is-mean-requires
 is-mean-requires c κs = search needs
@@ -27,7 +21,7 @@ is-same-real-requires c κs = search needs
 
 returns : tie.Need-returns
 unfolding canBeScored
-returns c = rw (c .before .before .before .before .before .validate-camera .ensures, c .before .before .before .before .is-damped .ensures, c .before .before .before .is-damped2 .ensures, c .before .before .is-mean .ensures, c .is-same-real .ensures, c .before .candidate-score .ensures, c .before .before .before .before .before .before .before .scoring-in .ensures)
+returns c = rw (c .before .before .before .passes-check .ensures, c .before .before .is-mean .ensures, c .is-same-real .ensures, c .before .candidate-score .ensures, c .before .before .before .before .before .scoring-in .ensures)
 
 pub can-be-scored-spec : {M : Type 1} → statement M
-can-be-scored-spec = tie.close (tie.spec scoring-in-requires validate-camera-requires is-damped-requires is-damped-requires-2 is-mean-requires candidate-score-requires is-same-real-requires returns)
+can-be-scored-spec = tie.close (tie.spec scoring-in-requires passes-check-requires is-mean-requires candidate-score-requires is-same-real-requires returns)
