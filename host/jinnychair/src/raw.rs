@@ -332,6 +332,28 @@ pub(crate) fn count_errors(
     }
 }
 
+/// Calls a function that takes what a run starts from, and then the rest.
+macro_rules! with_inputs {
+    ($function:ident($inputs:expr, $($rest:expr),+)) => {{
+        let Inputs { views, options, tilt_x_seeds, tilt_y_seeds, decomposition, base, center } =
+            *$inputs;
+        $function(
+            views,
+            options,
+            tilt_x_seeds.as_ptr(),
+            tilt_x_seeds.len(),
+            tilt_y_seeds.as_ptr(),
+            tilt_y_seeds.len(),
+            decomposition.as_ptr(),
+            decomposition.len(),
+            base,
+            center,
+            $($rest),+
+        )
+    }};
+}
+use with_inputs;
+
 /// Points as the numbers that they are, x then y: `Pt2` is two numbers and nothing else.
 fn coordinates(points: &[Pt2]) -> (*const f64, usize) {
     (points.as_ptr().cast(), 2 * points.len())
@@ -385,24 +407,8 @@ pub(crate) fn observed_pixel_center(pixels: &[Pt2]) -> CenterReply {
 }
 
 pub(crate) fn start(inputs: &Inputs, list: &mut [f64]) -> StartReply {
-    let Inputs { tilt_x_seeds, tilt_y_seeds, decomposition, .. } = *inputs;
     // SAFETY: all four slices are valid for their lengths, and `list` overlaps nothing.
-    unsafe {
-        jc_start(
-            inputs.views,
-            inputs.options,
-            tilt_x_seeds.as_ptr(),
-            tilt_x_seeds.len(),
-            tilt_y_seeds.as_ptr(),
-            tilt_y_seeds.len(),
-            decomposition.as_ptr(),
-            decomposition.len(),
-            inputs.base,
-            inputs.center,
-            list.as_mut_ptr(),
-            list.len(),
-        )
-    }
+    unsafe { with_inputs!(jc_start(inputs, list.as_mut_ptr(), list.len())) }
 }
 
 pub(crate) fn next(run: Run, list: &[f64]) -> NextReply {
