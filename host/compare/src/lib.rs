@@ -9,4 +9,5 @@ pub mod journal;
 pub mod leaves;
 pub mod library;
 pub mod plain;
+pub mod program;
 pub mod walk;
