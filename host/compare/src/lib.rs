@@ -3,6 +3,7 @@
 //! book are given.
 
 pub mod blocks;
+pub mod calls;
 pub mod cuts;
 pub mod forged;
 pub mod journal;

@@ -387,7 +387,8 @@ fn search(r: &mut Reader) -> Result<Words, String> {
     Ok(words)
 }
 
-fn winner_words(w: &Winner) -> Words {
+/// Every number of a winner, behind a 0.
+pub fn winner_words(w: &Winner) -> Words {
     let k = w.camera.k;
     let mut words = vec![0, w.number as u64];
     words.extend(float_words(&[k.fx, k.fy, k.cx, k.cy]));
