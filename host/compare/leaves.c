@@ -3,7 +3,6 @@
 #include <math.h>
 #include <stddef.h>
 #include <stdint.h>
-#include <string.h>
 
 typedef struct { double x, y; } point;
 typedef struct { int number; double value; } sum;
@@ -34,9 +33,17 @@ point leaf_pixel_to_sensor(const double *k, point p) { return (point){(p.x - k[2
 
 point leaf_sensor_to_pixel(const double *k, point p) { return (point){k[0] * p.x + k[2], k[1] * p.y + k[3]}; }
 
-static void product(const double *a, const double *b, double *to) {
-    for (int i = 0; i < 3; i++)
-        for (int j = 0; j < 3; j++) to[3 * i + j] = a[3 * i] * b[j] + a[3 * i + 1] * b[3 + j] + a[3 * i + 2] * b[6 + j];
+/* One row of a product. A loop over the rows would be vectorised by way of the stack. */
+static inline void row_of(const double *a, const double *b, double *to) {
+    to[0] = a[0] * b[0] + a[1] * b[3] + a[2] * b[6];
+    to[1] = a[0] * b[1] + a[1] * b[4] + a[2] * b[7];
+    to[2] = a[0] * b[2] + a[1] * b[5] + a[2] * b[8];
+}
+
+static inline void product(const double *a, const double *b, double *to) {
+    row_of(a, b, to);
+    row_of(a + 3, b, to + 3);
+    row_of(a + 6, b, to + 6);
 }
 
 /* P times R, R being the rotation about y times that about x. */
@@ -201,9 +208,13 @@ int leaf_design_rows(const point *from, size_t count, const point *onto, size_t 
     /* 02, E7: these can't fail. */
     if (leaf_normalize(from, count, a, unused) || leaf_normalize(onto, others, b, unused)) return 26;
     for (size_t i = 0; i < count; i++) {
-        double x = a[i].x, y = a[i].y, u = b[i].x, v = b[i].y;
-        double rows[18] = {-x, -y, -1, 0, 0, 0, u * x, u * y, u, 0, 0, 0, -x, -y, -1, v * x, v * y, v};
-        memcpy(to + 18 * i, rows, sizeof rows);
+        double x = a[i].x, y = a[i].y, u = b[i].x, v = b[i].y, *first = to + 18 * i, *second = first + 9;
+        first[0] = second[3] = -x;
+        first[1] = second[4] = -y;
+        first[2] = second[5] = -1;
+        first[3] = first[4] = first[5] = second[0] = second[1] = second[2] = 0;
+        first[6] = u * x, first[7] = u * y, first[8] = u;
+        second[6] = v * x, second[7] = v * y, second[8] = v;
     }
     return 0;
 }

@@ -26,12 +26,14 @@ pub(crate) struct FlatMatrix {
 }
 
 impl From<[[f64; 3]; 3]> for FlatMatrix {
+    #[inline]
     fn from(rows: [[f64; 3]; 3]) -> Self {
         Self { rows }
     }
 }
 
 impl From<FlatMatrix> for [[f64; 3]; 3] {
+    #[inline]
     fn from(matrix: FlatMatrix) -> Self {
         matrix.rows
     }
