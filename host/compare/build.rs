@@ -16,7 +16,8 @@ fn main() {
         println!("cargo::rerun-if-changed={source}");
         let object = Path::new(&folder).join(format!("{name}.o")).display().to_string();
         let archive = Path::new(&folder).join(format!("lib{name}.a")).display().to_string();
-        run("gcc", &["-O3", "-c", &source, "-o", &object]);
+        // Without the flag gcc 12 packs the two numbers of a point by way of the stack, and then waits for it: C would look slower.
+        run("gcc", &["-O3", "-fno-tree-slp-vectorize", "-c", &source, "-o", &object]);
         run("ar", &["rcs", &archive, &object]);
         println!("cargo::rustc-link-lib=static={name}");
     }

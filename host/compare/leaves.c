@@ -1,36 +1,49 @@
-/* 01's leaf operations in plain C, written from its text, with the machine's root: what the soak sets the library beside. Points are x then y, matrices nine
- * numbers row by row. Compiled by build.rs with gcc -O3. */
+/* 01's leaf operations in plain C, written from its text, with the machine's root: what the soak and the benchmark set the library beside. Points are x then
+ * y, matrices nine numbers row by row. Compiled by build.rs with gcc -O3. */
 #include <math.h>
 #include <stddef.h>
 #include <stdint.h>
-#include <string.h>
 
 typedef struct { double x, y; } point;
+typedef struct { int number; double value; } sum;
+typedef struct { point at; double xx, xy, yx, yy; } distorted;
+typedef struct { double k1, k2, k3, p1, p2; } distortion;
 
 /* The correctly rounded root. */
 double leaf_root(double x) { return sqrt(x); }
 
-/* Eight terms from the last coefficient on; 27 beyond 0.5. */
-int leaf_series(int first, double x, double *to) {
-    if (isnan(x) || fabs(x) > 0.5) return 27;
+/* Eight terms from the last coefficient on; 27 beyond 0.5. Inlined, so that the table is made when this is compiled. */
+static inline sum series(int first, double x) {
+    if (isnan(x) || fabs(x) > 0.5) return (sum){27, 0};
     double table[16], factorial = 1.0;
     for (int n = 0; n < 16; n++) {
         if (n > 1) factorial *= n;
         table[n] = n % 4 < 2 ? 1.0 / factorial : -1.0 / factorial;
     }
-    double sum = table[first + 14];
-    for (int n = first + 12; n >= first; n -= 2) sum = sum * (x * x) + table[n];
-    *to = first == 1 ? sum * x : sum;
-    return 0;
+    double value = table[first + 14];
+    for (int n = first + 12; n >= first; n -= 2) value = value * (x * x) + table[n];
+    return (sum){0, first == 1 ? value * x : value};
 }
+
+sum leaf_sine(double x) { return series(1, x); }
+
+sum leaf_cosine(double x) { return series(0, x); }
 
 point leaf_pixel_to_sensor(const double *k, point p) { return (point){(p.x - k[2]) / k[0], (p.y - k[3]) / k[1]}; }
 
 point leaf_sensor_to_pixel(const double *k, point p) { return (point){k[0] * p.x + k[2], k[1] * p.y + k[3]}; }
 
-static void product(const double *a, const double *b, double *to) {
-    for (int i = 0; i < 3; i++)
-        for (int j = 0; j < 3; j++) to[3 * i + j] = a[3 * i] * b[j] + a[3 * i + 1] * b[3 + j] + a[3 * i + 2] * b[6 + j];
+/* One row of a product. A loop over the rows would be vectorised by way of the stack. */
+static inline void row_of(const double *a, const double *b, double *to) {
+    to[0] = a[0] * b[0] + a[1] * b[3] + a[2] * b[6];
+    to[1] = a[0] * b[1] + a[1] * b[4] + a[2] * b[7];
+    to[2] = a[0] * b[2] + a[1] * b[5] + a[2] * b[8];
+}
+
+static inline void product(const double *a, const double *b, double *to) {
+    row_of(a, b, to);
+    row_of(a + 3, b, to + 3);
+    row_of(a + 6, b, to + 6);
 }
 
 /* P times R, R being the rotation about y times that about x. */
@@ -79,33 +92,30 @@ point leaf_distort(const double *d, point p) {
     return (point){x * radial + (2 * p1 * x * y + p2 * (r2 + 2 * x * x)), y * radial + (p1 * (r2 + 2 * y * y) + 2 * p2 * x * y)};
 }
 
-/* xx, xy, yx, yy. */
-void leaf_jacobian(const double *d, point p, double *to) {
+/* The distorted point with its derivatives. */
+distorted leaf_distort_with_jacobian(const double *d, point p) {
     double x = p.x, y = p.y, k1 = d[0], k2 = d[1], k3 = d[2], p1 = d[3], p2 = d[4];
     double r2 = x * x + y * y, r4 = r2 * r2;
     double radial = 1 + k1 * r2 + k2 * r4 + k3 * r4 * r2, by_r2 = k1 + 2 * k2 * r2 + 3 * k3 * r4;
-    to[0] = radial + 2 * x * x * by_r2 + 2 * p1 * y + 6 * p2 * x;
-    to[1] = to[2] = 2 * x * y * by_r2 + 2 * p1 * x + 2 * p2 * y;
-    to[3] = radial + 2 * y * y * by_r2 + 6 * p1 * y + 2 * p2 * x;
+    double cross = 2 * x * y * by_r2 + 2 * p1 * x + 2 * p2 * y;
+    double xx = radial + 2 * x * x * by_r2 + 2 * p1 * y + 6 * p2 * x, yy = radial + 2 * y * y * by_r2 + 6 * p1 * y + 2 * p2 * x;
+    return (distorted){leaf_distort(d, p), xx, cross, cross, yy};
 }
 
-/* A point, how far its distortion is from the target, and the derivatives there. */
-typedef struct { point at, error; double j[4], residual; } estimate;
+/* A point, its distortion, how far that is from the target, and the square of it. */
+typedef struct { point at; distorted image; point error; double residual; } estimate;
 
 static estimate at(const double *d, point target, point p) {
-    estimate e = {.at = p};
-    point image = leaf_distort(d, p);
-    e.error = (point){image.x - target.x, image.y - target.y};
-    e.residual = e.error.x * e.error.x + e.error.y * e.error.y;
-    leaf_jacobian(d, p, e.j);
-    return e;
+    distorted image = leaf_distort_with_jacobian(d, p);
+    point error = {image.at.x - target.x, image.at.y - target.y};
+    return (estimate){p, image, error, error.x * error.x + error.y * error.y};
 }
 
 /* Newton's step, unless the determinant is 0 or not finite. */
 static int step_of(const estimate *e, point *to) {
-    double determinant = e->j[0] * e->j[3] - e->j[1] * e->j[2];
+    double xx = e->image.xx, xy = e->image.xy, yx = e->image.yx, yy = e->image.yy, determinant = xx * yy - xy * yx;
     if (determinant == 0.0 || !isfinite(determinant)) return 0;
-    *to = (point){(e->j[3] * e->error.x - e->j[1] * e->error.y) / determinant, (e->j[0] * e->error.y - e->j[2] * e->error.x) / determinant};
+    *to = (point){(yy * e->error.x - xy * e->error.y) / determinant, (xx * e->error.y - yx * e->error.x) / determinant};
     return 1;
 }
 
@@ -151,9 +161,9 @@ int leaf_normalize(const point *points, size_t count, point *to, double *three) 
     point c = {0, 0};
     for (size_t i = 0; i < count; i++) c = (point){c.x + points[i].x, c.y + points[i].y};
     c = (point){c.x / (double)count, c.y / (double)count};
-    double sum = 0;
-    for (size_t i = 0; i < count; i++) sum += distance(points[i], c);
-    double mean = sum / (double)count;
+    double all = 0;
+    for (size_t i = 0; i < count; i++) all += distance(points[i], c);
+    double mean = all / (double)count;
     if (mean <= 0x1p-52) return 19;
     double scale = sqrt(2.0) / mean;
     for (size_t i = 0; i < count; i++) to[i] = (point){(points[i].x - c.x) * scale, (points[i].y - c.y) * scale};
@@ -198,9 +208,13 @@ int leaf_design_rows(const point *from, size_t count, const point *onto, size_t 
     /* 02, E7: these can't fail. */
     if (leaf_normalize(from, count, a, unused) || leaf_normalize(onto, others, b, unused)) return 26;
     for (size_t i = 0; i < count; i++) {
-        double x = a[i].x, y = a[i].y, u = b[i].x, v = b[i].y;
-        double rows[18] = {-x, -y, -1, 0, 0, 0, u * x, u * y, u, 0, 0, 0, -x, -y, -1, v * x, v * y, v};
-        memcpy(to + 18 * i, rows, sizeof rows);
+        double x = a[i].x, y = a[i].y, u = b[i].x, v = b[i].y, *first = to + 18 * i, *second = first + 9;
+        first[0] = second[3] = -x;
+        first[1] = second[4] = -y;
+        first[2] = second[5] = -1;
+        first[3] = first[4] = first[5] = second[0] = second[1] = second[2] = 0;
+        first[6] = u * x, first[7] = u * y, first[8] = u;
+        second[6] = v * x, second[7] = v * y, second[8] = v;
     }
     return 0;
 }
@@ -242,11 +256,7 @@ point leaf_centre(const point *points, size_t count) {
 
 static double clamped(double p) { return p < -0.05 ? -0.05 : p > 0.05 ? 0.05 : p; }
 
-void leaf_damp(const double *d, double *to) {
-    to[0] = to[1] = to[2] = 0.0;
-    to[3] = clamped(d[3]);
-    to[4] = clamped(d[4]);
-}
+distortion leaf_damp(const double *d) { return (distortion){0, 0, 0, clamped(d[3]), clamped(d[4])}; }
 
 double leaf_distortion_penalty(const double *d) {
     double radial = d[0] * d[0] + d[1] * d[1] + 0.25 * d[2] * d[2];

@@ -1,49 +1,16 @@
 //! Leaf operations on hostile numbers: the library beside 01's formulas in plain C (`leaves.c`).
 
-use jinnychair::geometry::{self, Conic, Matrix3};
+use crate::plain::{
+    leaf_apply_homography, leaf_apply_homography_inverse, leaf_centre, leaf_centre_penalty,
+    leaf_collinear, leaf_conic_to_camera, leaf_cosine, leaf_damp, leaf_design_rows,
+    leaf_determinant, leaf_distort, leaf_distort_with_jacobian, leaf_distortion_penalty,
+    leaf_has_plate, leaf_inverse, leaf_map_points, leaf_normalize, leaf_pixel_to_sensor, leaf_root,
+    leaf_sensor_to_pixel, leaf_sine, leaf_tilt_matrix, leaf_tilt_penalty, leaf_undistort,
+};
+use jinnychair::geometry::{self, Conic, DistortedPoint, Matrix3};
 use jinnychair::{BrownConrady5, FxFyCxCy, PinholeCamera, Pt2, ScheimpflugParams, TiltTrig};
 use random::Random;
 use words::{float_words, line, word};
-
-unsafe extern "C" {
-    safe fn leaf_root(x: f64) -> f64;
-    safe fn leaf_series(first: i32, x: f64, to: &mut f64) -> i32;
-    safe fn leaf_pixel_to_sensor(k: &[f64; 4], p: Pt2) -> Pt2;
-    safe fn leaf_sensor_to_pixel(k: &[f64; 4], p: Pt2) -> Pt2;
-    safe fn leaf_tilt_matrix(trig: &[f64; 4], to: &mut [f64; 9]);
-    safe fn leaf_determinant(m: &[f64; 9]) -> f64;
-    safe fn leaf_inverse(m: &[f64; 9], to: &mut [f64; 9]) -> i32;
-    safe fn leaf_apply_homography(m: &[f64; 9], p: Pt2) -> Pt2;
-    safe fn leaf_apply_homography_inverse(m: &[f64; 9], p: Pt2) -> Pt2;
-    safe fn leaf_distort(d: &[f64; 5], p: Pt2) -> Pt2;
-    safe fn leaf_jacobian(d: &[f64; 5], p: Pt2, to: &mut [f64; 4]);
-    safe fn leaf_undistort(d: &[f64; 5], iters: u32, p: Pt2) -> Pt2;
-    fn leaf_map_points(
-        k: *const f64,
-        d: *const f64,
-        iters: u32,
-        trig: *const f64,
-        points: *const Pt2,
-        count: usize,
-        to: *mut Pt2,
-    ) -> i32;
-    fn leaf_normalize(points: *const Pt2, count: usize, to: *mut Pt2, three: *mut f64) -> i32;
-    fn leaf_collinear(points: *const Pt2, count: usize) -> i32;
-    fn leaf_design_rows(
-        from: *const Pt2,
-        count: usize,
-        onto: *const Pt2,
-        others: usize,
-        to: *mut f64,
-    ) -> i32;
-    safe fn leaf_conic_to_camera(b: &[f64; 6], to: &mut [f64; 4]) -> i32;
-    fn leaf_centre(points: *const Pt2, count: usize) -> Pt2;
-    safe fn leaf_damp(d: &[f64; 5], to: &mut [f64; 5]);
-    safe fn leaf_distortion_penalty(d: &[f64; 5]) -> f64;
-    safe fn leaf_tilt_penalty(x: f64, y: f64) -> f64;
-    safe fn leaf_centre_penalty(k: &[f64; 4], centre: Pt2) -> f64;
-    safe fn leaf_has_plate(k: &[f64; 4]) -> i32;
-}
 
 /// Numbers at which comparisons, roots and roundings change, and what is no number.
 const ODD: &[f64] = &[
@@ -123,16 +90,27 @@ impl<'a> Numbers<'a> {
     }
 
     /// Sines and cosines of two small tilts, mostly.
-    fn trig(&mut self) -> [f64; 4] {
+    fn trig(&mut self) -> TiltTrig {
         let [x, y] = self.some(0.5);
         let of = [x.sin(), x.cos(), y.sin(), y.cos()];
-        if self.random.once_in(4) { self.some(1.0) } else { of }
+        let any = self.random.once_in(4);
+        let [sin_x, cos_x, sin_y, cos_y] = if any { self.some(1.0) } else { of };
+        TiltTrig { sin_x, cos_x, sin_y, cos_y }
     }
 
-    fn intrinsics(&mut self) -> [f64; 4] {
+    fn intrinsics(&mut self) -> FxFyCxCy {
         let [fx, fy] = self.some(900.0);
         let [cx, cy] = self.some(600.0);
-        [fx, fy, cx, cy]
+        FxFyCxCy { fx, fy, cx, cy }
+    }
+
+    fn distortion(&mut self, range: f64) -> BrownConrady5 {
+        let [k1, k2, k3, p1, p2] = self.some(range);
+        BrownConrady5 { k1, k2, k3, p1, p2 }
+    }
+
+    fn matrix(&mut self) -> Matrix3 {
+        [self.some(2.0), self.some(2.0), self.some(2.0)]
     }
 
     /// Points anywhere, on a grid, nearly in one place, nearly on a line, or at the limits of the tests for that.
@@ -234,25 +212,16 @@ fn of_points(points: &[Pt2]) -> Words {
     points.iter().flat_map(|p| of_point(*p)).collect()
 }
 
+fn of_k(k: FxFyCxCy) -> Words {
+    float_words(&[k.fx, k.fy, k.cx, k.cy])
+}
+
+/// A place for a camera.
+const NO_CAMERA: FxFyCxCy = FxFyCxCy { fx: 0.0, fy: 0.0, cx: 0.0, cy: 0.0 };
+
 /// A refusal, or 0 and the words.
 fn refused_or(number: i32, words: Words) -> Words {
     if number == 0 { [vec![0], words].concat() } else { vec![number as u64] }
-}
-
-fn of_k([fx, fy, cx, cy]: [f64; 4]) -> FxFyCxCy {
-    FxFyCxCy { fx, fy, cx, cy }
-}
-
-fn of_d([k1, k2, k3, p1, p2]: [f64; 5]) -> BrownConrady5 {
-    BrownConrady5 { k1, k2, k3, p1, p2 }
-}
-
-fn of_trig([sin_x, cos_x, sin_y, cos_y]: [f64; 4]) -> TiltTrig {
-    TiltTrig { sin_x, cos_x, sin_y, cos_y }
-}
-
-fn of_m(m: [f64; 9]) -> Matrix3 {
-    [[m[0], m[1], m[2]], [m[3], m[4], m[5]], [m[6], m[7], m[8]]]
 }
 
 fn root(n: &mut Numbers) -> [Words; 2] {
@@ -262,117 +231,103 @@ fn root(n: &mut Numbers) -> [Words; 2] {
 
 fn series(n: &mut Numbers) -> [Words; 2] {
     let x = n.one(0.6);
-    let [sine, cosine] = [geometry::sine(x), geometry::cosine(x)].map(|answer| match answer {
+    let library = [geometry::sine(x), geometry::cosine(x)].map(|answer| match answer {
         Ok(value) => vec![0, word(value)],
         Err(error) => vec![error.number().into()],
     });
-    let mut plain = vec![];
-    for first in [1, 0] {
-        let mut value = 0.0;
-        let number = leaf_series(first, x, &mut value);
-        plain.extend(refused_or(number, vec![word(value)]));
-    }
-    [[sine, cosine].concat(), plain]
+    let plain = [leaf_sine(x), leaf_cosine(x)].map(|c| refused_or(c.number, vec![word(c.value)]));
+    [library.concat(), plain.concat()]
 }
 
 fn intrinsics(n: &mut Numbers) -> [Words; 2] {
     let (k, p) = (n.intrinsics(), n.point(1000.0));
-    let library = [of_k(k).pixel_to_sensor(p), of_k(k).sensor_to_pixel(p)];
+    let library = [k.pixel_to_sensor(p), k.sensor_to_pixel(p)];
     [of_points(&library), of_points(&[leaf_pixel_to_sensor(&k, p), leaf_sensor_to_pixel(&k, p)])]
 }
 
 fn tilt_matrix(n: &mut Numbers) -> [Words; 2] {
-    let (trig, mut to) = (n.trig(), [0.0; 9]);
+    let (trig, mut to) = (n.trig(), Matrix3::default());
     leaf_tilt_matrix(&trig, &mut to);
-    let library = geometry::tilt_projection_matrix(of_trig(trig));
-    [float_words(library.as_flattened()), float_words(&to)]
+    [geometry::tilt_projection_matrix(trig), to].map(|m| float_words(m.as_flattened()))
 }
 
 fn inverse(n: &mut Numbers) -> [Words; 2] {
-    let (mut m, mut to) = (n.some::<9>(2.0), [0.0; 9]);
+    let (mut m, mut to) = (n.matrix(), Matrix3::default());
     // Two equal rows, so that there is no inverse.
     if n.random.once_in(8) {
-        m.copy_within(0..3, 6);
+        m[2] = m[0];
     }
-    let determinants = [geometry::determinant(of_m(m)), leaf_determinant(&m)].map(word);
-    let library = match geometry::inverse(of_m(m)) {
+    let determinants = [geometry::determinant(m), leaf_determinant(&m)].map(word);
+    let library = match geometry::inverse(m) {
         Ok(inverse) => [vec![0], float_words(inverse.as_flattened())].concat(),
         Err(error) => vec![error.number().into()],
     };
     let plain = leaf_inverse(&m, &mut to);
-    let plain = refused_or(plain, float_words(&to));
+    let plain = refused_or(plain, float_words(to.as_flattened()));
     [[library, vec![determinants[0]]].concat(), [plain, vec![determinants[1]]].concat()]
 }
 
 fn homographies(n: &mut Numbers) -> [Words; 2] {
-    let (m, p) = (n.some::<9>(2.0), n.point(2.0));
-    let library =
-        [geometry::apply_homography(of_m(m), p), geometry::apply_homography_inverse(of_m(m), p)];
+    let (m, p) = (n.matrix(), n.point(2.0));
+    let library = [geometry::apply_homography(m, p), geometry::apply_homography_inverse(m, p)];
     let plain = [leaf_apply_homography(&m, p), leaf_apply_homography_inverse(&m, p)];
     [of_points(&library), of_points(&plain)]
 }
 
 fn distort(n: &mut Numbers) -> [Words; 2] {
-    let (d, p) = (n.some::<5>(0.5), n.point(1.0));
-    let with = of_d(d).distort_with_jacobian(p);
-    let j = with.jacobian;
-    let library =
-        [of_points(&[of_d(d).distort(p), with.point]), float_words(&[j.xx, j.xy, j.yx, j.yy])];
-    let (point, mut jacobian) = (leaf_distort(&d, p), [0.0; 4]);
-    leaf_jacobian(&d, p, &mut jacobian);
-    [library.concat(), [of_points(&[point, point]), float_words(&jacobian)].concat()]
+    let (d, p) = (n.distortion(0.5), n.point(1.0));
+    let words = |alone: Pt2, DistortedPoint { point, jacobian: j }: DistortedPoint| {
+        [of_points(&[alone, point]), float_words(&[j.xx, j.xy, j.yx, j.yy])].concat()
+    };
+    [
+        words(d.distort(p), d.distort_with_jacobian(p)),
+        words(leaf_distort(&d, p), leaf_distort_with_jacobian(&d, p)),
+    ]
 }
 
 fn undistort(n: &mut Numbers) -> [Words; 2] {
-    let (d, p) = (n.some::<5>(0.5), n.point(1.0));
+    let (d, p) = (n.distortion(0.5), n.point(1.0));
     let iters = n.random.pick(&[0, 0, 1, 2, 5, 20, 40]);
-    [of_point(of_d(d).undistort(iters, p)), of_point(leaf_undistort(&d, iters, p))]
+    [of_point(d.undistort(iters, p)), of_point(leaf_undistort(&d, iters, p))]
+}
+
+/// Two destinations for so many points.
+fn places(count: usize) -> [Vec<Pt2>; 2] {
+    [vec![Pt2::default(); count], vec![Pt2::default(); count]]
 }
 
 fn maps(n: &mut Numbers) -> [Words; 2] {
-    let (k, d, trig) = (n.intrinsics(), n.some::<5>(0.2), n.trig());
+    let (k, dist, trig) = (n.intrinsics(), n.distortion(0.2), n.trig());
     let (points, iters) = (n.points(), n.random.pick(&[0, 1, 3]));
     let has_lens = n.random.once_in(2);
-    let (mut to, mut other) =
-        (vec![Pt2::default(); points.len()], vec![Pt2::default(); points.len()]);
-    let camera = PinholeCamera { k: of_k(k), dist: of_d(d) };
+    let [mut to, mut other] = places(points.len());
     let library = if has_lens {
-        geometry::ideal_points(camera, iters, of_trig(trig), &points, &mut to)
+        geometry::ideal_points(PinholeCamera { k, dist }, iters, trig, &points, &mut to)
     } else {
-        geometry::untilt_points(of_k(k), of_trig(trig), &points, &mut to)
+        geometry::untilt_points(k, trig, &points, &mut to)
     };
-    let lens = if has_lens { d.as_ptr() } else { std::ptr::null() };
-    // SAFETY: four, five and four numbers are read, and `count` points; as many are written.
-    let plain = unsafe {
-        let (from, count) = (points.as_ptr(), points.len());
-        leaf_map_points(k.as_ptr(), lens, iters, trig.as_ptr(), from, count, other.as_mut_ptr())
-    };
+    let lens = has_lens.then_some((&dist, iters));
+    let plain = leaf_map_points(&k, lens, &trig, &points, &mut other);
     let library = library.map_or_else(|e| vec![e.number().into()], |()| vec![0]);
     [[library, of_points(&to)].concat(), [vec![plain as u64], of_points(&other)].concat()]
 }
 
 fn normalize(n: &mut Numbers) -> [Words; 2] {
     let points = n.points();
-    let (mut to, mut other) =
-        (vec![Pt2::default(); points.len()], vec![Pt2::default(); points.len()]);
+    let [mut to, mut other] = places(points.len());
     let library = match geometry::normalize_points_2d(&points, &mut to) {
         Ok(t) => [vec![0], float_words(&[t.scale, t.offset_x, t.offset_y])].concat(),
         Err(error) => vec![error.number().into()],
     };
     let mut three = [0.0; 3];
-    // SAFETY: `count` points are read and as many written, and three numbers.
-    let plain = unsafe {
-        leaf_normalize(points.as_ptr(), points.len(), other.as_mut_ptr(), three.as_mut_ptr())
-    };
+    let plain = leaf_normalize(&points, &mut other, &mut three);
     let plain = refused_or(plain, float_words(&three));
     [[library, of_points(&to)].concat(), [plain, of_points(&other)].concat()]
 }
 
 fn collinear(n: &mut Numbers) -> [Words; 2] {
     let points = n.points();
-    // SAFETY: `count` points are read.
-    let plain = unsafe { leaf_collinear(points.as_ptr(), points.len()) };
-    [vec![geometry::points_are_collinear(&points).into()], vec![plain as u64]]
+    [geometry::points_are_collinear(&points), leaf_collinear(&points)].map(|is| vec![is.into()])
 }
 
 fn rows(n: &mut Numbers) -> [Words; 2] {
@@ -382,11 +337,7 @@ fn rows(n: &mut Numbers) -> [Words; 2] {
     }
     let (mut to, mut other) = (vec![0.0; 18 * from.len()], vec![0.0; 18 * from.len()]);
     let library = geometry::design_rows(&from, &onto, &mut to);
-    // SAFETY: `count` and `others` points are read, and 18 numbers for each of `count` written.
-    let plain = unsafe {
-        let (count, others) = (from.len(), onto.len());
-        leaf_design_rows(from.as_ptr(), count, onto.as_ptr(), others, other.as_mut_ptr())
-    };
+    let plain = leaf_design_rows(&from, &onto, &mut other);
     let library = library.map_or_else(|e| vec![e.number().into()], |()| vec![0]);
     [[library, float_words(&to)].concat(), [vec![plain as u64], float_words(&other)].concat()]
 }
@@ -405,45 +356,39 @@ fn conic(n: &mut Numbers) -> [Words; 2] {
         _ => of_camera,
     };
     let [b11, b12, b22, b13, b23, b33] = b;
-    let library = match geometry::conic_to_camera(Conic { b11, b12, b22, b13, b23, b33 }) {
-        Ok(k) => [vec![0], float_words(&[k.fx, k.fy, k.cx, k.cy])].concat(),
+    let b = Conic { b11, b12, b22, b13, b23, b33 };
+    let library = match geometry::conic_to_camera(b) {
+        Ok(k) => [vec![0], of_k(k)].concat(),
         Err(error) => vec![error.number().into()],
     };
-    let mut to = [0.0; 4];
+    let mut to = NO_CAMERA;
     let plain = leaf_conic_to_camera(&b, &mut to);
-    [library, refused_or(plain, float_words(&to))]
+    [library, refused_or(plain, of_k(to))]
 }
 
 fn centre(n: &mut Numbers) -> [Words; 2] {
     let points = n.points();
-    // SAFETY: `count` points are read.
-    let plain = unsafe { leaf_centre(points.as_ptr(), points.len()) };
-    [of_point(geometry::observed_pixel_center(&points)), of_point(plain)]
+    [geometry::observed_pixel_center(&points), leaf_centre(&points)].map(of_point)
 }
 
 fn penalties(n: &mut Numbers) -> [Words; 2] {
-    let (d, k, centre) = (n.some::<5>(0.3), n.intrinsics(), n.point(500.0));
+    let (d, k, centre) = (n.distortion(0.3), n.intrinsics(), n.point(500.0));
     let [tilt_x, tilt_y] = n.some(0.5);
-    let damped = of_d(d).damped();
+    let words = |damped: BrownConrady5, penalties: [f64; 3]| {
+        let BrownConrady5 { k1, k2, k3, p1, p2 } = damped;
+        [float_words(&[k1, k2, k3, p1, p2]), float_words(&penalties)].concat()
+    };
     let library = [
-        [damped.k1, damped.k2, damped.k3, damped.p1, damped.p2].to_vec(),
-        vec![
-            of_d(d).complexity(),
-            geometry::tilt_complexity(ScheimpflugParams { tilt_x, tilt_y }),
-            geometry::principal_point_complexity(of_k(k), centre),
-        ],
+        d.complexity(),
+        geometry::tilt_complexity(ScheimpflugParams { tilt_x, tilt_y }),
+        geometry::principal_point_complexity(k, centre),
     ];
-    let mut to = [0.0; 5];
-    leaf_damp(&d, &mut to);
     let plain = [
-        to.to_vec(),
-        vec![
-            leaf_distortion_penalty(&d),
-            leaf_tilt_penalty(tilt_x, tilt_y),
-            leaf_centre_penalty(&k, centre),
-        ],
+        leaf_distortion_penalty(&d),
+        leaf_tilt_penalty(tilt_x, tilt_y),
+        leaf_centre_penalty(&k, centre),
     ];
-    [float_words(&library.concat()), float_words(&plain.concat())]
+    [words(d.damped(), library), words(leaf_damp(&d), plain)]
 }
 
 /// Whether a camera has a plate; one that has comes back from it by plain C's closed form too, a zero with either sign.
@@ -453,15 +398,14 @@ fn plate(n: &mut Numbers) -> [Words; 2] {
         let whole = f64::from(least + n.random.below((258 - least) as usize) as i32);
         if n.random.once_in(20) { n.one(300.0) } else { whole * power }
     };
-    let k = [number(1), number(1), number(-256), number(-256)];
-    n.drawn.extend(float_words(&k));
+    let k = FxFyCxCy { fx: number(1), fy: number(1), cx: number(-256), cy: number(-256) };
+    n.drawn.extend(of_k(k));
     let plain = vec![leaf_has_plate(&k) as u64];
-    let library = match geometry::known_plate(of_k(k)) {
+    let library = match geometry::known_plate(k) {
         Err(error) => vec![u64::from(error.number() != 34)],
         Ok(b) => {
-            let mut back = [0.0; 4];
-            let six = [b.b11, b.b12, b.b22, b.b13, b.b23, b.b33];
-            vec![u64::from(leaf_conic_to_camera(&six, &mut back) == 0 && back == k)]
+            let mut back = NO_CAMERA;
+            vec![u64::from(leaf_conic_to_camera(&b, &mut back) == 0 && back == k)]
         }
     };
     [library, plain]

@@ -3,9 +3,11 @@
 //! words, the crate `beside` the lists of calls that it and the plain book are given.
 
 pub mod blocks;
+pub mod calls;
 pub mod cuts;
 pub mod forged;
 pub mod journal;
 pub mod leaves;
 pub mod plain;
+pub mod program;
 pub mod walk;

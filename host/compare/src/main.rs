@@ -7,6 +7,7 @@ use beside::inputs::{on_one_axis, share};
 use beside::lines::{LineTally, write_and_read};
 use beside::{reports, winners};
 use compare::blocks;
+use compare::program::{self, Differences, number};
 use oracle::generate::{Endless, endless};
 use random::Random;
 use std::process::ExitCode;
@@ -14,32 +15,19 @@ use stored::library::Operation;
 use words::start::Inputs;
 use words::{Reader, line, word};
 
-/// Beyond this many, differences are counted and not printed.
-const MOST_PRINTED: usize = 20;
-
-struct Differences {
-    count: usize,
-}
-
-impl Differences {
-    fn add(&mut self, text: &str) {
-        self.count += 1;
-        if self.count <= MOST_PRINTED {
-            println!("difference: {text}");
-        }
-    }
-}
-
 fn main() -> ExitCode {
-    let words: Vec<String> = std::env::args().skip(1).collect();
-    let number = |i: usize, default: usize| {
-        words.get(i).map_or(default, |word| word.parse().expect("a whole number"))
+    program::run(compare_all)
+}
+
+fn compare_all(words: Vec<String>) -> Result<Differences, String> {
+    let count = |i: usize, name: &str, default: usize| {
+        words.get(i).map_or(Ok(default), |word| number(name, word))
     };
-    let (leaves, searches) = (number(0, 1_000_000), number(1, 10_000));
+    let (leaves, searches) = (count(0, "leaf cases", 1_000_000)?, count(1, "searches", 10_000)?);
     let seed = words.get(2).map_or("1", String::as_str);
     println!("seed {seed}");
 
-    let mut differences = Differences { count: 0 };
+    let mut differences = Differences::default();
     let families = endless(seed);
     let operations = families.iter().filter(|family| family.operation != "search").count() + 1;
     let each = leaves.div_ceil(operations);
@@ -53,8 +41,7 @@ fn main() -> ExitCode {
     compare_lines(each, seed, &mut differences);
     compare_reports(each, seed, &mut differences);
     compare_winners(each, seed, &mut differences);
-    println!("{} differences", differences.count);
-    if differences.count == 0 { ExitCode::SUCCESS } else { ExitCode::FAILURE }
+    Ok(differences)
 }
 
 /// The machine's root is IEEE's.

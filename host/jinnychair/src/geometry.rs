@@ -131,12 +131,14 @@ impl FxFyCxCy {
 /// assert_eq!(level, [[1.0, 0.0, 0.0], [0.0, 1.0, 0.0], [0.0, 0.0, 1.0]]);
 /// # Ok::<(), jinnychair::TrigError>(())
 /// ```
+#[inline]
 #[must_use]
 pub fn tilt_projection_matrix(trig: TiltTrig) -> Matrix3 {
     raw::jc_tilt_projection_matrix(trig).into()
 }
 
 /// The determinant, expanded along the first row.
+#[inline]
 #[must_use]
 pub fn determinant(m: Matrix3) -> f64 {
     raw::jc_determinant(m.into())
@@ -147,18 +149,21 @@ pub fn determinant(m: Matrix3) -> f64 {
 /// # Errors
 ///
 /// The determinant is 0.
+#[inline]
 pub fn inverse(m: Matrix3) -> Result<Matrix3, TiltError> {
     let reply = raw::jc_inverse(m.into());
     TiltError::check(reply.number).map(|()| reply.inverse.into())
 }
 
 /// A point under a homography; a depth that isn't above 1e-12 counts as 1e-12.
+#[inline]
 #[must_use]
 pub fn apply_homography(h: Matrix3, p: Pt2) -> Pt2 {
     raw::jc_apply_homography(h.into(), p)
 }
 
 /// A point under the inverse of a homography; a depth whose magnitude isn't above 1e-12 counts as 1e-12.
+#[inline]
 #[must_use]
 pub fn apply_homography_inverse(h_inv: Matrix3, p: Pt2) -> Pt2 {
     raw::jc_apply_homography_inverse(h_inv.into(), p)
@@ -197,12 +202,14 @@ impl BrownConrady5 {
     }
 
     /// The distortion as it is scored: no radial part, the tangential one within ±0.05.
+    #[inline]
     #[must_use]
     pub fn damped(self) -> Self {
         raw::jc_damp_seed_distortion(self)
     }
 
     /// The penalty on distortion.
+    #[inline]
     #[must_use]
     pub fn complexity(self) -> f64 {
         raw::jc_distortion_complexity(self)
@@ -210,18 +217,21 @@ impl BrownConrady5 {
 }
 
 /// The penalty on tilts.
+#[inline]
 #[must_use]
 pub fn tilt_complexity(sensor: ScheimpflugParams) -> f64 {
     raw::jc_tilt_complexity(sensor)
 }
 
 /// The penalty on a centre that isn't the observed one; its weight is 0.
+#[inline]
 #[must_use]
 pub fn principal_point_complexity(k: FxFyCxCy, center: Pt2) -> f64 {
     raw::jc_principal_point_complexity(k, center)
 }
 
 /// The mean error of the counted rows, in pixels, with the camera as given; infinity where none is counted.
+#[inline]
 #[must_use]
 pub fn mean_reproj_error(camera: PinholeCamera, trig: TiltTrig, rows: Rows) -> f64 {
     raw::mean_reproj_error(camera, trig, rows)
@@ -253,6 +263,7 @@ pub struct ErrorCount {
 /// # Errors
 ///
 /// As an answer with these rows to a seed with these tilts is refused.
+#[inline]
 pub fn count_errors(
     solved: PinholeCamera,
     sensor: ScheimpflugParams,
@@ -268,6 +279,7 @@ pub fn count_errors(
 /// # Errors
 ///
 /// Nothing is written.
+#[inline]
 pub fn untilt_points(
     k: FxFyCxCy,
     trig: TiltTrig,
@@ -283,6 +295,7 @@ pub fn untilt_points(
 /// # Errors
 ///
 /// Nothing is written.
+#[inline]
 pub fn ideal_points(
     camera: PinholeCamera,
     iters: u32,
@@ -304,6 +317,7 @@ pub fn ideal_points(
 /// # Errors
 ///
 /// Nothing is written.
+#[inline]
 pub fn normalize_points_2d(
     points: &[Pt2],
     to: &mut [Pt2],
@@ -323,6 +337,7 @@ pub fn normalize_points_2d(
 /// assert!(points_are_collinear(&points(2.0)));
 /// assert!(!points_are_collinear(&points(3.0)));
 /// ```
+#[inline]
 #[must_use]
 pub fn points_are_collinear(points: &[Pt2]) -> bool {
     raw::points_are_collinear(coordinates(points)).collinear != 0
@@ -334,6 +349,7 @@ pub fn points_are_collinear(points: &[Pt2]) -> bool {
 /// # Errors
 ///
 /// Nothing is written.
+#[inline]
 pub fn design_rows(source: &[Pt2], destination: &[Pt2], to: &mut [f64]) -> Result<(), RowsError> {
     RowsError::check(raw::design_rows(coordinates(source), coordinates(destination), to))
 }
@@ -351,12 +367,14 @@ pub fn design_rows(source: &[Pt2], destination: &[Pt2], to: &mut [f64]) -> Resul
 /// assert_eq!((k.fx, k.fy, k.cx, k.cy), (2.0, 2.0, 3.0, 1.0));
 /// # Ok::<(), jinnychair::ConicError>(())
 /// ```
+#[inline]
 pub fn conic_to_camera(b: Conic) -> Result<FxFyCxCy, ConicError> {
     let reply = raw::jc_conic_to_camera(b);
     ConicError::check(reply.number).map(|()| reply.camera)
 }
 
 /// The centre of the pixels that are seen: half the greatest coordinates, or, where one is negative, the middle of their range.
+#[inline]
 #[must_use]
 pub fn observed_pixel_center(pixels: &[Pt2]) -> Pt2 {
     raw::observed_pixel_center(coordinates(pixels)).center

@@ -26,12 +26,14 @@ pub(crate) struct FlatMatrix {
 }
 
 impl From<[[f64; 3]; 3]> for FlatMatrix {
+    #[inline]
     fn from(rows: [[f64; 3]; 3]) -> Self {
         Self { rows }
     }
 }
 
 impl From<FlatMatrix> for [[f64; 3]; 3] {
+    #[inline]
     fn from(matrix: FlatMatrix) -> Self {
         matrix.rows
     }
@@ -332,6 +334,28 @@ pub(crate) fn count_errors(
     }
 }
 
+/// Calls a function that takes what a run starts from, and then the rest.
+macro_rules! with_inputs {
+    ($function:ident($inputs:expr, $($rest:expr),+)) => {{
+        let Inputs { views, options, tilt_x_seeds, tilt_y_seeds, decomposition, base, center } =
+            *$inputs;
+        $function(
+            views,
+            options,
+            tilt_x_seeds.as_ptr(),
+            tilt_x_seeds.len(),
+            tilt_y_seeds.as_ptr(),
+            tilt_y_seeds.len(),
+            decomposition.as_ptr(),
+            decomposition.len(),
+            base,
+            center,
+            $($rest),+
+        )
+    }};
+}
+use with_inputs;
+
 /// Points as the numbers that they are, x then y.
 pub(crate) fn coordinates(points: &[Pt2]) -> &[f64] {
     // SAFETY: a `Pt2` is two numbers and nothing else.
@@ -386,24 +410,8 @@ pub fn observed_pixel_center(pixels: &[f64]) -> CenterReply {
 }
 
 pub(crate) fn start(inputs: &Inputs, list: &mut [f64]) -> StartReply {
-    let Inputs { tilt_x_seeds, tilt_y_seeds, decomposition, .. } = *inputs;
     // SAFETY: all four slices are valid for their lengths, and `list` overlaps nothing.
-    unsafe {
-        jc_start(
-            inputs.views,
-            inputs.options,
-            tilt_x_seeds.as_ptr(),
-            tilt_x_seeds.len(),
-            tilt_y_seeds.as_ptr(),
-            tilt_y_seeds.len(),
-            decomposition.as_ptr(),
-            decomposition.len(),
-            inputs.base,
-            inputs.center,
-            list.as_mut_ptr(),
-            list.len(),
-        )
-    }
+    unsafe { with_inputs!(jc_start(inputs, list.as_mut_ptr(), list.len())) }
 }
 
 pub(crate) fn next(run: Run, list: &[f64]) -> NextReply {

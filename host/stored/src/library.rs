@@ -6,7 +6,7 @@ mod leaves;
 mod lists;
 mod runs;
 
-pub use runs::library_inputs;
+pub use runs::{library_inputs, result_words};
 
 use std::fmt::{Display, Formatter, Result as FmtResult};
 use words::Reader;

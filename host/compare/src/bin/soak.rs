@@ -10,13 +10,11 @@ use beside::calls::{Tally, play};
 use beside::inputs::draw;
 use beside::lines::{LineTally, write_and_read};
 use beside::{reports, winners};
+use compare::program::{self, Differences, number};
 use compare::{blocks, cuts, forged, leaves};
 use random::Random;
 use std::process::ExitCode;
 use std::time::Instant;
-
-/// Beyond this many, differences are counted and not printed.
-const MOST_PRINTED: usize = 20;
 
 /// The parts with how many cases each has.
 struct Asked {
@@ -30,13 +28,14 @@ struct Asked {
 }
 
 impl Asked {
-    fn read(mut words: impl Iterator<Item = String>) -> Result<Self, String> {
+    fn read(words: Vec<String>) -> Result<Self, String> {
         let (leaves, rows, runs) = (1_000_000, 50_000, 10_000);
         let (lines, cuts, records, seed) = (200_000, 2_000, 5_000, "1".into());
         let mut asked = Self { leaves, rows, runs, lines, cuts, records, seed };
+        let mut words = words.into_iter();
         while let Some(name) = words.next() {
             let value = words.next().ok_or(format!("{name} needs a value"))?;
-            let number = || value.parse().map_err(|_| format!("{name} {value}: no whole number"));
+            let number = || number(&name, &value);
             match name.as_str() {
                 "--leaves" => asked.leaves = number()?,
                 "--rows" => asked.rows = number()?,
@@ -49,21 +48,6 @@ impl Asked {
             }
         }
         Ok(asked)
-    }
-}
-
-/// The differences of all parts.
-#[derive(Default)]
-struct Differences {
-    count: usize,
-}
-
-impl Differences {
-    fn add(&mut self, text: &str) {
-        self.count += 1;
-        if self.count <= MOST_PRINTED {
-            println!("difference: {text}");
-        }
     }
 }
 
@@ -163,13 +147,11 @@ impl Part<'_> {
 }
 
 fn main() -> ExitCode {
-    let asked = match Asked::read(std::env::args().skip(1)) {
-        Ok(asked) => asked,
-        Err(fault) => {
-            eprintln!("{fault}");
-            return ExitCode::from(2);
-        }
-    };
+    program::run(soak)
+}
+
+fn soak(words: Vec<String>) -> Result<Differences, String> {
+    let asked = Asked::read(words)?;
     println!("seed {}", asked.seed);
     let mut differences = Differences::default();
     let mut part = Part { asked: &asked, differences: &mut differences };
@@ -179,6 +161,5 @@ fn main() -> ExitCode {
     part.go("lines", asked.lines, Part::lines);
     part.go("cuts", asked.cuts, Part::cuts);
     part.go("records", asked.records, Part::records);
-    println!("{} differences", differences.count);
-    if differences.count == 0 { ExitCode::SUCCESS } else { ExitCode::FAILURE }
+    Ok(differences)
 }

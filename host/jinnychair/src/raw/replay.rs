@@ -1,6 +1,6 @@
 //! The functions that walk a journal.
 
-use super::laid_out;
+use super::{laid_out, with_inputs};
 use crate::record::{Inputs, Options, Run};
 use crate::{FxFyCxCy, Pt2, Seed};
 use std::mem::{offset_of, size_of};
@@ -68,49 +68,15 @@ unsafe extern "C" {
 }
 
 pub(crate) fn replay(inputs: &Inputs, journal: &[u8], list: &mut [f64]) -> ReplayReply {
-    let Inputs { tilt_x_seeds, tilt_y_seeds, decomposition, .. } = *inputs;
+    let (bytes, len) = (journal.as_ptr(), journal.len());
     // SAFETY: all five slices are valid for their lengths, and `list` overlaps nothing.
-    unsafe {
-        jc_replay(
-            inputs.views,
-            inputs.options,
-            tilt_x_seeds.as_ptr(),
-            tilt_x_seeds.len(),
-            tilt_y_seeds.as_ptr(),
-            tilt_y_seeds.len(),
-            decomposition.as_ptr(),
-            decomposition.len(),
-            inputs.base,
-            inputs.center,
-            journal.as_ptr(),
-            journal.len(),
-            list.as_mut_ptr(),
-            list.len(),
-        )
-    }
+    unsafe { with_inputs!(jc_replay(inputs, bytes, len, list.as_mut_ptr(), list.len())) }
 }
 
 pub(crate) fn resume(inputs: &Inputs, journal: &[u8], list: &mut [f64]) -> ResumeReply {
-    let Inputs { tilt_x_seeds, tilt_y_seeds, decomposition, .. } = *inputs;
+    let (bytes, len) = (journal.as_ptr(), journal.len());
     // SAFETY: all five slices are valid for their lengths, and `list` overlaps nothing.
-    unsafe {
-        jc_resume(
-            inputs.views,
-            inputs.options,
-            tilt_x_seeds.as_ptr(),
-            tilt_x_seeds.len(),
-            tilt_y_seeds.as_ptr(),
-            tilt_y_seeds.len(),
-            decomposition.as_ptr(),
-            decomposition.len(),
-            inputs.base,
-            inputs.center,
-            journal.as_ptr(),
-            journal.len(),
-            list.as_mut_ptr(),
-            list.len(),
-        )
-    }
+    unsafe { with_inputs!(jc_resume(inputs, bytes, len, list.as_mut_ptr(), list.len())) }
 }
 
 #[cfg(test)]

@@ -164,7 +164,7 @@ pub(super) fn search(r: &mut Reader) -> Answer {
 }
 
 /// 0 and the candidate; or the number of a refusal
-fn result_words(reply: Result<Winner, ResultError>) -> Words {
+pub fn result_words(reply: Result<Winner, ResultError>) -> Words {
     match reply {
         Ok(winner) => [vec![0], of_candidate(&winner)].concat(),
         Err(error) => vec![error.number().into()],

@@ -1,9 +1,9 @@
 //! How the library's times grow with their work: an answer with its rows, Start with its seeds, a journal with its lines.
 
-use super::{
-    FEWEST_TURNS, Side, flat, keep, library_camera, lines, plain_journal, row_list, run_lines,
-    time_on_processor,
-};
+use crate::journal::{bytes, lines, run_lines};
+use crate::runs::LIST_LEN;
+use crate::scoring::{flat, library_camera, row_list};
+use crate::timing::{Side, keep, medians};
 use jinnychair::journal;
 use jinnychair::record::{self, Inputs, Options, answer, next, start};
 use jinnychair::{Finding, FxFyCxCy, Pt2, Rows};
@@ -12,11 +12,7 @@ use std::hint::black_box;
 
 /// Median nanoseconds of a turn.
 fn time(turn: impl FnMut()) -> f64 {
-    let (mut side, start) = (Side::new(turn), time_on_processor());
-    while side.times.len() < FEWEST_TURNS || time_on_processor() - start < 2e8 {
-        side.go();
-    }
-    side.median()
+    medians(2e8, [Side::new(turn)])[0]
 }
 
 /// A table of times by size: each also beside the row above, and for one unit of its work.
@@ -99,7 +95,7 @@ impl Seeds {
 fn answers(random: &mut Random) {
     let rows = row_list(1024, random);
     let seeds = Seeds::new(512);
-    let mut list = vec![0.0; 6 * 512];
+    let mut list = vec![0.0; LIST_LEN];
     let mut waiting = start(&seeds.inputs(), &mut list).expect("good inputs");
     let _ = next(&mut waiting, &list).expect("a seed");
     let sizes: Vec<usize> = (0..=10).map(|power| 1 << power).collect();
@@ -124,7 +120,7 @@ fn answers(random: &mut Random) {
 
 fn starts() {
     let sizes: Vec<usize> = (0..=9).map(|power| 1 << power).collect();
-    let mut list = vec![0.0; 6 * 512];
+    let mut list = vec![0.0; LIST_LEN];
     let words = ["Start", "seeds", "comparison"];
     table(
         words,
@@ -143,15 +139,7 @@ fn starts() {
 fn journals(random: &mut Random) {
     let all = lines(random);
     let sizes = [1, 2, 4, 8, 16, 32, 64, 128, 256, 512, 656];
-    let mut buffer = [0; plain_journal::LINE_LEN];
-    let mut bytes = |count: usize| {
-        let mut text = vec![];
-        for line in &all[..count] {
-            let len = journal::write_line(line, &mut buffer).expect("a line");
-            text.extend_from_slice(&buffer[..len]);
-        }
-        text
-    };
+    let bytes = |count: usize| bytes(&all[..count]);
     let words = |what| [what, "lines", "line"];
     table(words("writing a journal"), &sizes, |count| count, |count| time(|| keep(bytes(count))));
     table(
@@ -187,7 +175,7 @@ fn replays() {
     let mut ends = vec![0];
     ends.extend((0..text.len()).filter(|at| text[*at] == b'\n').map(|at| at + 1));
     let sizes = [1, 2, 4, 8, 16, 32, 64, 128, 256, 512, 656];
-    let mut list = vec![0.0; 6 * 512];
+    let mut list = vec![0.0; LIST_LEN];
     let words = |what| [what, "lines", "line"];
     let alone = time(|| keep(start(black_box(&seeds.inputs()), &mut list)));
     println!("Start alone, of 512 seeds: {:.1} µs\n", alone / 1e3);
