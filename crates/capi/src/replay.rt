@@ -1,8 +1,7 @@
 // A journal run again without a host, and a run that goes on from a journal: both take what Start takes, and the journal's bytes.
 ghost use mathlib.Core.Path.{_≡_};
-ghost use Rattle.search_start.specs.Start.{startReply, startList};
-ghost use Rattle.journal_replay.specs.Replay.{replayFrom};
-ghost use Rattle.journal_replay.specs.Resume.{resumeFrom};
+ghost use Rattle.journal_replay.specs.Replay.{replayDef};
+ghost use Rattle.journal_replay.specs.Resume.{resumeDef};
 ghost use Rattle.capi_records.specs.Record.{optionsFrom};
 ghost use Rattle.capi_records.specs.Replay.{flatReplayed, flatResumed};
 use camera_models::intrinsics::FxFyCxCy;
@@ -29,8 +28,8 @@ pub extern "C" fn jc_replay(
     bytes: &[u8],
     list: &mut [f64],
 ) -> ReplayFlat
-    ensures reply { λ r. ⌜ r ≡ flatReplayed (replayFrom (startReply views (optionsFrom options) (now («tilt_x_seeds» .entry)) (now («tilt_y_seeds» .entry)) (now (decomposition .entry)) base center (now (list .entry))) (startList views (optionsFrom options) (now («tilt_x_seeds» .entry)) (now («tilt_y_seeds» .entry)) (now (decomposition .entry)) base center (now (list .entry))) (now (bytes .entry)) .reply) ⌝ }
-    ensures written { λ _. ⌜ now (list .exit) ≡ replayFrom (startReply views (optionsFrom options) (now («tilt_x_seeds» .entry)) (now («tilt_y_seeds» .entry)) (now (decomposition .entry)) base center (now (list .entry))) (startList views (optionsFrom options) (now («tilt_x_seeds» .entry)) (now («tilt_y_seeds» .entry)) (now (decomposition .entry)) base center (now (list .entry))) (now (bytes .entry)) .list ⌝ }
+    ensures reply { λ r. ⌜ r ≡ flatReplayed (replayDef views (optionsFrom options) (now («tilt_x_seeds» .entry)) (now («tilt_y_seeds» .entry)) (now (decomposition .entry)) base center (now (list .entry)) (now (bytes .entry)) .reply) ⌝ }
+    ensures written { λ _. ⌜ now (list .exit) ≡ replayDef views (optionsFrom options) (now («tilt_x_seeds» .entry)) (now («tilt_y_seeds» .entry)) (now (decomposition .entry)) base center (now (list .entry)) (now (bytes .entry)) .list ⌝ }
 {
     replay_flat(replay(
         views,
@@ -58,8 +57,8 @@ pub extern "C" fn jc_resume(
     bytes: &[u8],
     list: &mut [f64],
 ) -> ResumeFlat
-    ensures reply { λ r. ⌜ r ≡ flatResumed (resumeFrom (startReply views (optionsFrom options) (now («tilt_x_seeds» .entry)) (now («tilt_y_seeds» .entry)) (now (decomposition .entry)) base center (now (list .entry))) (startList views (optionsFrom options) (now («tilt_x_seeds» .entry)) (now («tilt_y_seeds» .entry)) (now (decomposition .entry)) base center (now (list .entry))) (now (bytes .entry)) .reply) ⌝ }
-    ensures written { λ _. ⌜ now (list .exit) ≡ resumeFrom (startReply views (optionsFrom options) (now («tilt_x_seeds» .entry)) (now («tilt_y_seeds» .entry)) (now (decomposition .entry)) base center (now (list .entry))) (startList views (optionsFrom options) (now («tilt_x_seeds» .entry)) (now («tilt_y_seeds» .entry)) (now (decomposition .entry)) base center (now (list .entry))) (now (bytes .entry)) .list ⌝ }
+    ensures reply { λ r. ⌜ r ≡ flatResumed (resumeDef views (optionsFrom options) (now («tilt_x_seeds» .entry)) (now («tilt_y_seeds» .entry)) (now (decomposition .entry)) base center (now (list .entry)) (now (bytes .entry)) .reply) ⌝ }
+    ensures written { λ _. ⌜ now (list .exit) ≡ resumeDef views (optionsFrom options) (now («tilt_x_seeds» .entry)) (now («tilt_y_seeds» .entry)) (now (decomposition .entry)) base center (now (list .entry)) (now (bytes .entry)) .list ⌝ }
 {
     resume_flat(resume(
         views,

@@ -1,8 +1,12 @@
--- 02, E5: what running a journal again replies, and what it leaves of the seed buffer, as a function of Start's reply and its list. Definitions only.
+-- 02, E5: what running a journal again replies, and what it leaves of the seed buffer, as a function of what Start takes. Definitions only.
 use Prim.Native.Nat.{ℕ, suc}
 use mathlib.Core.List.{List}
 use lib.Ieee.{Float}
+use Rattle.camera_models.specs.declared.math.Pt2.{Pt2}
+use Rattle.camera_models.specs.declared.intrinsics.FxFyCxCy.{FxFyCxCy}
+use Rattle.search_record.specs.declared.run.Options.{Options}
 use Rattle.search_record.specs.declared.run.Run.{Run}
+use Rattle.search_start.specs.Start.{startReply, startList}
 use Rattle.search_start.specs.declared.Started.{Started}
 use Rattle.search_start.specs.declared.Started.the-variants as started
 use Rattle.search_calls.specs.declared.next.Handed.{Handed}
@@ -41,3 +45,8 @@ pub record ReplayLeft : Type 0 where
 abbrev pub replayFrom : Started → List Float → List ℕ → ReplayLeft
 replayFrom (started.Accepted r) l bs = let w = walkOf r l bs in record { reply = replyTo w; list = w .list }
 replayFrom (started.Refused n) l bs = record { reply = Refused n; list = l }
+
+-- of what Start takes
+module _ (views : ℕ) (options : Options) (xs ys decomposition : List Float) (base : FxFyCxCy) (center : Pt2) where
+  abbrev pub replayDef : List Float → List ℕ → ReplayLeft
+  replayDef l bs = replayFrom (startReply views options xs ys decomposition base center l) (startList views options xs ys decomposition base center l) bs

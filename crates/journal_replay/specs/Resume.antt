@@ -1,11 +1,15 @@
--- 02, E13: the run that goes on from a journal, and the report, as a function of Start's reply and its list. Definitions only.
+-- 02, E13: the run that goes on from a journal, and the report, as a function of what Start takes. Definitions only.
 use Prim.Native.Nat.{ℕ}
 use mathlib.Core.Bool.{Bool, false, cond}
 use mathlib.Core.List.{List, [], _∷_}
 use lib.Dec.{eqb}
 use lib.ListN.{length, drop}
 use lib.Ieee.{Float}
+use Rattle.camera_models.specs.declared.math.Pt2.{Pt2}
+use Rattle.camera_models.specs.declared.intrinsics.FxFyCxCy.{FxFyCxCy}
 use Rattle.journal_line.specs.Reading.{newlines}
+use Rattle.search_record.specs.declared.run.Options.{Options}
+use Rattle.search_start.specs.Start.{startReply, startList}
 use Rattle.search_start.specs.declared.Started.{Started}
 use Rattle.search_start.specs.declared.Started.the-variants as started
 use Rattle.journal_replay.specs.declared.Stop.{Stop}
@@ -50,3 +54,8 @@ pub record ResumeLeft : Type 0 where
 abbrev pub resumeFrom : Started → List Float → List ℕ → ResumeLeft
 resumeFrom (started.Accepted r) l bs = let w = walkOf r l bs in record { reply = resumedBy (walkedAs w) bs; list = w .list }
 resumeFrom (started.Refused n) l bs = record { reply = Refused n; list = l }
+
+-- of what Start takes
+module _ (views : ℕ) (options : Options) (xs ys decomposition : List Float) (base : FxFyCxCy) (center : Pt2) where
+  abbrev pub resumeDef : List Float → List ℕ → ResumeLeft
+  resumeDef l bs = resumeFrom (startReply views options xs ys decomposition base center l) (startList views options xs ys decomposition base center l) bs

@@ -2,8 +2,7 @@
 
 ghost use mathlib.Core.Path.{_≡_};
 ghost use Prim.Native.Nat.{_<_};
-ghost use Rattle.search_start.specs.Start.{startReply, startList};
-ghost use Rattle.journal_replay.specs.Replay.{standingOf, replyBy, replayFrom};
+ghost use Rattle.journal_replay.specs.Replay.{standingOf, replyBy, replayDef};
 use crate::Replayed;
 use crate::Stop;
 use crate::Walked;
@@ -59,8 +58,8 @@ pub fn replay(
     bytes: &[u8],
     list: &mut [f64],
 ) -> Replayed
-    ensures { λ r. ⌜ r ≡ replayFrom (startReply views options (now («tilt_x_seeds» .entry)) (now («tilt_y_seeds» .entry)) (now (decomposition .entry)) base center (now (list .entry))) (startList views options (now («tilt_x_seeds» .entry)) (now («tilt_y_seeds» .entry)) (now (decomposition .entry)) base center (now (list .entry))) (now (bytes .entry)) .reply ⌝ }
-    ensures { λ _. ⌜ now (list .exit) ≡ replayFrom (startReply views options (now («tilt_x_seeds» .entry)) (now («tilt_y_seeds» .entry)) (now (decomposition .entry)) base center (now (list .entry))) (startList views options (now («tilt_x_seeds» .entry)) (now («tilt_y_seeds» .entry)) (now (decomposition .entry)) base center (now (list .entry))) (now (bytes .entry)) .list ⌝ }
+    ensures { λ r. ⌜ r ≡ replayDef views options (now («tilt_x_seeds» .entry)) (now («tilt_y_seeds» .entry)) (now (decomposition .entry)) base center (now (list .entry)) (now (bytes .entry)) .reply ⌝ }
+    ensures { λ _. ⌜ now (list .exit) ≡ replayDef views options (now («tilt_x_seeds» .entry)) (now («tilt_y_seeds» .entry)) (now (decomposition .entry)) base center (now (list .entry)) (now (bytes .entry)) .list ⌝ }
 {
     let started = start(
         views,

@@ -1,10 +1,9 @@
 // 02, E13: a run that goes on from the lines of a journal that stops anywhere.
 
 ghost use mathlib.Core.Path.{_≡_};
-ghost use Rattle.search_start.specs.Start.{startReply, startList};
 ghost use Prim.Native.Nat.{_≤_};
 ghost use lib.ListN.{length};
-ghost use Rattle.journal_replay.specs.Resume.{isCutLine, endedBy, resumedBy, resumeFrom};
+ghost use Rattle.journal_replay.specs.Resume.{isCutLine, endedBy, resumedBy, resumeDef};
 use crate::EndedBy;
 use crate::Report;
 use crate::Resumed;
@@ -70,8 +69,8 @@ pub fn resume(
     bytes: &[u8],
     list: &mut [f64],
 ) -> Resumed
-    ensures { λ r. ⌜ r ≡ resumeFrom (startReply views options (now («tilt_x_seeds» .entry)) (now («tilt_y_seeds» .entry)) (now (decomposition .entry)) base center (now (list .entry))) (startList views options (now («tilt_x_seeds» .entry)) (now («tilt_y_seeds» .entry)) (now (decomposition .entry)) base center (now (list .entry))) (now (bytes .entry)) .reply ⌝ }
-    ensures { λ _. ⌜ now (list .exit) ≡ resumeFrom (startReply views options (now («tilt_x_seeds» .entry)) (now («tilt_y_seeds» .entry)) (now (decomposition .entry)) base center (now (list .entry))) (startList views options (now («tilt_x_seeds» .entry)) (now («tilt_y_seeds» .entry)) (now (decomposition .entry)) base center (now (list .entry))) (now (bytes .entry)) .list ⌝ }
+    ensures { λ r. ⌜ r ≡ resumeDef views options (now («tilt_x_seeds» .entry)) (now («tilt_y_seeds» .entry)) (now (decomposition .entry)) base center (now (list .entry)) (now (bytes .entry)) .reply ⌝ }
+    ensures { λ _. ⌜ now (list .exit) ≡ resumeDef views options (now («tilt_x_seeds» .entry)) (now («tilt_y_seeds» .entry)) (now (decomposition .entry)) base center (now (list .entry)) (now (bytes .entry)) .list ⌝ }
 {
     let started = start(
         views,
