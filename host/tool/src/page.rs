@@ -378,7 +378,8 @@ impl<'a> Told<'a> {
             row("centre of views", format!("{:.3} px  {:.3} px", inputs.center.x, inputs.center.y)),
         ];
         rows.extend(self.choices());
-        section("keep", "Options", &facts(&rows))
+        let note = format!("Numbers are rounded; {}.inputs has every bit.", self.name);
+        section("keep", "Options", &(facts(&rows) + &paragraph("note", &note)))
     }
 
     /// The options that Start isn't given.

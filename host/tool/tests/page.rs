@@ -119,6 +119,7 @@ fn a_good_search_is_on_its_page_with_all_that_was_asked_and_found() {
             "<td>round 5</td><td>no. ",
             "<td>lines 8 to 30</td><td>no. ",
             "<p>In no stretch: lines 31 to 39.</p>\n<p class=\"note\">Lines are counted from 1, candidates from 0.</p>",
+            "<p class=\"note\">Numbers are rounded; night.inputs has every bit.</p>",
             "<td>fx 1418.856 px  fy 1415.043 px  cx 655.000 px  cy 470.000 px</td>",
             "★ the winner. S scored; H skipped: the host found no camera; ",
             "<h2>The winner&#39;s errors</h2>",
