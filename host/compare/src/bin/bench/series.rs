@@ -1,7 +1,8 @@
 //! Root, sine and cosine.
 
 use crate::operation::{called, compare, returned, turns};
-use crate::timing::{Side, keep, report};
+use crate::table::report;
+use crate::timing::{Side, keep};
 use compare::plain::{leaf_cosine, leaf_root, leaf_sine};
 use jinnychair::geometry;
 use random::Random;
