@@ -19,7 +19,7 @@ fn main() -> ExitCode {
     program::run(compare_all)
 }
 
-fn compare_all(words: Vec<String>) -> Result<Differences, String> {
+fn compare_all(words: Vec<String>) -> Result<ExitCode, String> {
     let count = |i: usize, name: &str, default: usize| {
         words.get(i).map_or(Ok(default), |word| number(name, word))
     };
@@ -41,7 +41,7 @@ fn compare_all(words: Vec<String>) -> Result<Differences, String> {
     compare_lines(each, seed, &mut differences);
     compare_reports(each, seed, &mut differences);
     compare_winners(each, seed, &mut differences);
-    Ok(differences)
+    Ok(differences.end())
 }
 
 /// The machine's root is IEEE's.

@@ -20,6 +20,12 @@ impl Differences {
             println!("difference: {text}");
         }
     }
+
+    /// Says how many there are, and ends the program: with 1 on any.
+    pub fn end(&self) -> ExitCode {
+        println!("{} differences", self.count);
+        ExitCode::from(u8::from(self.count > 0))
+    }
 }
 
 /// A whole number among a program's words.
@@ -31,16 +37,10 @@ pub fn number(name: &str, word: &str) -> Result<usize, String> {
     word.parse().map_err(|_| format!("{name} {word}: no whole number"))
 }
 
-/// Runs a program on its words: ends with 1 on any difference, and with 2 on wrong words.
-pub fn run(program: impl FnOnce(Vec<String>) -> Result<Differences, String>) -> ExitCode {
-    match program(std::env::args().skip(1).collect()) {
-        Ok(differences) => {
-            println!("{} differences", differences.count);
-            ExitCode::from(u8::from(differences.count > 0))
-        }
-        Err(fault) => {
-            eprintln!("{fault}");
-            ExitCode::from(2)
-        }
-    }
+/// Runs a program on its words: ends as it says, or with 2 on wrong words.
+pub fn run(program: impl FnOnce(Vec<String>) -> Result<ExitCode, String>) -> ExitCode {
+    program(std::env::args().skip(1).collect()).unwrap_or_else(|fault| {
+        eprintln!("{fault}");
+        ExitCode::from(2)
+    })
 }

@@ -149,7 +149,6 @@ pub fn determinant(m: Matrix3) -> f64 {
 /// # Errors
 ///
 /// The determinant is 0.
-#[inline]
 pub fn inverse(m: Matrix3) -> Result<Matrix3, TiltError> {
     let reply = raw::jc_inverse(m.into());
     TiltError::check(reply.number).map(|()| reply.inverse.into())
@@ -231,7 +230,6 @@ pub fn principal_point_complexity(k: FxFyCxCy, center: Pt2) -> f64 {
 }
 
 /// The mean error of the counted rows, in pixels, with the camera as given; infinity where none is counted.
-#[inline]
 #[must_use]
 pub fn mean_reproj_error(camera: PinholeCamera, trig: TiltTrig, rows: Rows) -> f64 {
     raw::mean_reproj_error(camera, trig, rows)
@@ -263,7 +261,6 @@ pub struct ErrorCount {
 /// # Errors
 ///
 /// As an answer with these rows to a seed with these tilts is refused.
-#[inline]
 pub fn count_errors(
     solved: PinholeCamera,
     sensor: ScheimpflugParams,
@@ -279,7 +276,6 @@ pub fn count_errors(
 /// # Errors
 ///
 /// Nothing is written.
-#[inline]
 pub fn untilt_points(
     k: FxFyCxCy,
     trig: TiltTrig,
@@ -295,7 +291,6 @@ pub fn untilt_points(
 /// # Errors
 ///
 /// Nothing is written.
-#[inline]
 pub fn ideal_points(
     camera: PinholeCamera,
     iters: u32,
@@ -317,7 +312,6 @@ pub fn ideal_points(
 /// # Errors
 ///
 /// Nothing is written.
-#[inline]
 pub fn normalize_points_2d(
     points: &[Pt2],
     to: &mut [Pt2],
@@ -337,7 +331,6 @@ pub fn normalize_points_2d(
 /// assert!(points_are_collinear(&points(2.0)));
 /// assert!(!points_are_collinear(&points(3.0)));
 /// ```
-#[inline]
 #[must_use]
 pub fn points_are_collinear(points: &[Pt2]) -> bool {
     raw::points_are_collinear(coordinates(points)).collinear != 0
@@ -349,7 +342,6 @@ pub fn points_are_collinear(points: &[Pt2]) -> bool {
 /// # Errors
 ///
 /// Nothing is written.
-#[inline]
 pub fn design_rows(source: &[Pt2], destination: &[Pt2], to: &mut [f64]) -> Result<(), RowsError> {
     RowsError::check(raw::design_rows(coordinates(source), coordinates(destination), to))
 }
@@ -367,14 +359,12 @@ pub fn design_rows(source: &[Pt2], destination: &[Pt2], to: &mut [f64]) -> Resul
 /// assert_eq!((k.fx, k.fy, k.cx, k.cy), (2.0, 2.0, 3.0, 1.0));
 /// # Ok::<(), jinnychair::ConicError>(())
 /// ```
-#[inline]
 pub fn conic_to_camera(b: Conic) -> Result<FxFyCxCy, ConicError> {
     let reply = raw::jc_conic_to_camera(b);
     ConicError::check(reply.number).map(|()| reply.camera)
 }
 
 /// The centre of the pixels that are seen: half the greatest coordinates, or, where one is negative, the middle of their range.
-#[inline]
 #[must_use]
 pub fn observed_pixel_center(pixels: &[Pt2]) -> Pt2 {
     raw::observed_pixel_center(coordinates(pixels)).center

@@ -20,7 +20,6 @@ use crate::{FxFyCxCy, PlateError, raw};
 /// assert!(known_plate(FxFyCxCy { fx: 800.5, ..chosen }).is_err());
 /// # Ok::<(), Box<dyn std::error::Error>>(())
 /// ```
-#[inline]
 pub fn known_plate(k: FxFyCxCy) -> Result<Conic, PlateError> {
     let reply = raw::jc_known_plate(k);
     PlateError::check(reply.number).map(|()| reply.conic)

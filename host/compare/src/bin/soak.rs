@@ -150,7 +150,7 @@ fn main() -> ExitCode {
     program::run(soak)
 }
 
-fn soak(words: Vec<String>) -> Result<Differences, String> {
+fn soak(words: Vec<String>) -> Result<ExitCode, String> {
     let asked = Asked::read(words)?;
     println!("seed {}", asked.seed);
     let mut differences = Differences::default();
@@ -161,5 +161,5 @@ fn soak(words: Vec<String>) -> Result<Differences, String> {
     part.go("lines", asked.lines, Part::lines);
     part.go("cuts", asked.cuts, Part::cuts);
     part.go("records", asked.records, Part::records);
-    Ok(differences)
+    Ok(differences.end())
 }

@@ -7,6 +7,7 @@ use compare::calls as plain;
 use jinnychair::record::{self, Best, Run, answer, next, start};
 use jinnychair::{Finding, Handed, Rows};
 use random::Random;
+use std::fmt::Debug;
 use stored::library::library_inputs;
 
 /// The records of a whole run after each answer, and the list as it was at first.
@@ -46,12 +47,16 @@ fn next_and_seed(ready: &Run, list: &[f64]) {
     compare("Next and the seed call (plain Rust)", sides);
 }
 
-fn stops(name: &str, records: &[Run], list: &[f64]) {
-    let sides = [
-        returned(records, |run| Same(record::stop(run, list))),
-        called(records, |run| Same(plain::stop(run, list))),
-    ];
-    compare(name, sides);
+/// A call that only reads records.
+fn reading<T: Debug>(
+    name: &str,
+    records: &[Run],
+    library: impl Fn(&Run) -> T,
+    rust: impl Fn(&Run) -> T,
+) {
+    let sides =
+        [returned(records, |run| Same(library(run))), called(records, |run| Same(rust(run)))];
+    compare(&format!("{name} (plain Rust)"), sides);
 }
 
 /// Winners of stretches, by their records.
@@ -69,27 +74,14 @@ pub fn all(random: &mut Random) {
     let (records, list) = records(random);
     let (over, middle) = (&records[656..], &records[200..216]);
     next_and_seed(&records[0], &list);
-    let sides = [
-        returned(over, |run| Same(record::result(run))),
-        called(over, |run| Same(plain::result(run))),
-    ];
-    compare("Result (plain Rust)", sides);
-    let sides = [
-        returned(middle, |run| Same(record::progress(run))),
-        called(middle, |run| Same(plain::progress(run))),
-    ];
-    compare("progress (plain Rust)", sides);
-    let sides = [
-        returned(middle, |run| Same(record::counts(run))),
-        called(middle, |run| Same(plain::counts(run))),
-    ];
-    compare("counts (plain Rust)", sides);
-    let sides = [
-        returned(middle, |run| Same(record::last_line(run))),
-        called(middle, |run| Same(plain::last_line(run))),
-    ];
-    compare("last line (plain Rust)", sides);
-    stops("stop with 512 seeds left (plain Rust)", &records[..1], &list);
-    stops("stop with one left (plain Rust)", &records[511..512], &list);
+    reading("Result", over, record::result, plain::result);
+    reading("progress", middle, record::progress, plain::progress);
+    reading("counts", middle, record::counts, plain::counts);
+    reading("last line", middle, record::last_line, plain::last_line);
+    for (left, at) in [(512, 0), (1, 511)] {
+        let stop = |run: &Run| record::stop(run, &list);
+        let name = format!("stop with {left} left of 512 seeds");
+        reading(&name, &records[at..=at], stop, |run| plain::stop(run, &list));
+    }
     winners(&records[512..544]);
 }

@@ -100,7 +100,7 @@ pub fn all(random: &mut Random) {
     penalties(random);
 }
 
-/// A plate of so many dots and its pixels, which are hardly more regular than a camera's.
+/// The dots of a plate, and about the pixels that a camera sees them at.
 fn plate(count: usize, random: &mut Random) -> [Vec<Pt2>; 2] {
     let dot = |i: usize| Pt2 { x: 20.0 * (i % 10) as f64, y: 20.0 * (i / 10) as f64 };
     let dots: Vec<Pt2> = (0..count).map(dot).collect();

@@ -3,7 +3,8 @@
 use crate::operation::{Same, compare, written};
 use crate::runs::{LIST_LEN, most_seeds};
 use crate::scoring::library_camera;
-use crate::timing::{Side, keep, report};
+use crate::table::report;
+use crate::timing::{Side, keep};
 use compare::journal as plain;
 use compare::walk::walk;
 use jinnychair::journal::{self, Line, Recorded, Replayed, ScoredFields};

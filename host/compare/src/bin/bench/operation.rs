@@ -1,6 +1,7 @@
 //! Operations on lists of inputs. Every side is called, and all must give the same answers before they are timed.
 
-use crate::timing::{Side, keep, report};
+use crate::table::report;
+use crate::timing::{Side, keep};
 use compare::plain::Sum;
 use jinnychair::geometry::DistortedPoint;
 use jinnychair::{BrownConrady5, FxFyCxCy, Pt2};

@@ -1,9 +1,10 @@
 //! Lists of seeds, and whole runs.
 
 use crate::scoring::{CAMERA, ROWS, flat, library_camera, row_list};
-use crate::timing::{Side, keep, report};
+use crate::table::report;
+use crate::timing::{Side, keep};
 use jinnychair::record::{self, answer, next, seed, start};
-use jinnychair::{Finding as LibraryFinding, Handed, Rows, Winner};
+use jinnychair::{Finding as LibraryFinding, Handed, Pt2, Rows, Seed, TiltTrig, Winner, geometry};
 use oracle::operations::search::{Published, run};
 use random::Random;
 use std::hint::black_box;
@@ -76,11 +77,24 @@ pub fn lists(_: &mut Random) {
     first_list("the same of 256 seeds near their predecessors", &close_seeds(), 65);
 }
 
+/// The pixels of each view without a seed's tilt, which the published search works out itself and the library leaves to its host.
+fn untilt_views(seed: &Seed, views: usize) {
+    let trig = TiltTrig::try_from(seed.sensor).expect("a tilt within the bound");
+    for _ in 0..views {
+        // The published search has as many pixels, all of them here.
+        let (pixels, mut to) = ([Pt2::default(); 4], [Pt2::default(); 4]);
+        let untilted = geometry::untilt_points(seed.reference_k, trig, black_box(&pixels), &mut to);
+        untilted.expect("a tilt that can be undone");
+        keep(to);
+    }
+}
+
 fn library_run(inputs: &Inputs, (numbers, flags): &(Vec<f64>, Vec<u8>)) -> Winner {
     let mut list = vec![0.0; LIST_LEN];
     let mut run = start(&library_inputs(inputs), &mut list).expect("good inputs");
     while let Ok(Handed::Candidate { .. }) = next(&mut run, &list) {
-        black_box(seed(&run, &list)).expect("a seed waits");
+        let seed = seed(&run, &list).map(Seed::from_numbers).expect("a seed waits");
+        untilt_views(&seed, inputs.views);
         let rows = Rows { numbers, flags };
         let finding = LibraryFinding::Solved { camera: library_camera(), rows };
         answer(&mut run, &finding, &mut list).expect("a good answer");
@@ -105,5 +119,5 @@ fn whole_run(name: &str, rows: &[Row]) {
 pub fn runs(random: &mut Random) {
     let rows = row_list(ROWS, random);
     whole_run("a whole run of 656 answers with 900 rows", &rows);
-    whole_run("the same with one row: all but the scoring", &rows[..1]);
+    whole_run("the same with one row: lists and all but the scoring", &rows[..1]);
 }

@@ -93,9 +93,10 @@ fn counted(name: &str, rows: &[Row]) {
 /// Different numbers of rows, and rows that lie behind the camera.
 pub fn scorings(random: &mut Random) {
     let rows = row_list(ROWS, random);
-    for count in [ROWS, 100, 10, 1] {
+    for count in [ROWS, 100, 10] {
         scoring(&format!("projecting and scoring {count} rows"), &rows[..count]);
     }
+    scoring("one row", &rows[..1]);
     let mut with_flags = |name: &str, mut in_front: Box<dyn FnMut(&mut Random) -> bool>| {
         let mut rows = rows.to_vec();
         rows.iter_mut().for_each(|row| row.in_front = in_front(random));

@@ -1,9 +1,10 @@
 //! Root, sine and cosine.
 
 use crate::operation::{called, compare, returned, turns};
-use crate::timing::{Side, keep, report};
-use compare::plain::{leaf_cosine, leaf_root, leaf_sine};
-use jinnychair::geometry;
+use crate::table::report;
+use crate::timing::{Side, keep};
+use compare::plain::{Sum, leaf_cosine, leaf_root, leaf_sine};
+use jinnychair::{TrigError, geometry};
 use random::Random;
 
 pub fn roots(random: &mut Random) {
@@ -62,23 +63,36 @@ pub fn cosine_in_rust(x: f64) -> Option<f64> {
     series(0, x)
 }
 
-/// Sine and cosine beside the same loop in Rust and in C, and beside the machine's maths library.
+/// A series beside the same loop in Rust and in C, and beside the machine's maths library, which rounds otherwise.
+fn series_beside(
+    name: &str,
+    tilts: &[f64],
+    library: impl Fn(&f64) -> Result<f64, TrigError> + Copy,
+    rust: impl Fn(&f64) -> Option<f64>,
+    c: impl Fn(&f64) -> Sum,
+    maths: impl Fn(&f64) -> f64,
+) {
+    let sides = [returned(tilts, library), called(tilts, rust), returned(tilts, c)];
+    compare(&format!("{name} (the same loop in Rust)"), sides);
+    report(&format!("{name} (the maths library)"), [turns(tilts, library), turns(tilts, maths)]);
+}
+
 pub fn sines(random: &mut Random) {
     let tilts: Vec<f64> = (0..4096).map(|_| random.within(0.5)).collect();
-    let sides = [
-        returned(&tilts, |x| geometry::sine(*x)),
-        called(&tilts, |x| sine_in_rust(*x)),
-        returned(&tilts, |x| leaf_sine(*x)),
-    ];
-    compare("sine (the same loop in Rust)", sides);
-    let sides = [turns(&tilts, |x| geometry::sine(*x)), turns(&tilts, |x| x.sin())];
-    report("sine (the maths library)", sides);
-    let sides = [
-        returned(&tilts, |x| geometry::cosine(*x)),
-        called(&tilts, |x| cosine_in_rust(*x)),
-        returned(&tilts, |x| leaf_cosine(*x)),
-    ];
-    compare("cosine (the same loop in Rust)", sides);
-    let sides = [turns(&tilts, |x| geometry::cosine(*x)), turns(&tilts, |x| x.cos())];
-    report("cosine (the maths library)", sides);
+    series_beside(
+        "sine",
+        &tilts,
+        |x| geometry::sine(*x),
+        |x| sine_in_rust(*x),
+        |x| leaf_sine(*x),
+        |x| x.sin(),
+    );
+    series_beside(
+        "cosine",
+        &tilts,
+        |x| geometry::cosine(*x),
+        |x| cosine_in_rust(*x),
+        |x| leaf_cosine(*x),
+        |x| x.cos(),
+    );
 }

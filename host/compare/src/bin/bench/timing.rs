@@ -1,4 +1,4 @@
-//! Turns on the thread's own clock, and the table's rows.
+//! Turns on the thread's own clock.
 
 use std::hint::black_box;
 
@@ -77,26 +77,4 @@ pub fn medians<const N: usize>(budget: f64, mut sides: [Side; N]) -> [f64; N] {
 /// Uses a value as far as the compiler can tell.
 pub fn keep<T>(value: T) {
     black_box(value);
-}
-
-fn shown(ns: f64) -> String {
-    let (value, unit) = match ns {
-        ns if ns < 1e3 => (ns, "ns"),
-        ns if ns < 1e6 => (ns / 1e3, "µs"),
-        ns => (ns / 1e6, "ms"),
-    };
-    if value < 100.0 { format!("{value:.1} {unit}") } else { format!("{value:.0} {unit}") }
-}
-
-/// Prints the table's head.
-pub fn head() {
-    println!("| what | library | Rust | ratio | C | ratio |\n|---|---|---|---|---|---|");
-}
-
-/// Times the library, the Rust and C, or as many of them as there are, and prints a row of the table.
-pub fn report<const N: usize>(name: &str, sides: [Side; N]) {
-    let times = medians(BUDGET, sides);
-    let beside = |other: &f64| format!("{} | {:.2}", shown(*other), times[0] / other);
-    let [rust, c] = [1, 2].map(|i| times.get(i).map_or("– | –".to_owned(), beside));
-    println!("| {name} | {} | {rust} | {c} |", shown(times[0]));
 }
