@@ -11,8 +11,8 @@ fn run(program: &str, words: &[&str]) {
 
 fn main() {
     let folder = env::var("OUT_DIR").expect("cargo sets the folder");
-    // Without its flag gcc 12 packs the two numbers of a point by way of the stack and waits for that: small functions would take
-    // three to five times as long.
+    // Without its flag gcc 12 packs the two numbers of a point by way of the stack and waits for that: small functions would take up
+    // to five times as long.
     for (name, flags) in [("plain", &["-O3"][..]), ("leaves", &["-O3", "-fno-tree-slp-vectorize"])]
     {
         let source = format!("{name}.c");
