@@ -16,7 +16,7 @@ macro_rules! refusal {
     (8 $part:ident) => { part!($part "the seed list is too short", "Lend `max(54, 6 × (decomposition seeds + x tilts × y tilts))` numbers.") };
     (9 $part:ident) => { part!($part "a seed is waiting for its answer", "Answer it first; send Failed if there is no camera.") };
     (10 $part:ident) => { part!($part "the lent list is shorter than 8 demands", "Lend the list that Start wrote, whole.") };
-    (11 $part:ident) => { part!($part "the run ended and no candidate was scored", "Look at the outcomes' skip reasons. Also: all tilts of the grid lie beyond the bound, and there are no decomposition seeds.") };
+    (11 $part:ident) => { part!($part "the run ended and no candidate was scored", "Look at the outcomes' skip reasons. It ends so at once where no tilt of the grid is within the bound and there are no decomposition seeds.") };
     (12 $part:ident) => { part!($part "no seed is waiting", "Call Next first. Also where the record isn't one that Start or a call returned.") };
     (13 $part:ident) => { part!($part "more than 1,024 rows, not four numbers for each flag, or a flag above 1", "Send fewer dots; check that rows and flags have the same count.") };
     (14 $part:ident) => { part!($part "the run isn't over", "Go on with Next and Answer until Next says Over.") };
