@@ -11,8 +11,8 @@ use capi_records::journal::line_of;
 use capi_records::journal::read_reply;
 use capi_records::journal::write_reply;
 use journal_line::Counts;
-use journal_line::report;
-use journal_line::writing;
+use journal_bytes::report;
+use journal_bytes::writing;
 
 // The line's bytes at the front of `to`; 0 and how many, or 28.
 #[no_mangle]

@@ -1,6 +1,1 @@
-mod Bytes
-mod Found
-mod Fits
-mod Parts
-mod Reported
-mod Stores
+mod Totals

@@ -1,8 +1,7 @@
-// The journal: one line for each answered candidate, written to a lent buffer and read back. The report: one line of counts.
+// The journal: one line for each answered candidate; and the counts that a report is made of. Its bytes are defined here, and written and read by
+// `journal_bytes`.
 pub mod outcome;
-pub mod reading;
-pub mod report;
-pub mod writing;
+pub mod total;
 
 use camera_models::intrinsics::FxFyCxCy;
 use seed_rules::CandidateSeed;

@@ -1,11 +1,11 @@
 // A reader that keeps a journal's bytes and its place in them. The functions that take the struct are thin, and proved by walks by hand; the work is
-// `journal_line::reading::read_line`'s.
+// `journal_bytes::reading::read_line`'s.
 
 ghost use mathlib.Core.Path.{_≡_};
 ghost use Rattle.journal_line.specs.Reading.{readLine};
 ghost use Rattle.journal_reader.specs.Advance.{Advanced};
 use journal_line::Read;
-use journal_line::reading;
+use journal_bytes::reading;
 
 // A journal's bytes, and the place from which the next line is read.
 pub struct Reader<'a> {

@@ -12,7 +12,7 @@ use crate::Walked;
 use crate::walk::walk;
 use camera_models::intrinsics::FxFyCxCy;
 use camera_models::math::Pt2;
-use journal_line::reading::count_newlines;
+use journal_bytes::reading::count_newlines;
 use search_record::run::Options;
 use search_start::Started;
 use search_start::start;

@@ -10,7 +10,7 @@ use crate::stand::answers_waiting;
 use journal_line::Line;
 use journal_line::Read;
 use journal_line::outcome::outcome_in;
-use journal_line::reading::read_line;
+use journal_bytes::reading::read_line;
 use search_answer::enter;
 use search_calls::next::Handed;
 use search_calls::next::next;

@@ -7,7 +7,7 @@ ghost use Rattle.journal_line.specs.Report.{total};
 ghost use Rattle.search_record.specs.Record.{addUp};
 use journal_line::Counts;
 use journal_line::Recorded;
-use journal_line::report::total_if_small;
+use journal_line::total::total_if_small;
 
 // Nothing is counted.
 pub fn no_counts() -> Counts

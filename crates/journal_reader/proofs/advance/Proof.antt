@@ -54,14 +54,14 @@ use Rattle.journal_reader.proofs.Reader as T
 use Rattle.journal_reader.proofs.Reader.Laws as T′
 use Rattle.journal_line.proofs.Read as S
 use Rattle.journal_line.proofs.Read.Laws as S′
-use Rattle.journal_line.proofs.reading.read_line as read
-use Rattle.journal_line.proofs.reading.read_line.Symbol as read-def
-use Rattle.journal_line.proofs.reading.read_line.Symbol.{name as #journal-line·read-line}
-use Rattle.journal_line.proofs.reading.read_line.Met as read-thm
-use Rattle.journal_line.proofs.reading.place_after as place
-use Rattle.journal_line.proofs.reading.place_after.Symbol as place-def
-use Rattle.journal_line.proofs.reading.place_after.Symbol.{name as #journal-line·place-after}
-use Rattle.journal_line.proofs.reading.place_after.Met as place-thm
+use Rattle.journal_bytes.proofs.reading.read_line as read
+use Rattle.journal_bytes.proofs.reading.read_line.Symbol as read-def
+use Rattle.journal_bytes.proofs.reading.read_line.Symbol.{name as #journal-bytes·read-line}
+use Rattle.journal_bytes.proofs.reading.read_line.Met as read-thm
+use Rattle.journal_bytes.proofs.reading.place_after as place
+use Rattle.journal_bytes.proofs.reading.place_after.Symbol as place-def
+use Rattle.journal_bytes.proofs.reading.place_after.Symbol.{name as #journal-bytes·place-after}
+use Rattle.journal_bytes.proofs.reading.place_after.Met as place-thm
 use Rattle.journal_reader.proofs.advance.Key.{name as #journal-reader·advance}
 use Rattle.journal_reader.proofs.advance as advance
 use Rattle.journal_reader.proofs.advance.Statement as stated
@@ -171,7 +171,7 @@ module _ {M : Type 1} (𝓤 : URA M) (H : Heap 𝓤) (A : Atoms 𝓤) (W : Given
       suffices ! _ (ends-at 𝓤 H A advance.ended stayed (advance.clauses 𝓤 H A at-mem run) W (((κ, (κ′, tt)), (q, (q′, tt)), bounds, x, at), tt) u r (h′ k, tt) (tt, tt)) $ says ! e $
       move ! (3 ∷ 4 ∷ []) $ join ! $ frame ! $ move ! (1 ∷ 2 ∷ []) $ feqI ! (List Val) (vptr b o ∷ []) (vptr b o ∷ []) refl $ fjoin3 ! $ nothing ! $ move ! (1 ∷ 0 ∷ []) $ fjoin ! $ done !
 
-  module _ (C : Calls 𝓤 H) (Λ : Loops 𝓤 H) (fm : FmC 𝓤 H (W .laws) C) (known-read : Triple 𝓤 (C #journal-line·read-line) (ReadLine 𝓤 H A at-mem run)) (known-place : Triple 𝓤 (C #journal-line·place-after) (PlaceAfter 𝓤 H A at-mem run)) where
+  module _ (C : Calls 𝓤 H) (Λ : Loops 𝓤 H) (fm : FmC 𝓤 H (W .laws) C) (known-read : Triple 𝓤 (C #journal-bytes·read-line) (ReadLine 𝓤 H A at-mem run)) (known-place : Triple 𝓤 (C #journal-bytes·place-after) (PlaceAfter 𝓤 H A at-mem run)) where
     walk : ent 𝓤 (onEntry 𝓤 H A advance.signature (κ, (κ′, tt)) (q, (q′, tt)) x at) (WpFn 𝓤 H C Λ code.function (vptr b o ∷ []) Post)
     walk =
         qed W ((‵ (flft κ q) ⊛ ‵ (flft κ′ q′) ⊛ ‵ ftrue) ∷ ‵ (owns (MutRef (named 0) κ (B κ′) ∷ []) x at) ∷ []) ∵ enter ! C Λ code.function (vptr b o ∷ []) _ $
@@ -209,13 +209,13 @@ module _ {M : Type 1} (𝓤 : URA M) (H : Heap 𝓤) (A : Atoms 𝓤) (W : Given
         keep ! (3 ∷ 0 ∷ 1 ∷ 2 ∷ 4 ∷ []) $ by ! (exits r u k (record { answer-is = e; same-bytes = refl; place-is = e₂ }))))))))))))))))))
 
 module _ {M : Type 1} (𝓤 : URA M) (H : Heap 𝓤) (A : Atoms 𝓤) (W : Given 𝓤 H A) (mem : Memory → SProp 𝓤) (run : Routine → Fun 𝓤) where
-  advance-walks : (C : Calls 𝓤 H) (Λ : Loops 𝓤 H) → FmC 𝓤 H (W .laws) C → Triple 𝓤 (C #journal-line·read-line) (ReadLine 𝓤 H A mem run) → Triple 𝓤 (C #journal-line·place-after) (PlaceAfter 𝓤 H A mem run)
+  advance-walks : (C : Calls 𝓤 H) (Λ : Loops 𝓤 H) → FmC 𝓤 H (W .laws) C → Triple 𝓤 (C #journal-bytes·read-line) (ReadLine 𝓤 H A mem run) → Triple 𝓤 (C #journal-bytes·place-after) (PlaceAfter 𝓤 H A mem run)
       → Walks 𝓤 H A advance.ended stayed (WpFn 𝓤 H C Λ code.function) (advance.clauses 𝓤 H A mem run)
   advance-walks C Λ fm known-read known-place = walked 𝓤 H A advance.ended stayed (advance.clauses 𝓤 H A mem run) (WpFn 𝓤 H C Λ code.function) (λ κs. (ptr-vals, tt)) (λ κs. (mut-tells (named 0) (κs .0) (B (κs .1 .0)), tt))
       (λ κs qs bounds a _ are. via 𝓤 _ (fst∗ 𝓤 _ (emp 𝓤)) (walk 𝓤 H A W mem run (κs .0) (κs .1 .0) (qs .0) (qs .1 .0) bounds (a .0 .ptr .0) (a .0 .ptr .1) (a .0 .name) (a .0 .now) C Λ fm known-read known-place))
 
 advance-meets : {M : Type 1} (𝓤 : URA M) (H : Heap 𝓤) (A : Atoms 𝓤) (W : Given 𝓤 H A) (mem : Memory → SProp 𝓤) (run : Routine → Fun 𝓤) (𝓣 : Tables 𝓤 H)
-    → Triple 𝓤 (𝓣 .C #journal-line·read-line) (ReadLine 𝓤 H A mem run) → Triple 𝓤 (𝓣 .C #journal-line·place-after) (PlaceAfter 𝓤 H A mem run)
+    → Triple 𝓤 (𝓣 .C #journal-bytes·read-line) (ReadLine 𝓤 H A mem run) → Triple 𝓤 (𝓣 .C #journal-bytes·place-after) (PlaceAfter 𝓤 H A mem run)
     → Meets 𝓤 H A advance.signature (WpFn 𝓤 H (𝓣 .C) (𝓣 .Λ) code.function) (advance.spec 𝓤 H A mem run)
 advance-meets 𝓤 H A W mem run 𝓣 known-read known-place = walk-meets 𝓤 H A advance.ended stayed W (goes-ref 𝓤 H A W 2 0 tt behind, tt) (advance.clauses 𝓤 H A mem run) (WpFn 𝓤 H (𝓣 .C) (𝓣 .Λ) code.function) (WpFn-mono 𝓤 H (W .laws) 𝓣 code.function)
     (advance-walks 𝓤 H A W mem run (𝓣 .C) (𝓣 .Λ) (fmOf 𝓤 H (W .laws) 𝓣) known-read known-place)
@@ -226,5 +226,5 @@ advance-spec 𝓤 H 𝓜 𝓖 𝓡 =
     entered 𝓤 H (tripleOf 𝓤 H (𝓖 .A) advance.signature (advance.spec 𝓤 H (𝓖 .A) (𝓜 .mem) (𝓡 .run)))
     (tables 𝓤 H 𝓜 𝓡 code.env .C) (tables 𝓤 H 𝓜 𝓡 code.env .Λ) #journal-reader·advance code.function (code.unfolded 𝓤 H 𝓜 𝓡)
     (advance-meets 𝓤 H (𝓖 .A) (givenOf 𝓤 H 𝓜 𝓖) (𝓜 .mem) (𝓡 .run) (tablesOf 𝓤 H 𝓜 (tables 𝓤 H 𝓜 𝓡 code.env))
-    (cited 𝓤 H (ReadLine 𝓤 H (𝓖 .A) (𝓜 .mem) (𝓡 .run)) 𝓜 𝓡 code.env #journal-line·read-line read-def.routine code.calls-journal-line·reading·read-line (read-thm.met 𝓤 H 𝓜 𝓖 𝓡))
-    (cited 𝓤 H (PlaceAfter 𝓤 H (𝓖 .A) (𝓜 .mem) (𝓡 .run)) 𝓜 𝓡 code.env #journal-line·place-after place-def.routine code.calls-journal-line·reading·place-after (place-thm.met 𝓤 H 𝓜 𝓖 𝓡)))
+    (cited 𝓤 H (ReadLine 𝓤 H (𝓖 .A) (𝓜 .mem) (𝓡 .run)) 𝓜 𝓡 code.env #journal-bytes·read-line read-def.routine code.calls-journal-bytes·reading·read-line (read-thm.met 𝓤 H 𝓜 𝓖 𝓡))
+    (cited 𝓤 H (PlaceAfter 𝓤 H (𝓖 .A) (𝓜 .mem) (𝓡 .run)) 𝓜 𝓡 code.env #journal-bytes·place-after place-def.routine code.calls-journal-bytes·reading·place-after (place-thm.met 𝓤 H 𝓜 𝓖 𝓡)))

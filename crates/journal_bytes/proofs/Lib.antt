@@ -1,0 +1,6 @@
+mod Bytes
+mod Found
+mod Fits
+mod Parts
+mod Reported
+mod Stores
