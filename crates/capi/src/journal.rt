@@ -10,9 +10,9 @@ use capi_records::journal::WriteReply;
 use capi_records::journal::line_of;
 use capi_records::journal::read_reply;
 use capi_records::journal::write_reply;
-use journal_line::Counts;
 use journal_bytes::report;
 use journal_bytes::writing;
+use journal_line::Counts;
 
 // The line's bytes at the front of `to`; 0 and how many, or 28.
 #[no_mangle]

@@ -1,7 +1,7 @@
 -- The parts of a line, stored one after the other. Assumes nothing.
 use Prim.Native.Nat.{ℕ, _+_, _*_, _≤_}
 use mathlib.Core.Path.{_≡_, refl, sym, ap, _∙_}
-use mathlib.Core.Bool.{Bool, true, false, not, _||_}
+use mathlib.Core.Bool.{Bool, false, not, _||_}
 use mathlib.Core.List.{List, [], _∷_, _++_, map, append-assoc}
 use native.Mathlib.Omega.{arith}
 use borrow.Author.Tests.{ltb-false, not-false}
@@ -15,7 +15,7 @@ use Rattle.journal_line.specs.declared.ScoredFields.{ScoredFields}
 use Rattle.journal_line.specs.declared.Recorded.{Recorded}
 use Rattle.journal_line.specs.declared.Recorded.the-variants.{Scored, Skipped}
 use Rattle.journal_line.specs.declared.Line.{Line}
-use Rattle.journal_line.specs.declared.Written.the-variants.{Length, Refused}
+use Rattle.journal_line.specs.declared.Written.the-variants.{Length}
 use Rattle.journal_line.specs.Line.{decimalWidth, decimal, real, reasonLetter, eight, outcomeFields, restOfLine, lineBytes, writable, Writable}
 use Rattle.journal_line.specs.Steps.{commaFields, Stored}
 use Rattle.journal_line.specs.DigitLaws.{decimal-length}
@@ -115,7 +115,3 @@ module _ (l : Line) (o o₁ o₂ o₃ : List ℕ) (taken : refusesLine l o ≡ f
       let s = stored-then h a o o₁ o₂ 0 at p (rw f at q) (omega arith) in
       let t = stored-then (h ++ a) w o o₂ o₃ 0 (at + 102) s r (omega (arith, length-append h a, comma-fields-length (six (l .seed)))) in
       accepts n (omega (arith, line-length l, rest-length (outcomeFields (l .outcome)))) (stored-as o 0 ((h ++ a) ++ w) (lineBytes l) o₃ (line-parts l) t)
-
-pub line-refused : (l : Line) (o : List ℕ) → refusesLine l o ≡ true → (Refused 28 ≡ writeReply l o) × (o ≡ writeInto l o)
-unfolding writeReply writeInto
-line-refused l o e = (rw e, rw e)

@@ -1,7 +1,7 @@
 -- The parts of a report, stored one after the other, and the test before them. Assumes nothing.
 use Prim.Native.Nat.{ℕ, _+_, _≤_}
 use mathlib.Core.Path.{_≡_, sym, ap, _∙_}
-use mathlib.Core.Bool.{true, false, _||_}
+use mathlib.Core.Bool.{false, _||_}
 use mathlib.Core.List.{List, [], _∷_, _++_, map}
 use native.Mathlib.Omega.{arith}
 use borrow.Author.Tests.{le-ltb, ltb-false}
@@ -9,7 +9,7 @@ use lib.Dec.{ltb}
 use lib.ListN.{length, length-append}
 use Rattle.common.specs.Tests.{both-false}
 use Rattle.journal_line.specs.declared.Counts.{Counts}
-use Rattle.journal_line.specs.declared.Written.the-variants.{Length, Refused}
+use Rattle.journal_line.specs.declared.Written.the-variants.{Length}
 use Rattle.journal_line.specs.Line.{decimalWidth, decimal}
 use Rattle.journal_line.specs.Steps.{commaFields, Stored}
 use Rattle.journal_line.specs.Report.{total, reportBytes, refusesReport, reportReply, reportInto}
@@ -30,10 +30,6 @@ taken-so c o e = let b = both-false (ltb (length o) 24) (ltb 656 (total c)) e in
 -- the sum that was tested
 pub sum-is : (c : Counts) (o : List ℕ) (sum : ℕ) → refusesReport c o ≡ false → ltb 656 sum ≡ ltb 656 (total c) → (sum ≤ 656 → sum ≡ total c) → sum ≡ total c
 sum-is c o sum taken e f = f (ltb-false 656 sum (e ∙ le-ltb 656 (total c) (taken-so c o taken .1)))
-
-pub report-refused : (c : Counts) (o : List ℕ) → refusesReport c o ≡ true → (Refused 28 ≡ reportReply c o) × (o ≡ reportInto c o)
-unfolding reportReply reportInto
-report-refused c o e = (rw e, rw e)
 
 module _ (c : Counts) (o o₁ o₂ o₃ : List ℕ) (taken : refusesReport c o ≡ false) where
   accepts : (n : ℕ) → n ≡ length (reportBytes c) → Stored o 0 (reportBytes c) o₃ → (Length n ≡ reportReply c o) × (o₃ ≡ reportInto c o)

@@ -8,6 +8,7 @@ pub mod Line
 pub mod Numbers
 pub mod Outcome
 pub mod Reading
+pub mod Refused
 pub mod Report
 pub mod ReportLaws
 pub mod Steps

@@ -4,8 +4,8 @@
 ghost use mathlib.Core.Path.{_≡_};
 ghost use Rattle.journal_line.specs.Reading.{readLine};
 ghost use Rattle.journal_reader.specs.Advance.{Advanced};
-use journal_line::Read;
 use journal_bytes::reading;
+use journal_line::Read;
 
 // A journal's bytes, and the place from which the next line is read.
 pub struct Reader<'a> {

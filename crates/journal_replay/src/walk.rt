@@ -7,10 +7,10 @@ ghost use Rattle.journal_replay.specs.Walk.{isCandidate, isTaken, runTak
 use crate::Stop;
 use crate::Walked;
 use crate::stand::answers_waiting;
+use journal_bytes::reading::read_line;
 use journal_line::Line;
 use journal_line::Read;
 use journal_line::outcome::outcome_in;
-use journal_bytes::reading::read_line;
 use search_answer::enter;
 use search_calls::next::Handed;
 use search_calls::next::next;

@@ -7,7 +7,8 @@ use lib.Dec.{ltb}
 use lib.ListN.{length}
 use borrow.Author.Needs.{needs}
 use Rattle.journal_line.specs.Report.{total, refusesReport}
-use Rattle.journal_bytes.proofs.Reported.{refuses-so, taken-so, sum-is, report-stored, report-refused}
+use Rattle.journal_line.specs.Refused.{report-refused}
+use Rattle.journal_bytes.proofs.Reported.{refuses-so, taken-so, sum-is, report-stored}
 use Rattle.journal_bytes.proofs.report.write_report.Statement.{statement}
 use Rattle.journal_bytes.proofs.report.write_report.Tie as tie
 

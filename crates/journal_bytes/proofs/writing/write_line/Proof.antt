@@ -9,7 +9,8 @@ use borrow.Author.Needs.{needs}
 use Rattle.journal_line.specs.Line.{writable, LineFits}
 use Rattle.journal_line.specs.Writing.{refusesLine}
 use Rattle.journal_bytes.proofs.Fits.{line-fits}
-use Rattle.journal_bytes.proofs.Parts.{refuses-so, taken-so, line-stored, line-refused}
+use Rattle.journal_line.specs.Refused.{line-refused}
+use Rattle.journal_bytes.proofs.Parts.{refuses-so, taken-so, line-stored}
 use Rattle.journal_bytes.proofs.writing.write_line.Statement.{statement}
 use Rattle.journal_bytes.proofs.writing.write_line.Tie as tie
 
