@@ -1,2 +1,4 @@
 // The plain book of a search, kept from Start's inputs and the calls alone, and the theorem that every reply of every list of calls
 // is the book's. There is no code here: see specs/ for the definitions and the statement, and proofs/ for its proof.
+
+#![tactic(auto)]

@@ -1,2 +1,4 @@
 // Running a journal again and going on from one (02, E5 and E13), as the code does it over the run's record, is the plain book's walk. There is no code here:
 // see specs/ for the statements, and proofs/ for their proofs.
+
+#![tactic(auto)]

@@ -8,7 +8,7 @@ use crate::math::Pt2;
 
 // Radial coefficients k1, k2, k3 and tangential p1, p2.
 #[repr(C)]
-#[derive(Drop)]
+#[derive(Clone, Copy)]
 pub struct BrownConrady5 {
     pub k1: f64,
     pub k2: f64,
@@ -19,7 +19,7 @@ pub struct BrownConrady5 {
 
 // The derivatives of the distorted x and y by x and by y.
 #[repr(C)]
-#[derive(Drop)]
+#[derive(Clone, Copy)]
 pub struct Jacobian {
     pub xx: f64,
     pub xy: f64,
@@ -28,14 +28,14 @@ pub struct Jacobian {
 }
 
 #[repr(C)]
-#[derive(Drop)]
+#[derive(Clone, Copy)]
 pub struct DistortedPoint {
     pub point: Pt2,
     pub jacobian: Jacobian,
 }
 
 // The radial factor, and what is added to each coordinate.
-#[derive(Drop)]
+#[derive(Clone, Copy)]
 struct Terms {
     radial: f64,
     x_tan: f64,

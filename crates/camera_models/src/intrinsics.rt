@@ -8,7 +8,7 @@ use crate::math::Pt2;
 
 // Focal lengths and principal point, in pixels.
 #[repr(C)]
-#[derive(Drop)]
+#[derive(Clone, Copy)]
 pub struct FxFyCxCy {
     pub fx: f64,
     pub fy: f64,

@@ -1,4 +1,7 @@
 // A point of the plane, the camera without lens and tilt, and the lens distortion.
+
+#![tactic(auto)]
+
 pub mod distortion;
 pub mod intrinsics;
 pub mod math;

@@ -1,6 +1,6 @@
 // A point of the plane, as the models take and return it.
 #[repr(C)]
-#[derive(Drop)]
+#[derive(Clone, Copy)]
 pub struct Pt2 {
     pub x: f64,
     pub y: f64,

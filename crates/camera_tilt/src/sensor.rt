@@ -10,14 +10,14 @@ use camera_models::math::Pt2;
 
 // Tilt about each axis of the sensor, in radians.
 #[repr(C)]
-#[derive(Drop)]
+#[derive(Clone, Copy)]
 pub struct ScheimpflugParams {
     pub tilt_x: f64,
     pub tilt_y: f64,
 }
 
 // Whether a tilt's homography has an inverse.
-#[derive(Drop)]
+#[derive(Clone, Copy)]
 pub enum Tilt {
     Invertible,
     Refused(u8),

@@ -1,6 +1,8 @@
 // Undistortion: Newton's method on the Brown-Conrady model, with halved steps.
 // Each function equals its rule, rounded operation by operation, for every input.
 
+#![tactic(auto)]
+
 ghost use Rattle.std.specs.Prelude.{◌≡◌};
 ghost use Rattle.camera_models.specs.Distortion.{squared_norm};
 ghost use Rattle.camera_undistort.specs.Undistortion.{minus_point, halved, estimate_at, jacobian_determinant, singular, step_by, improves, trials, small_step, after_trials, newton_turn, last_step, newton_undistorted, undistorted};
@@ -9,7 +11,7 @@ use camera_models::distortion::{BrownConrady5, Jacobian, distort_with_jacobian};
 use camera_models::math::Pt2;
 
 // A point, how far its distortion is from the target, and the derivatives there.
-#[derive(Drop)]
+#[derive(Clone, Copy)]
 pub struct Estimate {
     pub point: Pt2,
     pub error: Pt2,
@@ -17,14 +19,14 @@ pub struct Estimate {
 }
 
 // What the trials find: an estimate with its step, or nothing.
-#[derive(Drop)]
+#[derive(Clone, Copy)]
 pub enum TrialResult {
     Accepted(Estimate, Pt2),
     Exhausted,
 }
 
 // What a turn of Newton's method accepts: nothing, the last estimate, or one that another turn follows.
-#[derive(Drop)]
+#[derive(Clone, Copy)]
 pub enum Turn {
     Ended,
     Last(Estimate),

@@ -9,7 +9,7 @@ use zhang::Estimated;
 
 // 0 and the sine or the cosine, or 27.
 #[repr(C)]
-#[derive(Drop)]
+#[derive(Clone, Copy)]
 pub struct SumReply {
     pub number: u8,
     pub value: f64,
@@ -17,7 +17,7 @@ pub struct SumReply {
 
 // Three rows of three numbers.
 #[repr(C)]
-#[derive(Drop)]
+#[derive(Clone, Copy)]
 pub struct Matrix3 {
     pub m00: f64,
     pub m01: f64,
@@ -32,7 +32,7 @@ pub struct Matrix3 {
 
 // 0 and the inverse, or 15.
 #[repr(C)]
-#[derive(Drop)]
+#[derive(Clone, Copy)]
 pub struct InverseReply {
     pub number: u8,
     pub inverse: Matrix3,
@@ -40,7 +40,7 @@ pub struct InverseReply {
 
 // 0 and the camera, or 16.
 #[repr(C)]
-#[derive(Drop)]
+#[derive(Clone, Copy)]
 pub struct CameraReply {
     pub number: u8,
     pub camera: FxFyCxCy,

@@ -9,7 +9,7 @@ use seed_rules::CandidateSeed;
 
 // A line's fields. Scored where skipped is 0; else skipped is the reason, and score and all behind it have no meaning.
 #[repr(C)]
-#[derive(Drop)]
+#[derive(Clone, Copy)]
 pub struct LineRecord {
     pub number: usize,
     pub round: usize,
@@ -24,7 +24,7 @@ pub struct LineRecord {
 
 // 0 and how many bytes were written, or 28.
 #[repr(C)]
-#[derive(Drop)]
+#[derive(Clone, Copy)]
 pub struct WriteReply {
     pub number: u8,
     pub len: usize,
@@ -32,7 +32,7 @@ pub struct WriteReply {
 
 // 0 and a line; or 0 and the end; or 29 and the line's number, from 1. The next place is behind a line, and else where it was.
 #[repr(C)]
-#[derive(Drop)]
+#[derive(Clone, Copy)]
 pub struct ReadReply {
     pub number: u8,
     pub end: u8,

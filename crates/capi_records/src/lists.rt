@@ -10,7 +10,7 @@ use point_normalise::linalg::Normalized;
 
 // 0 and the transform's numbers that are neither 0 nor 1, or 17, 18 or 19.
 #[repr(C)]
-#[derive(Drop)]
+#[derive(Clone, Copy)]
 pub struct NormalizeReply {
     pub number: u8,
     pub t00: f64,
@@ -20,7 +20,7 @@ pub struct NormalizeReply {
 
 // 0 and 1 where the points are collinear, or 17.
 #[repr(C)]
-#[derive(Drop)]
+#[derive(Clone, Copy)]
 pub struct LineReply {
     pub number: u8,
     pub collinear: u8,
@@ -28,7 +28,7 @@ pub struct LineReply {
 
 // 0 and the centre, or 17.
 #[repr(C)]
-#[derive(Drop)]
+#[derive(Clone, Copy)]
 pub struct CenterReply {
     pub number: u8,
     pub center: Pt2,

@@ -7,7 +7,7 @@ use zhang_plate::Plate;
 
 // 0 and the six numbers, or 34.
 #[repr(C)]
-#[derive(Drop)]
+#[derive(Clone, Copy)]
 pub struct PlateReply {
     pub number: u8,
     pub conic: Conic,

@@ -11,7 +11,7 @@ use search_record::run::{LastAnswer, Options, Place, Run, Waiting};
 use seed_rules::CandidateSeed;
 
 #[repr(C)]
-#[derive(Drop)]
+#[derive(Clone, Copy)]
 pub struct OptionsRecord {
     pub refine_rounds: usize,
     pub refine_step: f64,
@@ -21,7 +21,7 @@ pub struct OptionsRecord {
 }
 
 #[repr(C)]
-#[derive(Drop)]
+#[derive(Clone, Copy)]
 pub struct PlaceRecord {
     pub demand: usize,
     pub round: usize,
@@ -33,14 +33,14 @@ pub struct PlaceRecord {
 }
 
 #[repr(C)]
-#[derive(Drop)]
+#[derive(Clone, Copy)]
 pub struct WaitingRecord {
     pub is_waiting: u8,
     pub seed: CandidateSeed,
 }
 
 #[repr(C)]
-#[derive(Drop)]
+#[derive(Clone, Copy)]
 pub struct BestRecord {
     pub found: u8,
     pub candidate: Candidate,
@@ -48,14 +48,14 @@ pub struct BestRecord {
 
 // The last answered candidate's line, if found is not 0.
 #[repr(C)]
-#[derive(Drop)]
+#[derive(Clone, Copy)]
 pub struct LastRecord {
     pub found: u8,
     pub line: LineRecord,
 }
 
 #[repr(C)]
-#[derive(Drop)]
+#[derive(Clone, Copy)]
 pub struct RunRecord {
     pub options: OptionsRecord,
     pub center: Pt2,

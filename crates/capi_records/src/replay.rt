@@ -11,7 +11,7 @@ use seed_rules::CandidateSeed;
 // 0 and, where the run is over, the winner's number and score, else the seed that comes next; 11, or a refusal of Start's; or 29 or 30 and the line's number,
 // from 1.
 #[repr(C)]
-#[derive(Drop)]
+#[derive(Clone, Copy)]
 pub struct ReplayFlat {
     pub number: u8,
     pub is_over: u8,
@@ -23,7 +23,7 @@ pub struct ReplayFlat {
 
 // 0, how much is kept and dropped, what ended it (0 nothing, 1 a missing newline, 29, 30), and the run; or a refusal of Start's.
 #[repr(C)]
-#[derive(Drop)]
+#[derive(Clone, Copy)]
 pub struct ResumeFlat {
     pub number: u8,
     pub ended_by: u8,

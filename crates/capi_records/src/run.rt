@@ -18,7 +18,7 @@ use search_start::Started;
 
 // 0 and the run, or 1 to 8, 27, 31, 32, 33.
 #[repr(C)]
-#[derive(Drop)]
+#[derive(Clone, Copy)]
 pub struct StartFlat {
     pub number: u8,
     pub run: RunRecord,
@@ -26,7 +26,7 @@ pub struct StartFlat {
 
 // 0 and the candidate's number; or 0 and over; or 9, 10 or 11.
 #[repr(C)]
-#[derive(Drop)]
+#[derive(Clone, Copy)]
 pub struct NextFlat {
     pub number: u8,
     pub over: u8,
@@ -36,7 +36,7 @@ pub struct NextFlat {
 
 // 0 and the score; or 0 and the reason of a skip, 1 to 4; or 12, 10, 13 or 27.
 #[repr(C)]
-#[derive(Drop)]
+#[derive(Clone, Copy)]
 pub struct AnswerFlat {
     pub number: u8,
     pub skipped: u8,
@@ -46,7 +46,7 @@ pub struct AnswerFlat {
 
 // 0 and the winner, or 14 or 11.
 #[repr(C)]
-#[derive(Drop)]
+#[derive(Clone, Copy)]
 pub struct ResultFlat {
     pub number: u8,
     pub candidate: Candidate,
@@ -54,7 +54,7 @@ pub struct ResultFlat {
 
 // 0, the run's best where has_best is 1, and the floor where has_floor is 1; or 10.
 #[repr(C)]
-#[derive(Drop)]
+#[derive(Clone, Copy)]
 pub struct StopFlat {
     pub number: u8,
     pub has_best: u8,

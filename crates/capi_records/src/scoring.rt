@@ -6,7 +6,7 @@ use score_outcome::ErrorCount;
 
 // 0, the sum of the errors and how many there are, or 13 or 27.
 #[repr(C)]
-#[derive(Drop)]
+#[derive(Clone, Copy)]
 pub struct ErrorCountReply {
     pub number: u8,
     pub sum: f64,

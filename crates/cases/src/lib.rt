@@ -2,3 +2,5 @@
 // specs/Case.antt says what a case claims, specs/Table.antt has the rows and the theorem over all of them. Worked runs are whole lists
 // of calls, computed on the definitions of the walk and of the book, with the replies that 01 and 02 call for: specs/Whole.antt, Ended.antt,
 // Lost.antt, Few.antt, Asked.antt, OneAxis.antt.
+
+#![tactic(auto)]

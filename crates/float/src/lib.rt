@@ -1,6 +1,8 @@
 // Rust's `abs`, `is_finite`, `min`, `max`, `clamp`, `is_nan`, `to_bits` and `from_bits` on f64, each equal to a definition over the kit's IEEE 754 values.
 // `min` and `max` keep their first argument where zeros of two signs meet, which Rust leaves open.
 
+#![tactic(auto)]
+
 ghost use Rattle.std.specs.Prelude.{◌≡◌};
 ghost use Rattle.std.specs.Float.{binary64};
 ghost use Rattle.std.specs.Float.Ieee.{is_nan, nan_bits, of_bits};

@@ -1,11 +1,14 @@
 // Sine and cosine of a number of at most 0.5 in size, by eight terms of their power series: the same bits on every computer.
 // Any other argument, NaN too, is refused with 27. How near the answers are to the exact sums is `specs/Theorem.antt`.
+
+#![tactic(auto)]
+
 ghost use Rattle.std.specs.Prelude.{◌≡◌, ◌≤◌, ◌<◌};
 ghost use Rattle.float_series.specs.Series.{sines, cosines, coefficient_of, horner_of, series_of};
 ghost use Rattle.float_series.specs.Answer.{beyond_half, answer_of};
 
 // A number, or the number of a refusal.
-#[derive(Drop)]
+#[derive(Clone, Copy)]
 pub enum Sum {
     Value(f64),
     Refused(u8),

@@ -1,6 +1,8 @@
 // A reader that keeps a journal's bytes and its place in them. The functions that take the struct are thin, and proved by walks by hand; the work is
 // `journal_bytes::reading::read_line`'s.
 
+#![tactic(auto)]
+
 ghost use Rattle.std.specs.Prelude.{◌≡◌};
 ghost use Rattle.journal_line.specs.Reading.{read_line};
 ghost use Rattle.journal_reader.specs.Advance.{Advanced};
@@ -9,7 +11,7 @@ use journal_bytes::reading;
 use journal_line::Read;
 
 // A journal's bytes, and the place from which the next line is read.
-#[derive(Drop)]
+#[derive(Clone, Copy)]
 pub struct Reader<'a> {
     pub bytes: &'a [u8],
     pub at: usize,

@@ -13,7 +13,7 @@ use search_calls::next::{Handed, next};
 use search_record::run::Run;
 
 // A line that was taken, and the run after it; or one that wasn't, and the run as it was.
-#[derive(Drop)]
+#[derive(Clone, Copy)]
 pub struct Taken {
     pub ok: bool,
     pub run: Run,

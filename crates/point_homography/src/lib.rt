@@ -1,5 +1,7 @@
 // The line test, and the design matrix of the homography's direct linear transform.
 
+#![tactic(auto)]
+
 ghost use Rattle.std.specs.Prelude.{◌≡◌, ◌+◌, ◌*◌, ◌≤◌, length};
 ghost use Rattle.std.proofs.lemmas.List.Edits.{sets};
 ghost use Rattle.common.specs.Refusal.{first_refusal};
@@ -10,20 +12,20 @@ use camera_models::math::Pt2;
 use point_normalise::linalg;
 use point_normalise::linalg::Similarity;
 
-#[derive(Drop)]
+#[derive(Clone, Copy)]
 pub enum Distinct {
     Point(Pt2),
     Nothing,
 }
 
-#[derive(Drop)]
+#[derive(Clone, Copy)]
 pub enum LineTest {
     Collinear(bool),
     // 17
     Refused(u8),
 }
 
-#[derive(Drop)]
+#[derive(Clone, Copy)]
 pub enum Rows {
     Written,
     // 17, 18 or 20 to 25

@@ -11,7 +11,7 @@ use camera_models::math::Pt2;
 use point_normalise::linalg;
 
 // The least and the greatest coordinates.
-#[derive(Drop)]
+#[derive(Clone, Copy)]
 pub struct Extent {
     pub min_x: f64,
     pub min_y: f64,
@@ -19,7 +19,7 @@ pub struct Extent {
     pub max_y: f64,
 }
 
-#[derive(Drop)]
+#[derive(Clone, Copy)]
 pub enum Center {
     At(Pt2),
     // 17

@@ -12,13 +12,13 @@ use camera_tilt::{matrix, sensor};
 use point_normalise::linalg;
 
 // What becomes of the lens's distortion.
-#[derive(Drop)]
+#[derive(Clone, Copy)]
 pub enum Lens {
     Kept,
     Removed(BrownConrady5, u32),
 }
 
-#[derive(Drop)]
+#[derive(Clone, Copy)]
 pub enum Mapped {
     Done,
     Refused(u8),

@@ -1,2 +1,5 @@
 // Point sets: their normalisation.
+
+#![tactic(auto)]
+
 pub mod linalg;

@@ -7,21 +7,21 @@ ghost use Rattle.point_normalise.specs.Linalg.{centroid_of, mean_distance, scale
 use camera_models::math::Pt2;
 
 // The map of a point p to (p - c) * scale, c being (cx, cy).
-#[derive(Drop)]
+#[derive(Clone, Copy)]
 pub struct Similarity {
     pub scale: f64,
     pub cx: f64,
     pub cy: f64,
 }
 
-#[derive(Drop)]
+#[derive(Clone, Copy)]
 pub enum Normalizer {
     Found(Similarity),
     // no points, or a mean distance of at most 2^-52
     Degenerate,
 }
 
-#[derive(Drop)]
+#[derive(Clone, Copy)]
 pub enum Normalized {
     // the numbers of the similarity's matrix that are neither 0 nor 1; t11 is t00
     Transform { t00: f64, t02: f64, t12: f64 },

@@ -1,2 +1,4 @@
 // The square root that IEEE 754 asks for, as a definition over whole numbers (specs/Root.antt), and what is proved of that definition (specs/Summary.antt).
 // There is no code here.
+
+#![tactic(auto)]

@@ -3,7 +3,7 @@
 ghost use Rattle.std.specs.Prelude.{◌≡◌, ◌+◌, ◌*◌, ◌^◌, ◌<◌, ◌≤◌};
 
 // The whole part of a root, and what its square leaves over.
-#[derive(Drop)]
+#[derive(Clone, Copy)]
 pub struct SquareRoot {
     pub root: u64,
     pub remainder: u64,

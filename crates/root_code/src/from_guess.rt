@@ -65,7 +65,7 @@ pub fn nearest_root(m: u64, y: u64) -> u64
 }
 
 // A whole number near a root. It is the nearest one if `wide` is below 2^37 and `signs` below 2^63.
-#[derive(Drop)]
+#[derive(Clone, Copy)]
 pub struct Guessed {
     pub root: u64,
     pub wide: u64,

@@ -2,6 +2,9 @@
 //
 // A guess from a short fixed-point calculation is checked exactly and, if it fails, the digits are worked out one by one, so the
 // answer does not rest on the guess. Every loop has a constant number of turns.
+
+#![tactic(auto)]
+
 mod digits;
 pub mod estimate;
 pub mod from_guess;

@@ -6,13 +6,13 @@ ghost use Rattle.root_code.specs.Operand.{Bounded, Decomposed, AsNormal};
 ghost use Rattle.root_code.specs.Exponent.{shifted};
 
 // The value significand * 4^(half - 1074).
-#[derive(Drop)]
+#[derive(Clone, Copy)]
 pub struct Scaled {
     pub significand: u64,
     pub half: u64,
 }
 
-#[derive(Drop)]
+#[derive(Clone, Copy)]
 pub enum Operand {
     // The root itself: of a zero, an infinity, a NaN, a negative number.
     Known(f64),

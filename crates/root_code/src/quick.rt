@@ -11,7 +11,7 @@ use crate::from_guess::guessed_root;
 use crate::operand::as_normal;
 
 // The bits of a root, right if `wrong` is below 2^37.
-#[derive(Drop)]
+#[derive(Clone, Copy)]
 pub struct QuickRoot {
     pub bits: u64,
     pub wrong: u64,

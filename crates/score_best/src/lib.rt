@@ -1,6 +1,8 @@
 // The best of the scored candidates: the earliest with the lowest score. A run keeps it as it goes, replacing it by each better one. A score that isn't a
 // number is never the best, whatever record it stands in.
 
+#![tactic(auto)]
+
 ghost use Rattle.std.specs.Prelude.{◌≡◌};
 ghost use Rattle.score_best.specs.Best.{is_better, improved, no_best};
 ghost use Rattle.score_best.specs.Winners.{winner_of_bests};
@@ -12,7 +14,7 @@ use score_camera::pinhole::PinholeCamera;
 
 // A scored candidate: its number, counted from 0 over the run, its solved camera, its seed's tilts, its mean error and its score.
 #[repr(C)]
-#[derive(Drop)]
+#[derive(Clone, Copy)]
 pub struct Candidate {
     pub number: usize,
     pub camera: PinholeCamera,
@@ -22,7 +24,7 @@ pub struct Candidate {
 }
 
 // The best so far, if there is one. Where there is none, the candidate's numbers are 0.
-#[derive(Drop)]
+#[derive(Clone, Copy)]
 pub struct Best {
     pub found: bool,
     pub candidate: Candidate,

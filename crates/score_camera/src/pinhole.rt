@@ -9,7 +9,7 @@ use camera_models::intrinsics::FxFyCxCy;
 
 // A pinhole with its lens distortion.
 #[repr(C)]
-#[derive(Drop)]
+#[derive(Clone, Copy)]
 pub struct PinholeCamera {
     pub k: FxFyCxCy,
     pub dist: BrownConrady5,

@@ -1,5 +1,7 @@
 // The floor of the seeds that are left in a round: the lowest tilt penalty among them, below which none of them can score (specs/FloorLaws.antt).
 
+#![tactic(auto)]
+
 ghost use Rattle.std.specs.Prelude.{◌≡◌, ◌*◌, ◌≤◌, length};
 ghost use Rattle.score_floor.specs.Floor.{counted_penalty, seeds_between, floor_of};
 

@@ -1,6 +1,8 @@
 // What a finding of the host is worth: what is refused of it, and its outcome.
 // Each function equals its rule for every input.
 
+#![tactic(auto)]
+
 ghost use Rattle.std.specs.Prelude.{◌≡◌, ◌≤◌};
 ghost use Rattle.score_camera.specs.Penalties.{score_of};
 ghost use Rattle.score_outcome.specs.Evaluation.{any_above_one, trig_of, solved_refusal, finding_refusal, enough, scored_as, evaluated, outcome_of, error_count_of};
@@ -13,21 +15,21 @@ use score_camera::pinhole::{PinholeCamera, damped_camera, validate_camera};
 use score_rows::{ErrorSum, TiltTrig, mean_reproj_error, reproj_error_sum, tilt_matrix};
 
 // What the host found for a seed: the camera's nine numbers, or nothing.
-#[derive(Drop)]
+#[derive(Clone, Copy)]
 pub enum Finding {
     Failed,
     Solved(PinholeCamera),
 }
 
 // The camera that the host solved, and sine and cosine of its seed's tilts.
-#[derive(Drop)]
+#[derive(Clone, Copy)]
 pub struct SolvedCamera {
     pub camera: PinholeCamera,
     pub trig: TiltTrig,
 }
 
 // A scored finding: its damped camera, its mean error and its score.
-#[derive(Drop)]
+#[derive(Clone, Copy)]
 pub struct Scoring {
     pub camera: PinholeCamera,
     pub mean: f64,
@@ -35,14 +37,14 @@ pub struct Scoring {
 }
 
 // Skipped: 1 the host failed, 2 the camera is not valid, 3 too few rows count or the mean error is not finite, 4 the score is not a number.
-#[derive(Drop)]
+#[derive(Clone, Copy)]
 pub enum Outcome {
     Skipped(u8),
     Scored(Scoring),
 }
 
 // Sum and count of a finding's errors, or the number of its refusal.
-#[derive(Drop)]
+#[derive(Clone, Copy)]
 pub enum ErrorCount {
     Errors(ErrorSum),
     Refused(u8),

@@ -10,7 +10,7 @@ use root_code::quick::{quick_guess, quick_sqrt};
 use score_camera::pinhole::PinholeCamera;
 
 // Sum and count with some more rows, and how many these are.
-#[derive(Drop)]
+#[derive(Clone, Copy)]
 struct Part {
     total: ErrorSum,
     rows: usize,

@@ -1,5 +1,8 @@
 // The reprojection errors of the rows that the host sends, and their mean.
 // Each function equals its rule, rounded operation by operation, for every input.
+
+#![tactic(auto)]
+
 mod blocks;
 
 ghost use Rattle.std.specs.Prelude.{◌≡◌, ◌+◌, ◌*◌, ◌<◌, ◌≤◌, length};
@@ -16,7 +19,7 @@ use score_camera::pinhole::PinholeCamera;
 
 // Sine and cosine of each tilt of a seed.
 #[repr(C)]
-#[derive(Drop)]
+#[derive(Clone, Copy)]
 pub struct TiltTrig {
     pub sin_x: f64,
     pub cos_x: f64,
@@ -25,7 +28,7 @@ pub struct TiltTrig {
 }
 
 // An ideal point, the pixel where it was seen, and 1 if it lies in front of the camera, 0 if not.
-#[derive(Drop)]
+#[derive(Clone, Copy)]
 pub struct Row {
     pub ideal: Pt2,
     pub seen: Pt2,
@@ -33,7 +36,7 @@ pub struct Row {
 }
 
 // Running sum and count of reprojection errors.
-#[derive(Drop)]
+#[derive(Clone, Copy)]
 pub struct ErrorSum {
     pub sum: f64,
     pub count: u64,

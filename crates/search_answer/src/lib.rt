@@ -1,5 +1,7 @@
 // Answer takes the host's finding for the waiting seed: it refuses, or works out the outcome and enters it.
 
+#![tactic(auto)]
+
 ghost use Rattle.std.specs.Prelude.{◌≡◌, true, ◌-◌, ◌≤◌, length};
 ghost use Rattle.seed_rules.specs.Layout.{Leaves, six};
 ghost use Rattle.seed_rules.specs.Rules.{offsets, y_offsets, next_list};
@@ -13,14 +15,14 @@ use score_outcome::{Finding, Outcome};
 use search_record::run::{Options, Run, ended, entered, is_sound, next_step, opened};
 use seed_grids::local_seed_grid;
 
-#[derive(Drop)]
+#[derive(Clone, Copy)]
 pub enum Answered {
     Scored(f64),
     Skipped(u8),
     Refused(u8),
 }
 
-#[derive(Drop)]
+#[derive(Clone, Copy)]
 pub struct AnswerReply {
     pub reply: Answered,
     pub run: Run,

@@ -6,7 +6,7 @@ ghost use Rattle.search_calls.specs.Last.{has_line, recorded_in, last_def};
 use journal_line::{Line, Recorded};
 use search_record::run::{LastAnswer, Run, is_sound};
 
-#[derive(Drop)]
+#[derive(Clone, Copy)]
 pub enum LastLine {
     Answered(Line),
     Nothing,

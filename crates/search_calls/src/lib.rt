@@ -1,4 +1,7 @@
 // The calls that change no list: Next with the seed call beside it, Result, the progress call, the stop call, the last answered line, and the counts.
+
+#![tactic(auto)]
+
 pub mod counts;
 pub mod last;
 pub mod next;

@@ -6,14 +6,14 @@ ghost use Rattle.search_calls.specs.Next.{next_refusal, reply_by, next_def, seed
 use search_record::run::{Run, awaiting, is_sound};
 
 // Next's reply: the candidate's number; Over (01's term: the run is over and has a result); or a refusal's number.
-#[derive(Drop)]
+#[derive(Clone, Copy)]
 pub enum Handed {
     Candidate(usize),
     Over,
     Refused(u8),
 }
 
-#[derive(Drop)]
+#[derive(Clone, Copy)]
 pub struct NextReply {
     pub reply: Handed,
     pub run: Run,

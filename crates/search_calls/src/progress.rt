@@ -7,7 +7,7 @@ use search_record::run::{Run, is_sound};
 
 // The round and the rounds that are asked for after round 0; of this round's list the answered seeds and all of them; and the answered ones over the run.
 #[repr(C)]
-#[derive(Drop)]
+#[derive(Clone, Copy)]
 pub struct ProgressReply {
     pub round: usize,
     pub rounds: usize,

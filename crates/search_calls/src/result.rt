@@ -6,7 +6,7 @@ ghost use Rattle.search_calls.specs.Result.{result_refusal, result_def};
 use score_best::Candidate;
 use search_record::run::{Run, is_sound};
 
-#[derive(Drop)]
+#[derive(Clone, Copy)]
 pub enum Resulted {
     Result(Candidate),
     Refused(u8),

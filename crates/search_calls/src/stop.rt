@@ -9,7 +9,7 @@ use score_floor::{counted_penalty, floor_between};
 use search_record::run::{Run, is_sound};
 
 // The run's best, if found; the floor of the seeds left, where there are any; and whether this round can gain nothing.
-#[derive(Drop)]
+#[derive(Clone, Copy)]
 pub struct Outlook {
     pub best: Best,
     pub has_floor: bool,
@@ -17,7 +17,7 @@ pub struct Outlook {
     pub no_gain: bool,
 }
 
-#[derive(Drop)]
+#[derive(Clone, Copy)]
 pub enum Stopped {
     Standing(Outlook),
     Refused(u8),

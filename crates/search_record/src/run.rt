@@ -16,7 +16,7 @@ use seed_rules::CandidateSeed;
 
 // What the search was asked for. The first three are the Rust's options, by their names. A run about one axis has no tilt about y. `min_counted` is the
 // share of an answer's rows, in per cent, that a mean has to rest on.
-#[derive(Drop)]
+#[derive(Clone, Copy)]
 pub struct Options {
     pub refine_rounds: usize,
     pub refine_step: f64,
@@ -28,7 +28,7 @@ pub struct Options {
 // How far the run has come. `demand` is how many numbers the lent list must have. `step` is the one that the current list was made with,
 // 0 in round 0. Of the list's `len` seeds the first `at` are answered. `number` is the next candidate's, counted over the run.
 // `round` is 01's, from 0; `over` says that the run is over, with a result or with 11.
-#[derive(Drop)]
+#[derive(Clone, Copy)]
 pub struct Place {
     pub demand: usize,
     pub round: usize,
@@ -40,7 +40,7 @@ pub struct Place {
 }
 
 // The seed that waits (01's term): handed out and not answered yet. Its numbers are 0 where there is none.
-#[derive(Drop)]
+#[derive(Clone, Copy)]
 pub struct Waiting {
     pub is_waiting: bool,
     pub seed: CandidateSeed,
@@ -48,7 +48,7 @@ pub struct Waiting {
 
 // The last answered candidate, as a journal's line records it: `skipped` is 0 where it was scored, else the reason, and then `scored` is 0.
 // Nothing is found before the first answer.
-#[derive(Drop)]
+#[derive(Clone, Copy)]
 pub struct LastAnswer {
     pub found: bool,
     pub number: usize,
@@ -59,7 +59,7 @@ pub struct LastAnswer {
 }
 
 // The run's record (01's term), which each call takes, and which Start, Next and Answer return.
-#[derive(Drop)]
+#[derive(Clone, Copy)]
 pub struct Run {
     pub options: Options,
     pub center: Pt2,

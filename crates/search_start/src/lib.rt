@@ -1,5 +1,7 @@
 // Start opens a run: it refuses bad options, and writes round 0's list to the front of the lent list.
 
+#![tactic(auto)]
+
 ghost use Rattle.std.specs.Prelude.{◌≡◌, ◌/◌, ◌≤◌};
 ghost use Rattle.common.specs.Refusal.{first_refusal};
 ghost use Rattle.common.specs.Each.{every};
@@ -14,7 +16,7 @@ use search_record::counts::no_counts;
 use search_record::run::{Options, Place, Run, no_answer, nobody};
 use seed_rules::CandidateSeed;
 
-#[derive(Drop)]
+#[derive(Clone, Copy)]
 pub enum Started {
     Accepted(Run),
     Refused(u8),

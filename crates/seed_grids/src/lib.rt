@@ -1,6 +1,8 @@
 // Round 0's list of seeds and a later round's.
 // Each function equals its rule, for the reply and every number of the list.
 
+#![tactic(auto)]
+
 ghost use Rattle.std.specs.Prelude.{map, ◌+◌, ◌*◌, ◌/◌, ◌≤◌, length};
 ghost use Rattle.seed_rules.specs.Layout.{six, seeds_of, all_seeds, Leaves, two, tilts_of};
 ghost use Rattle.seed_rules.specs.Merge.{keep, merged_into, merged};

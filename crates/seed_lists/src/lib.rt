@@ -1,5 +1,8 @@
 // Seeds and tilts in a lent list of numbers, and merging: one that lies near a kept one is not kept.
 // Each function equals its rule, for the reply and every number of the list.
+
+#![tactic(auto)]
+
 pub mod checks;
 
 ghost use Rattle.std.specs.Prelude.{◌≡◌, ◌∷◌, [], ◌+◌, ◌*◌, ◌≤◌, length};

@@ -1,6 +1,8 @@
 // Zhang's closed form: a camera from the conic that a plate's homographies determine.
 // The reply equals a definition that reads like the appendix of Zhang's paper, for every six numbers.
 
+#![tactic(auto)]
+
 ghost use Rattle.std.specs.Prelude.{◌≡◌};
 ghost use Rattle.zhang.specs.Zhang as zhang;
 ghost use Rattle.zhang.specs.Zhang.{camera_of, from_homographies};
@@ -9,7 +11,7 @@ use camera_models::intrinsics::FxFyCxCy;
 
 // The conic B = μ K⁻ᵀ K⁻¹, a symmetric matrix known up to its scale μ, in the order in which the linear solve gives its numbers.
 #[repr(C)]
-#[derive(Drop)]
+#[derive(Clone, Copy)]
 pub struct Conic {
     pub b11: f64,
     pub b12: f64,
@@ -19,7 +21,7 @@ pub struct Conic {
     pub b33: f64,
 }
 
-#[derive(Drop)]
+#[derive(Clone, Copy)]
 pub enum Estimated {
     Camera(FxFyCxCy),
     // 16: no camera has this conic

@@ -1,13 +1,15 @@
 // A plate with a known answer: the six numbers of a conic from which the closed form gives a chosen camera back, or 34.
 // Each function equals its definition, for every input; specs/Theorem.antt has that the camera comes back.
 
+#![tactic(auto)]
+
 ghost use Rattle.std.specs.Prelude.{◌≡◌, ◌≤◌};
 ghost use Rattle.zhang_plate.specs.Plate.{times_unit, shared_unit, conic_with, plate_of};
 
 use camera_models::intrinsics::FxFyCxCy;
 use zhang::Conic;
 
-#[derive(Drop)]
+#[derive(Clone, Copy)]
 pub enum Plate {
     Numbers(Conic),
     // 34: no shared power of two puts the four numbers in their ranges
