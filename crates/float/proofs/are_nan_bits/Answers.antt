@@ -2,11 +2,7 @@
 use mathlib.Core.Path.{sym}
 use lib.Ieee.{binary64}
 use lib.Ieee.Bits.{nan_bits_above}
-use Rattle.float.proofs.are_nan_bits.Statement.{statement}
-use Rattle.float.proofs.are_nan_bits.Tie as tie
+use Rattle.float.proofs.are_nan_bits.Goals as goal
 
-returns : tie.Need-returns
+pub returns : goal.returns
 returns c = sym (nan_bits_above binary64 c.args.bits)
-
-pub are_nan_bits_spec : {M : Type 1} → statement M
-are_nan_bits_spec = tie.close (tie.spec returns)
