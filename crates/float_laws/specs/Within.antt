@@ -44,6 +44,10 @@ rounds_within k x y z r p h m b =
 pub add_within : {k l : ℕ} {x y : Float} {X Y : Fraction} → Within (2 ^ 53) k x X → Within (2 ^ 53) l y Y → Small (X ⊕ Y) → k + l ≤ 2 ^ 40 → Within (2 ^ 53) (1 + (k + l)) (add binary64 x y) (X ⊕ Y)
 add_within {k} {l} {x = fin s m e} {y = fin t n d} {X} {Y} (within g) (within h) u b =
     rounds_within (k + l) (add binary64 (fin s m e) (fin t n d)) (value s m e ⊕ value t n d) (X ⊕ Y) (add_rounds s t m n e d) (mul-pos (down_pos e) (down_pos d)) (near_add g h) u b
+add_within {k = k} {l = l} {x = lib.Ieee.nan} {y = y} {X = X} {Y = Y} x5 _ u b = elim x5 [ ]
+add_within {k = k} {l = l} {x = lib.Ieee.inf _} {y = y} {X = X} {Y = Y} x7 _ u b = elim x7 [ ]
+add_within {k = k} {l = l} {x = fin s m e} {y = lib.Ieee.nan} {X = X} {Y = Y} _ x12 u b = elim x12 [ ]
+add_within {k = k} {l = l} {x = fin s m e} {y = lib.Ieee.inf _} {X = X} {Y = Y} _ x14 u b = elim x14 [ ]
 
 module _ (k l i : ℕ) (s t : Bool) (m n : ℕ) (e d : ℤ) (X Y : Fraction) where
   -- the first factor's error k counts as i, which is k times the second factor, and the second one's error counts at most twice
@@ -58,3 +62,7 @@ module _ (k l i : ℕ) (s t : Bool) (m n : ℕ) (e d : ℤ) (X Y : Fraction) whe
 pub mul_within : {k l : ℕ} (i : ℕ) {x y : Float} {X Y : Fraction} → Within (2 ^ 53) k x X → Within (2 ^ 53) l y Y → Small X → Small (X ⊗ Y) → 0 < Y.den → k * size Y ≤ i * Y.den → k ≤ 2 ^ 40 → 2 * l + i ≤ 2 ^ 40 → Within (2 ^ 53) (1 + (2 * l + i)) (mul binary64 x y) (X ⊗ Y)
 mul_within {k} {l} i {x = fin s m e} {y = fin t n d} {X} {Y} (within g) (within h) u o p a q r =
     rounds_within (2 * l + i) (mul binary64 (fin s m e) (fin t n d)) (value s m e ⊗ value t n d) (X ⊗ Y) (mul_rounds s t m n e d) (mul-pos (down_pos e) (down_pos d)) (mul_near k l i s t m n e d X Y g h u p a q) o r
+mul_within {k = k} {l = l} i {x = lib.Ieee.nan} {y = y} {X = X} {Y = Y} x9 _ u o p a q r = elim x9 [ ]
+mul_within {k = k} {l = l} i {x = lib.Ieee.inf _} {y = y} {X = X} {Y = Y} x11 _ u o p a q r = elim x11 [ ]
+mul_within {k = k} {l = l} i {x = fin s m e} {y = lib.Ieee.nan} {X = X} {Y = Y} _ x20 u o p a q r = elim x20 [ ]
+mul_within {k = k} {l = l} i {x = fin s m e} {y = lib.Ieee.inf _} {X = X} {Y = Y} _ x22 u o p a q r = elim x22 [ ]

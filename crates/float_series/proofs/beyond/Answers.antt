@@ -6,8 +6,7 @@ use Rattle.float.specs.Float.{abs_of}
 use Rattle.float.specs.Order.{ne_self}
 use Rattle.float.specs.Literals.{half₆₄}
 use Rattle.float_series.specs.Answer.{beyond_half}
-use Rattle.float_series.proofs.beyond.Statement.{statement}
-use Rattle.float_series.proofs.beyond.Tie as tie
+use Rattle.float_series.proofs.beyond.Goals as goal
 
 outside : (x : Float) → ((is_nan x || lt x (neg half₆₄)) || lt half₆₄ x) ≡ beyond_half x
 unfolding beyond_half is_nan lt abs_of neg of_bits
@@ -17,8 +16,5 @@ outside (inf false) = refl
 outside (fin true m e) = or-false _
 outside (fin false m e) = refl
 
-returns : tie.Need-returns
+pub returns : goal.returns
 returns c = rw (ne_self c.args.x) (outside c.args.x)
-
-pub beyond_spec : {M : Type 1} → statement M
-beyond_spec = tie.close (tie.spec returns)

@@ -1,12 +1,8 @@
 -- `camera_models::distortion::brown_conrady_terms` meets its contract: the code computes the formulas. Assumes nothing.
 use mathlib.Core.Path.{refl}
 use Rattle.camera_models.specs.Distortion.{radial_factor, tangential_x, tangential_y}
-use Rattle.camera_models.proofs.distortion.brown_conrady_terms.Statement.{statement}
-use Rattle.camera_models.proofs.distortion.brown_conrady_terms.Tie as tie
+use Rattle.camera_models.proofs.distortion.brown_conrady_terms.Goals as goal
 
-returns : tie.Need-returns
+pub returns : goal.returns
 unfolding radial_factor tangential_x tangential_y
 returns c = refl
-
-pub brown_conrady_terms_spec : {M : Type 1} → statement M
-brown_conrady_terms_spec = tie.close (tie.spec returns)
