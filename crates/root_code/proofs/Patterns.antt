@@ -6,7 +6,7 @@ use lib.Ieee.{Float, nan, inf, odd, ne, neg, of_fields, of_bits, to_bits, binary
 use lib.Ieee.Exact.{odd_sign}
 use lib.Ieee.Bits.{is_true, is_false, cond_no}
 use Rattle.float.specs.Order.{ne_self}
-use Rattle.float.specs.Nan.{is_nan}
+use Rattle.float.specs.Nan.{is_nan_lem}
 use Rattle.root.specs.Root.{root_of, root}
 use Rattle.root.specs.ByValue.{root_value, root_below}
 
@@ -14,7 +14,7 @@ use Rattle.root.specs.ByValue.{root_value, root_below}
 
 pub at_nan : (x : Float) → ne x x ≡ true → root binary64 x ≡ nan
 unfolding root
-at_nan x t = rw (is_nan x (sym (ne_self x) ∙ t))
+at_nan x t = rw (is_nan_lem x (sym (ne_self x) ∙ t))
 
 pub at_zero : (x : Float) → of_bits binary64 (to_bits binary64 x) ≡ x → to_bits binary64 x ≡ 0 → of_bits binary64 0 ≡ root binary64 x
 unfolding root of_bits

@@ -1,0 +1,10 @@
+-- `root_code::digits::extend_by_digits` meets its contract. Assumes nothing.
+use Rattle.std.proofs.Common.{◌≡◌, ◌+◌, ◌-◌, ◌*◌, ◌^◌, ◌≤◌, ap, arith, rules}
+use Rattle.root_code.proofs.Steps.{small_2, four_times, square}
+use Rattle.root_code.proofs.digits.extend_by_digits.Given as goal
+
+abbrev pub invariant-loop-i : goal.invariant-loop-i
+invariant-loop-i l = (l.i ≤ 26) × (l.p.root * l.p.root + l.p.remainder ≡ (l.initial.p.root * l.initial.p.root + l.initial.p.remainder) * 4 ^ l.i) × (l.p.remainder ≤ 2 * l.p.root)
+
+abbrev pub decreases-loop-i : goal.decreases-loop-i
+decreases-loop-i l = 26 - l.i

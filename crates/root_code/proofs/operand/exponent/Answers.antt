@@ -1,0 +1,23 @@
+-- `root_code::operand::exponent` meets its contract. Assumes nothing.
+use Rattle.std.proofs.Common.{◌≡◌, ℕ, ◌+◌, ◌-◌, ◌^◌, ℤ, pos, ◌-ℤ◌, ap, ◌∙◌, arith, to_z-of_z, w64, SFits, to_z, rules}
+use lib.IntN.{sub_ℕ}
+use mir.Facts.{to_z_pos}
+use Rattle.root_code.specs.Exponent.{shifted}
+use Rattle.root_code.proofs.Exponents.{shifted_difference, mag_difference}
+use Rattle.root_code.proofs.operand.exponent.Goals as goal
+
+difference : (c : goal.Start) → to_z w64 c.args.place -ℤ pos 1127 ≡ sub_ℕ c.args.place 1127
+difference c = ap (λ (z : ℤ). z -ℤ pos 1127) (to_z_pos w64 {n = c.args.place} (omega arith))
+
+fit : (c : goal.Start) → SFits w64 (to_z w64 c.args.place -ℤ pos 1127)
+fit c = rw (difference c) (record { sfits = mag_difference c.args.place 1127 (2 ^ 63) (omega arith) (omega arith) })
+
+pub overflow_sub-result : goal.overflow_sub-result
+overflow_sub-result c = fit c
+
+pub returns : goal.returns
+returns c =
+    ap shifted (to_z-of_z (fit c) ∙ difference c) ∙ shifted_difference c.args.place 1127 (omega arith) ∙ rest c.args.place
+  where
+    rest : (n : ℕ) → n + 2148 - 1127 ≡ n + 1021
+    rest n = omega arith

@@ -1,0 +1,22 @@
+-- `root_code::operand::normal` meets its contract. Assumes nothing.
+use Rattle.std.proofs.Common.{◌≡◌, ℕ, ◌+◌, ◌*◌, ◌/◌, ◌%◌, ◌^◌, sym, ap, ◌∙◌, arith, w64, to_z, of_z, rules}
+use lib.Ieee.{binary64}
+use Rattle.root.specs.Root.{root_of}
+use Rattle.root_code.specs.Exponent.{shifted}
+use Rattle.root_code.proofs.Exponents.{read}
+use Rattle.root_code.proofs.Patterns.{root_mid}
+use Rattle.root_code.proofs.operand.normal.Goals as goal
+
+pub with_even_exponent-requires : goal.with_even_exponent-requires
+with_even_exponent-requires c = rw (read c.exponent.result _ c.exponent.type_inv c.exponent.ensures) (omega arith, omega arith, omega arith, omega arith)
+
+pub returns : goal.returns
+returns c =
+    let b = c.args.b in
+    let w = c.with_even_exponent in
+    let r = c.exponent in
+    let same : shifted (to_z w64 (of_z w64 r.result)) ≡ b / 2 ^ 52 + 1073 = read r.result _ r.type_inv (r.ensures ∙ place (b / 2 ^ 52)) in
+    (w.ensures.0, ap (root_of binary64) (w.ensures.1 ∙ ap (λ (g : ℕ). (b % 2 ^ 52 + 2 ^ 52) * 2 ^ g) same) ∙ sym (root_mid b c.requires.0 c.requires.1))
+  where
+    place : (f : ℕ) → f + 52 + 1021 ≡ f + 1073
+    place f = omega arith

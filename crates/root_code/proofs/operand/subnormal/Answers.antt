@@ -1,0 +1,42 @@
+-- `root_code::operand::subnormal` meets its contract. Assumes nothing.
+-- the leading digit
+use Rattle.std.proofs.Common.{◌≡◌, ℕ, ◌+◌, ◌-◌, ◌*◌, ◌%◌, ◌^◌, ◌≤◌, ap, ◌∙◌, arith, w64, to_z, of_z, rules}
+use lib.Count.{count_leading_zeros}
+use lib.Ieee.{binary64}
+use Rattle.root.specs.Root.{root_of}
+use Rattle.root_code.specs.Exponent.{shifted}
+use Rattle.root_code.proofs.Exponents.{read}
+use Rattle.root_code.proofs.Patterns.{root_moved, lz-in, moved_is, moved_lo, moved_hi}
+use Rattle.root_code.proofs.operand.subnormal.Goals as goal
+
+digit : (c : goal.Start) → (12 ≤ count_leading_zeros 64 c.args.b) × (count_leading_zeros 64 c.args.b ≤ 63)
+digit c = lz-in c.args.b c.requires.0 c.requires.1
+
+pub overflow_sub-z : goal.overflow_sub-z
+overflow_sub-z c = omega (arith, digit c)
+
+pub overflow_cast-z : goal.overflow_cast-z
+overflow_cast-z c = omega (arith, digit c)
+
+pub overflow_shl-b : goal.overflow_shl-b
+overflow_shl-b c = omega (arith, digit c)
+
+pub overflow_sub-z-2 : goal.overflow_sub-z-2
+overflow_sub-z-2 c = omega (arith, digit c)
+
+pub with_even_exponent-requires : goal.with_even_exponent-requires
+with_even_exponent-requires c =
+    let b = c.args.b in
+    rw (read c.exponent.result _ c.exponent.type_inv c.exponent.ensures, moved_is b c.requires.0 c.requires.1)
+    (moved_lo b c.requires.0 c.requires.1, moved_hi b c.requires.0 c.requires.1, omega (arith, digit c.before), omega (arith, digit c.before))
+
+pub returns : goal.returns
+returns c =
+    let b = c.args.b in
+    let w = c.with_even_exponent in
+    let r = c.exponent in
+    let same : shifted (to_z w64 (of_z w64 r.result)) ≡ 1074 - (count_leading_zeros 64 b - 11) = read r.result _ r.type_inv (r.ensures ∙ place (count_leading_zeros 64 b - 11) (omega (arith, digit c.before.before))) in
+    (w.ensures.0, ap (root_of binary64) (w.ensures.1 ∙ ap (λ (g : ℕ). b * 2 ^ (count_leading_zeros 64 b - 11) % 2 ^ 64 * 2 ^ g) same) ∙ root_moved b c.requires.0 c.requires.1)
+  where
+    place : (z : ℕ) → z ≤ 53 → 53 - z + 1021 ≡ 1074 - z
+    place z h = omega arith

@@ -1,0 +1,17 @@
+-- `root_code::quick::bits_of` meets its contract. Assumes nothing.
+-- the bits of a number above 0 are its own, and those of 0 are 0
+use Rattle.std.proofs.Common.{◌≡◌, ◌<◌, Bool, true, false, cond, T, sym, refl, ap, ◌∙◌, subst, arith, rules}
+use lib.Ieee.{Float, binary64, of_bits, to_bits, lt, fits}
+use lib.Ieee.Bits.{of_bits-to_bits}
+use Rattle.root_code.proofs.quick.bits_of.Goals as goal
+
+zero_bits : to_bits binary64 (of_bits binary64 0) ≡ 0
+unfolding to_bits of_bits
+zero_bits = refl
+
+own_bits : (x r : Float) (above : Bool) → r ≡ cond above x (of_bits binary64 0) → T (fits binary64 x) → 0 < to_bits binary64 r → of_bits binary64 (to_bits binary64 r) ≡ x
+own_bits x r true e k h = ap (λ (y : Float). of_bits binary64 (to_bits binary64 y)) e ∙ of_bits-to_bits binary64 x k
+own_bits x r false e k h = absurd (omega (arith, h, ap (to_bits binary64) e ∙ zero_bits))
+
+pub returns : goal.returns
+returns c = own_bits c.args.x c.larger.result (lt (of_bits binary64 0) c.args.x) c.larger.ensures.0 (subst T (sym c.well_formed.0.1) tt)

@@ -1,0 +1,19 @@
+-- `root_code::quick::larger` meets its contract. Assumes nothing.
+-- what lies above something is a number
+use Rattle.std.proofs.Common.{◌≡◌, true, not, T, sym, true≢false, rules}
+use lib.Ieee.{Float, nan, inf, fin, lt, is_nan}
+use Rattle.root_code.proofs.quick.larger.Goals as goal
+
+above : (y x : Float) → lt y x ≡ true → T (not (is_nan x))
+unfolding lt is_nan
+above nan nan h = absurd (true≢false (sym h))
+above (inf s) nan h = absurd (true≢false (sym h))
+above (fin s m e) nan h = absurd (true≢false (sym h))
+above y (inf s) h = tt
+above y (fin s m e) h = tt
+
+pub returns-then-x-y : goal.returns-then-x-y
+returns-then-x-y c = (rw c.if-x-y.true, above c.args.y c.args.x c.if-x-y.true)
+
+pub returns : goal.returns
+returns c = (rw c.if-x-y.false, search rules)

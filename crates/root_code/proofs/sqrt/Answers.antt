@@ -1,0 +1,15 @@
+-- `root_code::sqrt` meets its contract. Assumes nothing.
+use Rattle.std.proofs.Common.{◌∙◌, subst, rules}
+use Rattle.root_code.specs.Operand.{Decomposed}
+use Rattle.root_code.proofs.sqrt.Goals as goal
+
+pub estimated-requires : goal.estimated-requires
+estimated-requires c = (subst (Decomposed c.args.x) c.s-1.given.1 c.decompose.ensures).0
+
+pub returns-in-Known : goal.returns-in-Known
+returns-in-Known c = subst (Decomposed c.args.x) c.r-1.given.1 c.decompose.ensures
+
+pub returns-in-Positive : goal.returns-in-Positive
+returns-in-Positive c =
+    let d = subst (Decomposed c.args.x) c.s-1.given.1 c.decompose.ensures in
+    c.estimated.ensures ∙ d.1
