@@ -5,17 +5,17 @@ use Rattle.root_code.proofs.Rounds.{Answer, answer}
 use Rattle.root_code.specs.Bits.{no_nan}
 use Rattle.root_code.proofs.rounded.Goals as goal
 
-made : (c : goal.After-nearest_root-q) → Answer c.args.s.significand c.args.s.half ((c.args.s.half - 26) * 2 ^ 52 + c.nearest_root-q.result)
+made : (c : goal.After-struct_known-1) → Answer c.args.s.significand c.args.s.half ((c.args.s.half - 26) * 2 ^ 52 + c.nearest_root-q.result)
 made c =
     let s = c.args.s in
     let b = c.requires.0 in
     answer s.significand s.half c.nearest_root-q.result b.least b.most (omega arith) b.half_most c.nearest_root-q.ensures
 
 pub overflow_add-result : goal.overflow_add-result
-overflow_add-result c = omega (arith, (made c.before).0)
+overflow_add-result c = omega (arith, (made c).0)
 
 pub float_from_bits-result : goal.float_from_bits-result
-float_from_bits-result c = no_nan _ (made c.before).0
+float_from_bits-result c = no_nan _ (made c).0
 
 pub returns : goal.returns
-returns c = (made c.before).1
+returns c = (made c).1

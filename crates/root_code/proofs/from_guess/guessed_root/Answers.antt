@@ -47,5 +47,5 @@ returns c =
       λ wide signs.
           let p = both_below a.result d.result (2 ^ 37) wide in
           let q = both_below t.result w.result (2 ^ 63) signs in
-          right c.args.m h.result l.result a.result d.result t.result v.result w.result c.requires.0 h.ensures l.ensures v.type_inv a.ensures d.ensures t.ensures p.0 p.1 v.ensures w.ensures q.0 q.1,
+          right c.args.m h.result l.result a.result d.result t.result v.result w.result c.requires.0 h.ensures l.ensures v.type_inv a.ensures.value d.ensures.value t.ensures.value p.0 p.1 v.ensures.value w.ensures.value q.0 q.1,
     )

@@ -1,18 +1,18 @@
 -- `root_code::operand::decompose` meets its contract. Assumes nothing.
 -- the argument is what its bits say
-use Rattle.std.proofs.Common.{◌≡◌, T, sym, ap, ◌∙◌, subst, arith, rules}
-use lib.Ieee.{fits, of_bits, to_bits, binary64}
+use Rattle.std.proofs.Common.{◌≡◌, true, T, sym, ap, ◌∙◌, subst, arith, rules}
+use lib.Ieee.{Float, fits, of_bits, to_bits, binary64}
 use lib.Ieee.Bits.{of_bits-to_bits, to_bits-lt}
 use Rattle.float.specs.Nan.{not_nan}
 use Rattle.root.specs.Root.{root}
 use Rattle.root_code.proofs.Patterns.{at_nan, at_zero, at_minus_zero, root_top, root_neg}
 use Rattle.root_code.proofs.operand.decompose.Goals as goal
 
-held : (c : goal.Start) → T (fits binary64 c.args.x)
-held c = subst T (sym c.well_formed.0.1) tt
+held : (x : Float) → fits binary64 x ≡ true → T (fits binary64 x)
+held x e = subst T (sym e) tt
 
-back : (c : goal.Start) → of_bits binary64 (to_bits binary64 c.args.x) ≡ c.args.x
-back c = of_bits-to_bits binary64 c.args.x (held c)
+back : (x : Float) → fits binary64 x ≡ true → of_bits binary64 (to_bits binary64 x) ≡ x
+back x e = of_bits-to_bits binary64 x (held x e)
 
 pub returns-then-x : goal.returns-then-x
 returns-then-x c = c.no_root.ensures ∙ sym (at_nan c.args.x c.if-x.true)
@@ -21,23 +21,23 @@ pub float_to_bits-b : goal.float_to_bits-b
 float_to_bits-b c = not_nan c.args.x c.if-x.false
 
 pub returns-then-b-eq0 : goal.returns-then-b-eq0
-returns-then-b-eq0 c = at_zero c.args.x (back c.before.before) c.if-b-eq0.true
+returns-then-b-eq0 c = at_zero c.args.x (back c.args.x c.well_formed.0.1) c.if-b-eq0.true
 
 pub returns-then-b-lt4503599627370496 : goal.returns-then-b-lt4503599627370496
 returns-then-b-lt4503599627370496 c =
     let w = c.subnormal.ensures in
-    (w.0, w.1 ∙ ap (root binary64) (back c.before.before.before.before))
+    (w.0, w.1 ∙ ap (root binary64) (back c.args.x c.well_formed.0.1))
 
 pub returns-then-b-lt9218868437227405312 : goal.returns-then-b-lt9218868437227405312
 returns-then-b-lt9218868437227405312 c =
     let w = c.normal.ensures in
-    (w.0, w.1 ∙ ap (root binary64) (back c.before.before.before.before.before))
+    (w.0, w.1 ∙ ap (root binary64) (back c.args.x c.well_formed.0.1))
 
 pub returns-then-b-lt9223372036854775808 : goal.returns-then-b-lt9223372036854775808
-returns-then-b-lt9223372036854775808 c = sym (back c.before.before.before.before.before) ∙ sym (root_top (to_bits binary64 c.args.x) (omega arith) (omega arith)) ∙ ap (root binary64) (back c.before.before.before.before.before)
+returns-then-b-lt9223372036854775808 c = sym (back c.args.x c.well_formed.0.1) ∙ sym (root_top (to_bits binary64 c.args.x) (omega arith) (omega arith)) ∙ ap (root binary64) (back c.args.x c.well_formed.0.1)
 
 pub returns-then-b : goal.returns-then-b
-returns-then-b c = at_minus_zero c.args.x (back c.before.before.before.before.before.before) c.if-b.true
+returns-then-b c = at_minus_zero c.args.x (back c.args.x c.well_formed.0.1) c.if-b.true
 
 pub returns : goal.returns
-returns c = c.no_root-2.ensures ∙ sym (root_neg (to_bits binary64 c.args.x) (omega arith) (to_bits-lt binary64 c.args.x (held c.before.before.before.before.before.before.before))) ∙ ap (root binary64) (back c.before.before.before.before.before.before.before)
+returns c = c.no_root-2.ensures ∙ sym (root_neg (to_bits binary64 c.args.x) (omega arith) (to_bits-lt binary64 c.args.x (held c.args.x c.well_formed.0.1))) ∙ ap (root binary64) (back c.args.x c.well_formed.0.1)

@@ -39,4 +39,4 @@ returns c =
     let s = c.as_normal-s in
     let b = c.bits_of-b in
     let a = c.args in
-    quick a.x b.result u.result v.result q.result.wide q.result.signs q.result.root s.result b.ensures b.type_inv u.ensures v.ensures s.ensures q.ensures.1
+    quick a.x b.result u.result v.result q.result.wide q.result.signs q.result.root s.result b.ensures b.type_inv u.ensures.value v.ensures.value s.ensures q.ensures.1
