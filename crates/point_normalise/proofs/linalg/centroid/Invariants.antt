@@ -1,0 +1,16 @@
+-- `point_normalise::linalg::centroid` meets its contract. The loop's invariant: the sum from here is the whole sum. Assumes nothing.
+use borrow.Author.Rules.{rules}
+use mathlib.Core.Path.{◌≡◌, refl, sym, ◌∙◌}
+use Prim.Native.Nat.{◌≤◌, ◌-◌}
+use lib.ListN.{length, drop}
+use Rattle.float.specs.Literals.{plus_zero}
+use Rattle.point_normalise.specs.Points.{fold_points}
+use Rattle.point_normalise.specs.Linalg.{add_point, centroid_of}
+use Rattle.point_normalise.specs.Walk.{fold_next, fold_end, count_fits}
+use Rattle.point_normalise.proofs.linalg.centroid.Given as goal
+
+abbrev pub invariant-loop-i : goal.invariant-loop-i
+invariant-loop-i l = (l.i ≤ length l.points) × (fold_points add_point (record { x = l.cx; y = l.cy }) (drop l.i l.points) ≡ fold_points add_point (record { x = plus_zero; y = plus_zero }) l.points)
+
+abbrev pub decreases-loop-i : goal.decreases-loop-i
+decreases-loop-i l = length l.points - l.i

@@ -1,0 +1,16 @@
+-- `point_normalise::linalg::mean_distance` meets its contract. The loop's invariant: the sum from here is the whole sum. Assumes nothing.
+use borrow.Author.Rules.{rules}
+use mathlib.Core.Path.{◌≡◌, refl, sym, ◌∙◌}
+use Prim.Native.Nat.{◌≤◌, ◌-◌}
+use lib.ListN.{length, drop}
+use Rattle.float.specs.Literals.{plus_zero}
+use Rattle.point_normalise.specs.Points.{fold_points}
+use Rattle.point_normalise.specs.Linalg.{add_distance, mean_distance}
+use Rattle.point_normalise.specs.Walk.{fold_next, fold_end, count_fits}
+use Rattle.point_normalise.proofs.linalg.mean_distance.Given as goal
+
+abbrev pub invariant-loop-i : goal.invariant-loop-i
+invariant-loop-i l = (l.i ≤ length l.points) × (fold_points (add_distance l.c) l.mean_dist (drop l.i l.points) ≡ fold_points (add_distance l.c) plus_zero l.points)
+
+abbrev pub decreases-loop-i : goal.decreases-loop-i
+decreases-loop-i l = length l.points - l.i
