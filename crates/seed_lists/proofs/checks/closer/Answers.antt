@@ -1,4 +1,5 @@
 -- `seed_lists::checks::closer` meets its contract: the magnitude of the difference is below the limit where the difference and its negative are. Assumes nothing.
+-- what a number is below, its negative is below too, where the number is not negative
 use mathlib.Core.Path.{◌≡◌, refl, sym, ◌∙◌}
 use mathlib.Core.Bool.{Bool, true, false, true≢false}
 use Prim.Native.Nat.{ℕ, ◌+◌, ◌*◌}
@@ -9,10 +10,8 @@ use lib.Ieee.{Float, nan, inf, fin, up, down, lt, neg}
 use Rattle.float.specs.Float.{abs_of}
 use Rattle.float.specs.Binary64.{◌-₆₄◌}
 use Rattle.seed_rules.specs.Rules.{closer}
-use Rattle.seed_lists.proofs.checks.closer.Statement.{statement}
-use Rattle.seed_lists.proofs.checks.closer.Tie as tie
+use Rattle.seed_lists.proofs.checks.closer.Goals as goal
 
--- what a number is below, its negative is below too, where the number is not negative
 below_too : (m : ℕ) (e : ℤ) (l : Float) → lt (fin false m e) l ≡ true → lt (fin true m e) l ≡ true
 unfolding lt
 below_too m e nan h = h
@@ -48,13 +47,10 @@ not_both (fin true m e) l h = go (lt (fin false m e) l) refl
     go false k = h ∙ sym k
 not_both (fin false m e) l h = refl
 
-returns : tie.Need-returns
+pub returns-then-d-limit : goal.returns-then-d-limit
 unfolding closer
-returns c = both (c.before.args.x -₆₄ c.before.args.y) c.before.args.limit c.if1.true
+returns-then-d-limit c = both (c.args.x -₆₄ c.args.y) c.args.limit c.if-d-limit.true
 
-returns-2 : tie.Need-returns-2
+pub returns-else-d-limit : goal.returns-else-d-limit
 unfolding closer
-returns-2 c = not_both (c.before.args.x -₆₄ c.before.args.y) c.before.args.limit c.if1.false
-
-pub closer_spec : {M : Type 1} → statement M
-closer_spec = tie.close (tie.spec returns returns-2)
+returns-else-d-limit c = not_both (c.args.x -₆₄ c.args.y) c.args.limit c.if-d-limit.false
