@@ -1,0 +1,12 @@
+-- `score_rows::blocks::add_dense` meets its contract. The loop's invariant: the sum and count have the first rows, as many as are done.
+-- The measure is what is left of the rows. Assumes nothing.
+use Rattle.std.proofs.Common.{◌≡◌, ◌+◌, ◌-◌, ◌≤◌, length, refl, ap, ◌∙◌, arith, rules}
+use Rattle.score_rows.specs.Steps.{add_rows, rows_more, from_bits}
+use Rattle.score_rows.specs.declared.ErrorSum.{ErrorSum}
+use Rattle.score_rows.proofs.blocks.add_dense.Given as goal
+
+abbrev pub invariant-loop-block : goal.invariant-loop-block
+invariant-loop-block l = (l.i + l.done + l.block ≤ l.n) × (l.block ≤ 16) × (length l.squares ≡ 16) × (length l.bits ≡ 16) × (l.sum ≡ add_rows l.initial.sum l.camera l.h l.rows l.flags l.i l.done)
+
+abbrev pub decreases-loop-block : goal.decreases-loop-block
+decreases-loop-block l = l.n - l.done

@@ -1,0 +1,9 @@
+-- `score_rows::blocks::add_sparse` meets its contract: rows behind the camera leave sum and count as they are. Assumes nothing.
+use Rattle.std.proofs.Common.{sym, ◌∙◌, rules}
+use Rattle.score_rows.specs.Steps.{none_counted}
+use Rattle.score_rows.proofs.blocks.add_sparse.Goals as goal
+
+pub returns-then-in_front-eq0 : goal.returns-then-in_front-eq0
+returns-then-in_front-eq0 c =
+    let a = c.args in
+    none_counted a.total a.camera a.h a.rows.now a.flags.now a.i a.n (sym c.in_front.ensures ∙ c.if-in_front-eq0.true)

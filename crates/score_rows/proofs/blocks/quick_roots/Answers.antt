@@ -1,0 +1,28 @@
+-- `score_rows::blocks::quick_roots` meets its contract. The loop's invariant: the first j roots are right where `wrong` says so.
+-- The measure is what is left of the numbers. Assumes nothing.
+use Rattle.std.proofs.Common.{◌≡◌, ◌-◌, ◌^◌, ◌≤◌, length, get_or, ◌∙◌, arith, length-set, rules}
+use lib.Bits.{bit_or}
+use lib.Ieee.{nan}
+use Rattle.root_code.specs.Or.{both_below}
+use Rattle.root_code.specs.Quick.{Quick}
+use Rattle.score_rows.specs.Steps.{QuickRoots}
+use Rattle.score_rows.proofs.Filled.{one_more}
+use Rattle.score_rows.proofs.blocks.quick_roots.Goals as goal
+
+pub loop-j-init : goal.loop-j-init
+loop-j-init c = (omega arith, c.requires.0, λ j h. absurd (omega (arith, h)))
+
+pub loop-j-preserved : goal.loop-j-preserved
+loop-j-preserved c =
+    let l = c.loop-j in
+    let a = c.args in
+    let q = c.quick_sqrt-q in
+    let both = both_below l.wrong q.result.wrong (2 ^ 37) in (
+      omega arith,
+      length-set l.bits l.j q.result.bits ∙ l.invariant.1,
+      one_more l.bits 0 l.j q.result.bits (λ k b. Quick b (bit_or l.wrong q.result.wrong) (get_or a.squares.now k nan)) (omega (arith, l.invariant.1))
+          (λ k h z. l.invariant.2 k h (both z).0) (λ z. q.ensures (both z).1),
+    )
+
+pub returns : goal.returns
+returns c = (c.loop-j.invariant.1, λ j h. c.loop-j.invariant.2 j (omega (arith, h)))

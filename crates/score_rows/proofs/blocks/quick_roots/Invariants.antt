@@ -1,0 +1,16 @@
+-- `score_rows::blocks::quick_roots` meets its contract. The loop's invariant: the first j roots are right where `wrong` says so.
+-- The measure is what is left of the numbers. Assumes nothing.
+use Rattle.std.proofs.Common.{◌≡◌, ◌-◌, ◌^◌, ◌≤◌, length, get_or, ◌∙◌, arith, length-set, rules}
+use lib.Bits.{bit_or}
+use lib.Ieee.{nan}
+use Rattle.root_code.specs.Or.{both_below}
+use Rattle.root_code.specs.Quick.{Quick}
+use Rattle.score_rows.specs.Steps.{QuickRoots}
+use Rattle.score_rows.proofs.Filled.{one_more}
+use Rattle.score_rows.proofs.blocks.quick_roots.Given as goal
+
+abbrev pub invariant-loop-j : goal.invariant-loop-j
+invariant-loop-j l = (l.j ≤ l.n) × (length l.bits ≡ 16) × QuickRoots l.j l.bits l.wrong l.squares
+
+abbrev pub decreases-loop-j : goal.decreases-loop-j
+decreases-loop-j l = l.n - l.j

@@ -1,0 +1,32 @@
+-- `score_rows::reproj_error_sum` meets its contract: all rows are joined in their order. The loop's invariant: the sum and count have
+-- the first i rows. The measure is what is left of them. Assumes nothing.
+use Rattle.std.proofs.Common.{◌≡◌, ◌+◌, ◌-◌, ◌≤◌, refl, ap, ◌∙◌, add-one, arith, rules}
+use Rattle.score_rows.specs.Steps.{add_row, add_rows, all_rows}
+use Rattle.score_rows.specs.declared.ErrorSum.{ErrorSum}
+use Rattle.score_rows.proofs.reproj_error_sum.Goals as goal
+
+pub returns-then-n-ge8 : goal.returns-then-n-ge8
+returns-then-n-ge8 c =
+    let m = c.row_count-n in
+    let a = c.args in
+    rw (c.add_blocks.ensures, c.no_errors.ensures) (all_rows a.camera a.h a.rows.now a.flags.now m.result m.ensures.0 m.type_inv)
+
+pub loop-i-init : goal.loop-i-init
+unfolding add_rows
+loop-i-init c = (omega arith, refl)
+
+pub loop-i-preserved : goal.loop-i-preserved
+unfolding add_rows
+loop-i-preserved c =
+    let l = c.loop-i in
+    let a = c.args in
+    let z : 0 + l.i ≡ l.i = omega arith in
+    (omega arith, rw (add-one l.i, z) (c.add_row-total.ensures ∙ ap (λ (s : ErrorSum). add_row s a.camera a.h a.rows.now a.flags.now l.i) l.invariant.1))
+
+pub returns : goal.returns
+returns c =
+    let l = c.loop-i in
+    let m = c.row_count-n in
+    let a = c.args in
+    let e : l.i ≡ m.result = omega arith in
+    rw (l.invariant.1, c.no_errors-total.ensures, e) (all_rows a.camera a.h a.rows.now a.flags.now m.result m.ensures.0 m.type_inv)

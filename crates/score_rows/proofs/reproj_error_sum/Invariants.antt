@@ -1,0 +1,12 @@
+-- `score_rows::reproj_error_sum` meets its contract: all rows are joined in their order. The loop's invariant: the sum and count have
+-- the first i rows. The measure is what is left of them. Assumes nothing.
+use Rattle.std.proofs.Common.{◌≡◌, ◌+◌, ◌-◌, ◌≤◌, refl, ap, ◌∙◌, add-one, arith, rules}
+use Rattle.score_rows.specs.Steps.{add_row, add_rows, all_rows}
+use Rattle.score_rows.specs.declared.ErrorSum.{ErrorSum}
+use Rattle.score_rows.proofs.reproj_error_sum.Given as goal
+
+abbrev pub invariant-loop-i : goal.invariant-loop-i
+invariant-loop-i l = (l.i ≤ l.n) × (l.total ≡ add_rows l.initial.total l.camera l.h l.rows l.flags 0 l.i)
+
+abbrev pub decreases-loop-i : goal.decreases-loop-i
+decreases-loop-i l = l.n - l.i
