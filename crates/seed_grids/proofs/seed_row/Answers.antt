@@ -1,0 +1,47 @@
+-- `seed_grids::seed_row` meets its contract. The loop's invariant: the first j of the y tilts have been offered. Assumes nothing.
+use mathlib.Core.Path.{◌≡◌}
+use mathlib.Core.List.{[], ◌∷◌, map}
+use Prim.Native.Nat.{suc, ◌+◌, ◌≤◌, ◌-◌}
+use native.Mathlib.Nat.{add-zero}
+use native.Mathlib.Numerals.{add-one}
+use native.Mathlib.Omega.{arith}
+use borrow.Author.Rules.{rules}
+use lib.ListN.{length, get_or, take}
+use lib.Seq.{take_all}
+use lib.Ieee.{nan}
+use Rattle.seed_rules.specs.Layout.{two, tilts_of}
+use Rattle.seed_rules.specs.LayoutLaws.{tilts_layout}
+use Rattle.seed_rules.specs.Merge.{keep}
+use Rattle.seed_rules.specs.MergeLaws.{keep_length}
+use Rattle.seed_rules.specs.Rules.{tilt_near, inBound, tilts}
+use Rattle.seed_rules.specs.RulesLaws.{row_more}
+use Rattle.seed_rules.specs.Steps.{Merging, merging_start, merging_more}
+use Rattle.seed_grids.proofs.seed_row.Goals as goal
+
+pub loop-j-init : goal.loop-j-init
+unfolding keep
+loop-j-init c =
+    let a = c.args in
+    (search rules, rw add-zero (merging_start tilts_layout tilt_near a.grid.now a.count (search rules)))
+
+pub loop-j-preserved : goal.loop-j-preserved
+loop-j-preserved c =
+    let a = c.args in
+    let j = c.loop-j.j in
+    let ys = a.y_seeds.now in
+    let max = a.max_abs_tilt in
+    let x = a.tilt_x in
+    let one = tilts x (get_or ys j nan) ∷ [] in (
+      search rules,
+      rw (add-one j)
+          (merging_more tilts_layout tilt_near (tilts_of a.count a.grid.now) (keep (inBound max) (map (tilts x) (take j ys))) (keep (inBound max) one)
+          (keep (inBound max) (map (tilts x) (take (suc j) ys)))
+          a.grid.now c.loop-j.grid c.push_seed-count.new.grid c.loop-j.count c.push_seed-count.result (a.count + j) (a.count + suc j)
+          c.loop-j.invariant.1 c.push_seed-count.ensures (search rules) (omega (arith, keep_length (inBound max) one)) (row_more max x ys j (search rules))),
+    )
+
+pub returns : goal.returns
+returns c =
+    let ys = c.args.y_seeds.now in
+    let e : take c.loop-j.j ys ≡ ys = take_all c.loop-j.j ys (search rules) in
+    rw e at c.loop-j.invariant.1.leaves
