@@ -1,0 +1,30 @@
+-- `camera_undistort::newton_undistort` meets its contract. The loop's invariant: what is left of the turns, from this estimate, leads where all of them
+-- lead from the first. Assumes nothing.
+use mathlib.Core.Path.{◌≡◌, sym, ap, ◌∙◌}
+use native.Mathlib.Omega.{arith}
+use borrow.Author.Rules.{rules}
+use Rattle.camera_undistort.specs.Undistortion.{newton, last_step}
+use Rattle.camera_undistort.proofs.Turns.{newton_none, newton_ends, newton_last, newton_next}
+use Rattle.camera_undistort.proofs.newton_undistort.Goals as goal
+
+pub returns-in-Ended : goal.returns-in-Ended
+returns-in-Ended c =
+    rw (c.last_step.ensures, ← c.estimate_at-e.ensures)
+    (ap last_step (sym (newton_ends _ _ _ _ (sym c.newton_turn-turn.ensures ∙ c.in-Ended.is)) ∙ c.loop-left.invariant))
+
+pub returns-in-Last : goal.returns-in-Last
+returns-in-Last c =
+    rw (c.last_step-in-Last.ensures, ← c.estimate_at-e.ensures)
+    (ap last_step (sym (newton_last _ _ _ _ _ (search rules) (sym c.newton_turn-turn.ensures ∙ c.in-Last.is)) ∙ c.loop-left.invariant))
+
+pub loop-left-preserved : goal.loop-left-preserved
+loop-left-preserved c =
+    sym
+    (newton_next _ _ _ _ _ (search rules)
+    (sym c.newton_turn-turn.ensures ∙ c.in-Further.is))
+    ∙ c.loop-left.invariant
+
+pub returns : goal.returns
+returns c =
+    rw (c.last_step-2.ensures, ← c.estimate_at-e.ensures)
+    (ap last_step (sym (newton_none _ _ _ _ (omega arith)) ∙ c.loop-left.invariant))

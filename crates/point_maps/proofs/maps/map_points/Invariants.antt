@@ -1,0 +1,15 @@
+-- `point_maps::maps::map_points` meets its contract. The loop's invariant: the destination is `front` of the numbers passed, which are whole points. Assumes nothing.
+use mathlib.Core.Path.{◌≡◌, refl, sym, ◌∙◌}
+use Prim.Native.Nat.{◌-◌, ◌%◌, ◌≤◌}
+use native.Mathlib.Omega.{arith}
+use borrow.Author.Rules.{rules}
+use lib.ListN.{length, length-set}
+use Rattle.point_maps.specs.Maps.{mapped_point}
+use Rattle.point_maps.proofs.Written.{front, front_none, front_next, front_all}
+use Rattle.point_maps.proofs.maps.map_points.Given as goal
+
+abbrev pub invariant-loop-i : goal.invariant-loop-i
+invariant-loop-i l = (l.i % 2 ≡ 0) × ((l.i ≤ length l.points) × ((length l.to ≡ length l.initial.to) × (l.to ≡ front (mapped_point l.k l.lens l.h_inv) l.points l.i l.initial.to)))
+
+abbrev pub decreases-loop-i : goal.decreases-loop-i
+decreases-loop-i l = length l.points - l.i
