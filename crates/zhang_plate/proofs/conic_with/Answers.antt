@@ -2,12 +2,8 @@
 use Rattle.std.proofs.Common.{rules}
 use lib.Ieee.{mul, of_bits, neg, add}
 use Rattle.zhang_plate.specs.Plate.{conic_with}
-use Rattle.zhang_plate.proofs.conic_with.Statement.{statement}
-use Rattle.zhang_plate.proofs.conic_with.Tie as tie
+use Rattle.zhang_plate.proofs.conic_with.Goals as goal
 
-returns : tie.Need-returns
+pub returns : goal.returns
 unfolding mul of_bits neg add conic_with
 returns c = search rules
-
-pub conic_with_spec : {M : Type 1} → statement M
-conic_with_spec = tie.close (tie.spec returns)

@@ -1,0 +1,11 @@
+-- `zhang_plate::known_plate` meets its contract. The loop's invariant: the lowest unit of those that are left, from here on, is the lowest of all. Assumes nothing.
+use Rattle.std.proofs.Common.{◌≡◌, ◌-◌, ◌^◌, ◌≤◌, sym, ◌∙◌, arith, rules}
+use Rattle.zhang_plate.specs.Plate.{unit_from}
+use Rattle.zhang_plate.proofs.Turns.{in-range, castable, next_power, stops, goes_on, ends}
+use Rattle.zhang_plate.proofs.known_plate.Given as goal
+
+abbrev pub invariant-loop-power : goal.invariant-loop-power
+invariant-loop-power l = (l.power ≤ 9) × (l.unit ≡ 2 ^ l.power) × (unit_from (9 - l.power) l.unit l.k ≡ unit_from 9 1 l.k)
+
+abbrev pub decreases-loop-power : goal.decreases-loop-power
+decreases-loop-power l = 9 - l.power
