@@ -44,7 +44,7 @@ use Rattle.book.proofs.RunOf.{run_of, run_number}
 pub record Sizes (i : Inputs) (r : Run) : Type 0 where
   pub small_share : r.options.min_counted ≤ 100
   pub few_rounds : r.options.refine_rounds ≤ 16
-  pub in-rounds : r.place.round ≤ r.options.refine_rounds
+  pub in_rounds : r.place.round ≤ r.options.refine_rounds
   pub demand_is : r.place.demand ≡ demand i
   pub least : 54 ≤ demand i
   pub most : demand i ≤ 3072
@@ -70,7 +70,7 @@ lasts_sound i r h =
     simp (
       le-leb r.options.min_counted 100 s.small_share,
       le-leb r.options.refine_rounds 16 s.few_rounds,
-      le-leb r.place.round r.options.refine_rounds s.in-rounds,
+      le-leb r.place.round r.options.refine_rounds s.in_rounds,
       add_up_true r.counts r.place.number (omega arith) s.adds_up,
       le-leb r.place.len 512 (omega arith),
       le-leb (6 * r.place.len) r.place.demand (omega arith),
@@ -85,7 +85,7 @@ unfolding awaiting
 await_lasts i r s o h = record { sizes = same h.sizes; room = h.room; calm = λ e. absurd (true≢false (sym e ∙ o)) }
   where
     same : Sizes i r → Sizes i (awaiting r s)
-    same z = unfold awaiting in record { small_share = z.small_share; few_rounds = z.few_rounds; in-rounds = z.in-rounds; demand_is = z.demand_is; least = z.least; most = z.most; list_fits = z.list_fits; few = z.few; adds_up = z.adds_up }
+    same z = unfold awaiting in record { small_share = z.small_share; few_rounds = z.few_rounds; in_rounds = z.in_rounds; demand_is = z.demand_is; least = z.least; most = z.most; list_fits = z.list_fits; few = z.few; adds_up = z.adds_up }
 
 -- Next keeps the run as it is, or has a seed wait
 next_by : (P : Run → Type 0) (r : Run) (l : List Float) → P r → ((s : CandidateSeed) → r.place.over ≡ false → P (awaiting r s)) → P (next_def r l).run
@@ -128,7 +128,7 @@ end_follows i r f = record {
 }
   where
     same : Sizes i r → Sizes i (ended r)
-    same z = unfold ended in record { small_share = z.small_share; few_rounds = z.few_rounds; in-rounds = z.in-rounds; demand_is = z.demand_is; least = z.least; most = z.most; list_fits = z.list_fits; few = z.few; adds_up = z.adds_up }
+    same z = unfold ended in record { small_share = z.small_share; few_rounds = z.few_rounds; in_rounds = z.in_rounds; demand_is = z.demand_is; least = z.least; most = z.most; list_fits = z.list_fits; few = z.few; adds_up = z.adds_up }
 
 open_sizes : (i : Inputs) (r : Run) (n : ℕ) → n ≤ 9 → r.place.round < r.options.refine_rounds → Full i r → Sizes i (round_opened r n)
 unfolding round_opened
@@ -137,7 +137,7 @@ open_sizes i r n h k f =
     let e = f.answered in
     let p = z.few in
     let q = z.least in
-    record { small_share = z.small_share; few_rounds = z.few_rounds; in-rounds = omega arith; demand_is = z.demand_is; least = z.least; most = z.most; list_fits = omega arith; few = omega arith; adds_up = z.adds_up }
+    record { small_share = z.small_share; few_rounds = z.few_rounds; in_rounds = omega arith; demand_is = z.demand_is; least = z.least; most = z.most; list_fits = omega arith; few = omega arith; adds_up = z.adds_up }
 
 open_follows : (i : Inputs) (r : Run) (n : ℕ) → 0 < n → n ≤ 9 → r.place.round < r.options.refine_rounds → Full i r → Follows i r (round_opened r n)
 open_follows i r n p h k f = record { lasts = record { sizes = open_sizes i r n h k f; room = room r n p; calm = calm r n f.calm }; same_number = number r n; no_more = less r n h k }
@@ -213,7 +213,7 @@ enter_sizes : (i : Inputs) (r : Run) (o : Outcome) → OfKind o → r.place.at <
 unfolding entered
 enter_sizes i r o k h z =
     let p = z.few in
-    record { small_share = z.small_share; few_rounds = z.few_rounds; in-rounds = z.in-rounds; demand_is = z.demand_is; least = z.least; most = z.most; list_fits = z.list_fits; few = omega arith; adds_up = total_with r.counts (recorded_as o) k ∙ ap (λ n. n + 1) z.adds_up }
+    record { small_share = z.small_share; few_rounds = z.few_rounds; in_rounds = z.in_rounds; demand_is = z.demand_is; least = z.least; most = z.most; list_fits = z.list_fits; few = omega arith; adds_up = total_with r.counts (recorded_as o) k ∙ ap (λ n. n + 1) z.adds_up }
 
 module _ (r : Run) (o : Outcome) where
   enter_calm : (entered r o).waiting.is_waiting ≡ false
@@ -255,7 +255,7 @@ enter_answers i r l o k h g =
     let p = ltb-false e.place.at e.place.len t in
     let x = (enter_at r o).0 in
     let y = (enter_at r o).1 in
-    let n = z.in-rounds in
+    let n = z.in_rounds in
     let full : Full i e = record { sizes = z; answered = omega arith; calm = enter_calm r o; going = enter_over r o ∙ g } in
     simp t (closed_answers i r o _ room (close_follows (e.options.refine_rounds - e.place.round) i e l full (omega arith))))
 
@@ -365,10 +365,10 @@ run_lasts i b g = record { sizes = subst (λ (j : Inputs). Sizes j (run_of b)) g
         let z = h.sized in
         let c = h.few in
         let r = z.few_rounds in
-        let q = h.in-rounds in
+        let q = h.in_rounds in
         let n = length-append b.earlier b.answered in
         let t = tally_total b.inputs (entries b) h.proper in
-        record { small_share = z.small_share; few_rounds = z.few_rounds; in-rounds = q; demand_is = refl; least = z.least; most = z.most; list_fits = h.fits; few = omega arith; adds_up = t }
+        record { small_share = z.small_share; few_rounds = z.few_rounds; in_rounds = q; demand_is = refl; least = z.least; most = z.most; list_fits = h.fits; few = omega arith; adds_up = t }
 
 pub run_ends : (i : Inputs) (b : Book) (cs : List Lent) → Good i b → Ends i (number b) (run_of b) cs (through (run_of b) cs)
 unfolding finding_refusal

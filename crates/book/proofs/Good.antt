@@ -14,7 +14,7 @@ use lib.Ieee.{lt}
 use Rattle.float.specs.Float.{is_finite}
 use Rattle.float.specs.Literals.{half₆₄}
 use Rattle.seed_rules.specs.declared.CandidateSeed.{CandidateSeed}
-use Rattle.seed_rules.specs.Rules.{inBound, untilted_y}
+use Rattle.seed_rules.specs.Rules.{in_bound, untilted_y}
 use Rattle.seed_rules.specs.AnyOffsets.{most_seeds}
 use Rattle.score_outcome.specs.declared.Scoring.{Scoring}
 use Rattle.score_outcome.specs.declared.Outcome.{Outcome}
@@ -38,7 +38,7 @@ abbrev scoring_of : Candidate → Scoring
 scoring_of w = record { camera = w.camera; mean = w.mean_reproj_error; score = w.score }
 
 pub record ProperCandidate (i : Inputs) (w : Candidate) : Type 0 where
-  pub within : inBound i.max w.sensor ≡ true
+  pub within : in_bound i.max w.sensor ≡ true
   pub untilted : i.one_axis ≡ true → untilted_y w.sensor ≡ true
   pub facts : ScoredFacts w.sensor i.center (scoring_of w)
 
@@ -69,7 +69,7 @@ pub record Sized (i : Inputs) : Type 0 where
 -- of a book, also between an answer and the round that it ends
 pub record Core (b : Book) : Type 0 where
   pub sized : Sized b.inputs
-  pub in-rounds : b.round ≤ b.inputs.rounds
+  pub in_rounds : b.round ≤ b.inputs.rounds
   -- 512 seeds in round 0 at most, and nine in each later round
   pub few : length b.earlier + length b.list ≤ 512 + 9 * b.round
   pub fits : 6 * length b.list ≤ demand b.inputs
@@ -101,7 +101,7 @@ await_core : (b : Book) → Core b → Core (with_waiting b)
 unfolding with_waiting
 await_core b h = record {
   sized = h.sized;
-  in-rounds = h.in-rounds;
+  in_rounds = h.in_rounds;
   few = h.few;
   fits = h.fits;
   seeds = h.seeds;
@@ -135,7 +135,7 @@ end_core : (b : Book) → Core b → Core (with_end b)
 unfolding with_end
 end_core b h = record {
   sized = h.sized;
-  in-rounds = h.in-rounds;
+  in_rounds = h.in_rounds;
   few = h.few;
   fits = h.fits;
   seeds = h.seeds;
@@ -190,7 +190,7 @@ round_core i k b w ss c q e =
     let m = length-append b.earlier b.answered in
     record {
       sized = h.sized;
-      in-rounds = omega arith;
+      in_rounds = omega arith;
       few = omega arith;
       fits = omega arith;
       seeds = rw q at (around_seeded b.inputs (suc b.round) w (centre_proper b w h.proper c).untilted);
@@ -244,7 +244,7 @@ module _ (b : Book) (o : Outcome) where
       let own : Proper b.inputs (entry b o) = record { seeded = current_seeded b h r; stands = s } in
       record {
         sized = h.sized;
-        in-rounds = h.in-rounds;
+        in_rounds = h.in_rounds;
         few = h.few;
         fits = h.fits;
         seeds = h.seeds;
@@ -278,7 +278,7 @@ module _ (b : Book) (o : Outcome) where
       let y = entry_same.2 in
       let z = entry_same.3 in
       let r = g.room v in
-      let n = h.in-rounds in
+      let n = h.in_rounds in
       close_by (closing i) (c.inputs.rounds - c.round) c (record { inputs_are = entry_same.1 ∙ g.inputs_are; core = h; full = omega arith; going = over; left = omega arith }))
 
 -- ---- so every step keeps it

@@ -19,7 +19,7 @@ use Rattle.book.proofs.Lists.{lend, short}
 use Rattle.book.proofs.Moves.{entry, enter_holds, entered_by}
 use Rattle.book.proofs.Good.{waits_going, steps}
 use Rattle.book.proofs.RunOf.{run_of, State, run-fields, run-bests, sound_run}
-use Rattle.book.proofs.Simulation.{await_run, await_there, in_list, in-part}
+use Rattle.book.proofs.Simulation.{await_run, await_there, in_list, in_part}
 
 -- ---- the run accepts what the book enters
 pub answers_agree : (i : Inputs) (b : Book) (l : List Float) (c : Call) → State i b l → answered_by (run_of b) l c ≡ entered_by b c
@@ -55,7 +55,7 @@ handed_in b = map handing_of (entries b) ++ waiting_handing b
 seed_part_lem : (i : Inputs) (b : Book) (l : List Float) → State i b l → b.waits ≡ true → seed_part (run_of b) l ≡ six (current b)
 unfolding seed_part seed_lent
 seed_part_lem i b l f w =
-    simp (run-fields, sound_run i b f.good, w, le-leb (demand b.inputs) (length l) f.there.long, in-part b l f.there (f.good.room (waits_going i b f.good w)))
+    simp (run-fields, sound_run i b f.good, w, le-leb (demand b.inputs) (length l) f.there.long, in_part b l f.there (f.good.room (waits_going i b f.good w)))
 
 await_handed : (b : Book) → b.waits ≡ false → handed_in b ++ handing_now b ∷ [] ≡ handed_in (with_waiting b)
 unfolding with_waiting handed_in

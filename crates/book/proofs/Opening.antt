@@ -17,11 +17,11 @@ use Rattle.float.specs.Float.{is_finite}
 use Rattle.float.specs.Literals.{plus_zero}
 use Rattle.seed_rules.specs.declared.CandidateSeed.{CandidateSeed}
 use Rattle.seed_rules.specs.Merge.{keep}
-use Rattle.seed_rules.specs.Rules.{inBound, untilted_y}
-use Rattle.seed_rules.specs.RulesLaws.{initial-length}
+use Rattle.seed_rules.specs.Rules.{in_bound, untilted_y}
+use Rattle.seed_rules.specs.RulesLaws.{initial_length}
 use Rattle.seed_rules.specs.Layout.{all_seeds, seed_at, written}
 use Rattle.seed_rules.specs.LayoutLaws.{read_length}
-use Rattle.seed_rules.specs.Facts.{initial-all}
+use Rattle.seed_rules.specs.Facts.{initial_all}
 use Rattle.score_best.specs.Best.{best_of, first_unbeaten}
 use Rattle.search_record.specs.declared.run.Run.{Run}
 use Rattle.search_start.specs.declared.Started.TheVariants.{Accepted}
@@ -69,12 +69,12 @@ every_all p (x ∷ xs) h = go (p x) refl (every_all p xs) h
     go true e f k = (e, f k)
     go false e f k = absurd (true≢false (sym k))
 
-good_within : (max : Float) (s : CandidateSeed) → good_seed max s ≡ true → inBound max s.sensor ≡ true
+good_within : (max : Float) (s : CandidateSeed) → good_seed max s ≡ true → in_bound max s.sensor ≡ true
 unfolding good_seed
 good_within max s h =
     let k = s.reference_k in
     let t = s.sensor in
-    (both_true (positive k.fx && positive k.fy && is_finite k.cx && is_finite k.cy && is_finite t.tilt_x && is_finite t.tilt_y) (inBound max t) h).1
+    (both_true (positive k.fx && positive k.fy && is_finite k.cx && is_finite k.cy && is_finite t.tilt_x && is_finite t.tilt_y) (in_bound max t) h).1
 
 good_seeded : (i : Inputs) (ss : List CandidateSeed) → All (λ s. good_seed i.max s ≡ true) ss
     → (i.one_axis ≡ true → All (λ s. untilted_seed s ≡ true) ss) → All (Seeded i 0) ss
@@ -107,7 +107,7 @@ module _ (i : Inputs) (l : List Float) (z : refusal i l ≡ 0) where
   unfolding first_list
   list_length =
       let e : length (all_seeds i.decomposition) ≡ D = read_length (λ m. seed_at m 0) 6 D i.decomposition in
-      rw e at (initial-length (all_seeds i.decomposition) i.xs i.ys i.base i.max)
+      rw e at (initial_length (all_seeds i.decomposition) i.xs i.ys i.base i.max)
 
   few_seeds : D + X * Y ≤ 512
   few_seeds =
@@ -138,7 +138,7 @@ module _ (i : Inputs) (l : List Float) (z : refusal i l ≡ 0) where
   unfolding first_list
   seeds_seeded =
       let ds = all_seeds i.decomposition in
-      initial-all (Seeded i 0) ds i.xs i.ys i.base i.max
+      initial_all (Seeded i 0) ds i.xs i.ys i.base i.max
       (good_seeded i ds (every_all (good_seed i.max) ds start_facts.good_seeds) (λ one. every_all untilted_seed ds (start_facts.untilted_seeds one)))
       (λ x y m n b. record { within = b; untilted = λ one. unfold untilted_y in zero_typed one y n; later = λ one p. absurd (omega arith) })
 
@@ -156,7 +156,7 @@ module _ (i : Inputs) (l : List Float) (z : refusal i l ≡ 0) where
   unfolding opened
   opened_core = record {
     sized = record { few_rounds = start_facts.sizes.rounds_max; least = demand_least.0; most = demand_most; finite_bound = finite_max; small_bound = start_facts.bound_small; small_share = start_facts.share_most };
-    in-rounds = omega arith;
+    in_rounds = omega arith;
     few = let p = list_length in let q = few_seeds in omega arith;
     fits = let p = list_length in let q = demand_least.1 in omega arith;
     seeds = seeds_seeded;

@@ -23,18 +23,18 @@ handings_all P [] h = tt
 handings_all P (e ∷ es) h = (h.0, handings_all P es h.1)
 
 -- ---- a round's handings
-none-in-round : (k : ℕ) (hs : List Handing) → All (λ h. h.round ≡ k → ⊥) hs → handed_in_round k hs ≡ []
+none_in_round : (k : ℕ) (hs : List Handing) → All (λ h. h.round ≡ k → ⊥) hs → handed_in_round k hs ≡ []
 unfolding handed_in_round keep
-none-in-round k [] a = refl
-none-in-round k (h ∷ hs) a = rw (ne_eqb h.round k a.0) (none-in-round k hs a.1)
+none_in_round k [] a = refl
+none_in_round k (h ∷ hs) a = rw (ne_eqb h.round k a.0) (none_in_round k hs a.1)
 
-in-round-append : (k : ℕ) (xs ys : List Handing) → handed_in_round k (xs ++ ys) ≡ handed_in_round k xs ++ handed_in_round k ys
+in_round_append : (k : ℕ) (xs ys : List Handing) → handed_in_round k (xs ++ ys) ≡ handed_in_round k xs ++ handed_in_round k ys
 unfolding handed_in_round
-in-round-append k xs ys = keep_append (λ (h : Handing). eqb h.round k) xs ys
+in_round_append k xs ys = keep_append (λ (h : Handing). eqb h.round k) xs ys
 
-in-round-length : (k : ℕ) (hs : List Handing) → length (handed_in_round k hs) ≤ length hs
+in_round_length : (k : ℕ) (hs : List Handing) → length (handed_in_round k hs) ≤ length hs
 unfolding handed_in_round
-in-round-length k hs = keep_length (λ (h : Handing). eqb h.round k) hs
+in_round_length k hs = keep_length (λ (h : Handing). eqb h.round k) hs
 
 -- xs were handed out in rounds before n, and ys in round n
 few_both : (k n most : ℕ) (xs ys : List Handing) → All (λ h. h.round < n) xs → All (λ h. h.round ≡ n) ys
@@ -43,14 +43,14 @@ few_both k n most xs ys past this few own =
     case (eqb n k)
     (λ t.
     let e = eqb-true n k t in
-    let none = none-in-round k xs (all_map (λ h. h.round < n) (λ h. h.round ≡ k → ⊥) (λ h p q. omega arith) xs past) in
-    let l = in-round-length k ys in
+    let none = none_in_round k xs (all_map (λ h. h.round < n) (λ h. h.round ≡ k → ⊥) (λ h p q. omega arith) xs past) in
+    let l = in_round_length k ys in
     let m = own e in
-    rw (in-round-append k xs ys, none) (omega arith))
+    rw (in_round_append k xs ys, none) (omega arith))
     (λ t.
     let f = eqb-false n k t in
-    let none = none-in-round k ys (all_map (λ h. h.round ≡ n) (λ h. h.round ≡ k → ⊥) (λ h p q. f (omega arith)) ys this) in
-    rw (in-round-append k xs ys, none, append-nil) few)
+    let none = none_in_round k ys (all_map (λ h. h.round ≡ n) (λ h. h.round ≡ k → ⊥) (λ h p q. f (omega arith)) ys this) in
+    rw (in_round_append k xs ys, none, append-nil) few)
 
 -- ---- of a book: this round's list, and the rounds before
 pub record FewPerRound (b : Book) : Type 0 where

@@ -14,7 +14,7 @@ use Rattle.common.specs.Refusal.{Check, ◌when◌, first_refusal}
 use Rattle.float.specs.Float.{is_finite}
 use Rattle.float.specs.Literals.{plus_zero, half₆₄}
 use Rattle.seed_rules.specs.declared.CandidateSeed.{CandidateSeed}
-use Rattle.seed_rules.specs.Rules.{within, inBound, untilted_y}
+use Rattle.seed_rules.specs.Rules.{within, in_bound, untilted_y}
 use Rattle.seed_rules.specs.Bound.{within_order}
 use Rattle.seed_rules.specs.Layout.{all_seeds}
 use Rattle.search_start.specs.Start.{positive, good_seed, only_zero, untilted_seed, too_many, demand_of, start_checks}
@@ -115,7 +115,7 @@ beyond : (max t : Float) → Decides (not (within max t)) (Beyond max t)
 beyond max t = rw (within_order max t) (not_both (le (neg max) t) (le t max) (fails_of (le (neg max) t)) (fails_of (le t max)))
 
 bad_seed : (max : Float) (s : CandidateSeed) → Decides (not (good_seed max s)) (BadSeed max s)
-unfolding good_seed inBound
+unfolding good_seed in_bound
 bad_seed max s =
     let k = s.reference_k in
     let t = s.sensor in
@@ -124,7 +124,7 @@ bad_seed max s =
     let centre = x && is_finite k.cy in
     let u = centre && is_finite t.tilt_x in
     let finite = u && is_finite t.tilt_y in
-    not_both finite (inBound max t)
+    not_both finite (in_bound max t)
     (not_both u (is_finite t.tilt_y)
     (not_both centre (is_finite t.tilt_x)
     (not_both x (is_finite k.cy)

@@ -136,7 +136,7 @@ module _ (i : Inputs) (b : Book) (g : Good i b) where
       let h = g.core in
       let n : number b ≡ length b.earlier + length b.answered = length-append b.earlier b.answered in
       let p = h.few in
-      let q = h.in-rounds in
+      let q = h.in_rounds in
       let r = h.sized.few_rounds in
       case b.over (λ o. let m = g.full o in omega arith) (λ o. let m = g.room o in omega arith)
 
@@ -151,7 +151,7 @@ module _ (i : Inputs) (b : Book) (g : Good i b) where
         run-fields,
         le-leb b.inputs.share 100 z.small_share,
         le-leb b.inputs.rounds 16 z.few_rounds,
-        le-leb b.round b.inputs.rounds h.in-rounds,
+        le-leb b.round b.inputs.rounds h.in_rounds,
         add_up_true (tally (entries b)) (number b) count_bound (tally_total b.inputs (entries b) h.proper),
         le-leb (length b.list) 512 (omega arith),
         le-leb (6 * length b.list) (demand b.inputs) q,

@@ -11,7 +11,7 @@ use Rattle.common.specs.Each.{All}
 use Rattle.float.specs.Literals.{plus_zero}
 use Rattle.camera_tilt.specs.declared.sensor.ScheimpflugParams.{ScheimpflugParams}
 use Rattle.seed_rules.specs.declared.CandidateSeed.{CandidateSeed}
-use Rattle.seed_rules.specs.Rules.{inBound, untilted_y, offsets, y_offsets}
+use Rattle.seed_rules.specs.Rules.{in_bound, untilted_y, offsets, y_offsets}
 use Rattle.seed_rules.specs.AnyOffsets.{AtOffsets, most_seeds, most_nine, round_over, round_few, untilted_around}
 use Rattle.score_best.specs.declared.Candidate.{Candidate}
 use Rattle.score_best.specs.Best.{chosen, best_of}
@@ -20,7 +20,7 @@ use Rattle.book.specs.Book.{Inputs, step_of, list_around}
 
 -- within the bound; and in a one-axis run without a tilt about y, which is +0 in later rounds
 pub record Seeded (i : Inputs) (r : ℕ) (s : CandidateSeed) : Type 0 where
-  pub within : inBound i.max s.sensor ≡ true
+  pub within : in_bound i.max s.sensor ≡ true
   pub untilted : i.one_axis ≡ true → untilted_y s.sensor ≡ true
   pub later : i.one_axis ≡ true → 0 < r → s.sensor.tilt_y ≡ plus_zero
 
@@ -41,7 +41,7 @@ module _ (i : Inputs) (r : ℕ) (w : Candidate) where
       all_map (AtOffsets (offsets s) (y_offsets i.one_axis s) w.sensor w.camera.k i.max) (Seeded i r)
       (λ t a.
       let zero : i.one_axis ≡ true → t.sensor.tilt_y ≡ plus_zero = λ e. untilted_around (offsets s) s w.sensor w.camera.k i.max t (h e) (rw e at a) in
-      record { within = a.in-bound; untilted = λ e. zero_untilted t.sensor (zero e); later = λ e p. zero e })
+      record { within = a.is_in_bound; untilted = λ e. zero_untilted t.sensor (zero e); later = λ e p. zero e })
       (list_around i r w) (round_over i.one_axis s w.sensor w.camera.k i.max).made
 
   pub around_few : length (list_around i r w) ≤ most_seeds i.one_axis

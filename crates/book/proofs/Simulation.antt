@@ -95,8 +95,8 @@ next_agrees i b l n f =
     (record { reply = refl; run = refl; there = await_there b l f.there }))))
 
 -- ---- the seed call
-pub in-part : (b : Book) (l : List Float) → Front (demand b.inputs) b.list l → length b.answered < length b.list → take 6 (drop (6 * length b.answered) l) ≡ six (current b)
-in-part b l f h = rw f.list_is (part_at b.list f.tail (length b.answered) h)
+pub in_part : (b : Book) (l : List Float) → Front (demand b.inputs) b.list l → length b.answered < length b.list → take 6 (drop (6 * length b.answered) l) ≡ six (current b)
+in_part b l f h = rw f.list_is (part_at b.list f.tail (length b.answered) h)
 
 seed_agrees : (i : Inputs) (b : Book) (l : List Float) (n : ℕ) → State i b l → Agrees (run_call (run_of b) l (seed n)) (book_seed b n)
 unfolding run_call seed_part seed_lent book_seed
@@ -108,7 +108,7 @@ seed_agrees i b l n f =
     (λ s. simp (run-fields, t, w, s, lt-leb (demand b.inputs) (length (take n l)) (ltb-true (length (take n l)) (demand b.inputs) (d ∙ s))) (unmoved b l f.there (part [])))
     (λ s.
     let g = lend (demand b.inputs) b.list l n f.there (ltb-false n (demand b.inputs) s) in
-    simp (run-fields, t, w, s, le-leb (demand b.inputs) (length (take n l)) g.long, in-part b (take n l) g (f.good.room (waits_going i b f.good w))) (unmoved b l f.there (part (six (current b))))))
+    simp (run-fields, t, w, s, le-leb (demand b.inputs) (length (take n l)) g.long, in_part b (take n l) g (f.good.room (waits_going i b f.good w))) (unmoved b l f.there (part (six (current b))))))
     (λ w. simp (run-fields, t, w) (unmoved b l f.there (part [])))
 
 -- ---- Result

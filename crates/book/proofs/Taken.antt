@@ -13,7 +13,7 @@ use Rattle.float.specs.Order.{lt_cotrans, le_not_lt, le_number}
 use Rattle.float_series.specs.Answer.{beyond_half}
 use Rattle.float.specs.Literals.{half₆₄}
 use Rattle.camera_tilt.specs.declared.sensor.ScheimpflugParams.{ScheimpflugParams}
-use Rattle.seed_rules.specs.Rules.{within, inBound}
+use Rattle.seed_rules.specs.Rules.{within, in_bound}
 use Rattle.score_outcome.specs.declared.Finding.{Finding}
 use Rattle.score_outcome.specs.declared.Finding.TheVariants.{Failed, Solved}
 use Rattle.score_outcome.specs.Evaluation.{row_checks, solved_refusal, finding_refusal}
@@ -38,9 +38,9 @@ none_refused [] us h k = k
 none_refused ((n when true) ∷ ts) us h k = h
 none_refused ((n when false) ∷ ts) us h k = none_refused ts us h k
 
-pub not_refused : (max : Float) (t : ScheimpflugParams) (f : Finding) (rows : List Float) (flags : List ℕ) → lt half₆₄ max ≡ false → inBound max t ≡ true
+pub not_refused : (max : Float) (t : ScheimpflugParams) (f : Finding) (rows : List Float) (flags : List ℕ) → lt half₆₄ max ≡ false → in_bound max t ≡ true
     → (f ≡ Failed) ⊎ (first_refusal (row_checks rows flags) ≡ 0) → finding_refusal f t rows flags ≡ 0
-unfolding finding_refusal solved_refusal inBound
+unfolding finding_refusal solved_refusal in_bound
 not_refused max t Failed rows flags h w k = refl
 not_refused max t (Solved c) rows flags h w k =
     let b = both_true (within max t.tilt_x) (within max t.tilt_y) w in

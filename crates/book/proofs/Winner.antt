@@ -11,7 +11,7 @@ use Rattle.common.specs.Tests.{both_true}
 use Rattle.common.specs.All.{all_append, all_left, all_right, all_map}
 use Rattle.common.specs.Each.{All}
 use Rattle.float.specs.Order.{lt_irrefl, lt_not_eq, le_of_not_lt}
-use Rattle.seed_rules.specs.Rules.{within, inBound, untilted_y}
+use Rattle.seed_rules.specs.Rules.{within, in_bound, untilted_y}
 use Rattle.seed_rules.specs.Bound.{within_order}
 use Rattle.score_best.specs.declared.Candidate.{Candidate}
 use Rattle.score_best.specs.Best.{beats, chosen, best_of}
@@ -112,8 +112,8 @@ module _ (w : Candidate) where
 sides : (max t : Float) → within max t ≡ true → (le (neg max) t ≡ true) × (le t max ≡ true)
 sides max t h = both_true (le (neg max) t) (le t max) (rw within_order at h)
 
-bound_parts : (i : Inputs) (w : Candidate) → inBound i.max w.sensor ≡ true → (within i.max w.sensor.tilt_x ≡ true) × (within i.max w.sensor.tilt_y ≡ true)
-unfolding inBound
+bound_parts : (i : Inputs) (w : Candidate) → in_bound i.max w.sensor ≡ true → (within i.max w.sensor.tilt_x ≡ true) × (within i.max w.sensor.tilt_y ≡ true)
+unfolding in_bound
 bound_parts i w h = both_true (within i.max w.sensor.tilt_x) (within i.max w.sensor.tilt_y) h
 
 -- every score is a number

@@ -9,7 +9,7 @@ use Rattle.float.specs.Literals.{plus_zero, half₆₄}
 use Rattle.camera_models.specs.declared.math.Pt2.{Pt2}
 use Rattle.camera_models.specs.declared.intrinsics.FxFyCxCy.{FxFyCxCy}
 use Rattle.seed_rules.specs.declared.CandidateSeed.{CandidateSeed}
-use Rattle.seed_rules.specs.Rules.{initialList, offsets, y_offsets, next_list}
+use Rattle.seed_rules.specs.Rules.{initial_list, offsets, y_offsets, next_list}
 use Rattle.seed_rules.specs.Layout.{six, all_seeds}
 use Rattle.score_outcome.specs.declared.Finding.{Finding}
 use Rattle.score_outcome.specs.declared.Outcome.{Outcome}
@@ -100,7 +100,7 @@ step_of (suc zero) s = s
 step_of (suc (suc n)) s = step_of (suc n) s *₆₄ half₆₄
 
 unfoldable pub first_list : Inputs → List CandidateSeed
-first_list i = initialList (all_seeds i.decomposition) i.xs i.ys i.base i.max
+first_list i = initial_list (all_seeds i.decomposition) i.xs i.ys i.base i.max
 
 -- the offsets of tilt_x and of tilt_y that round r's list is made with; in a one-axis run tilt_y has the offset 0 alone
 abbrev pub offsets_x : Inputs → ℕ → List Float
@@ -228,7 +228,7 @@ book_result b = unless (first_refusal ((14 when not b.over) ∷ [])) b (kept (be
 -- the progress call: the total is the length of this round's list
 unfoldable pub book_progress : Book → Kept
 book_progress b =
-    kept (bar (record { round = b.round; rounds = b.inputs.rounds; answered = length b.answered; total = length b.list; in-run = number b })) b
+    kept (bar (record { round = b.round; rounds = b.inputs.rounds; answered = length b.answered; total = length b.list; in_run = number b })) b
 
 -- the stop call: the seeds of this round's list not yet answered, the waiting one first
 abbrev pub left_in : Book → List CandidateSeed

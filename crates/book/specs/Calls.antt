@@ -23,7 +23,7 @@ pub record Progress : Type 0 where
   pub rounds : ℕ
   pub answered : ℕ
   pub total : ℕ
-  pub in-run : ℕ
+  pub in_run : ℕ
 
 -- what is left of a round: nothing, or the floor of its seeds that are left and whether the round can gain nothing
 pub data Rest : Type 0 where

@@ -40,7 +40,7 @@ resulted_reply (resulted.Result w) = result w
 resulted_reply (resulted.Refused n) = refused n
 
 abbrev pub progress_reply : ProgressReply → Reply
-progress_reply p = bar (record { round = p.round; rounds = p.rounds; answered = p.answered; total = p.total; in-run = p.answered_in_run })
+progress_reply p = bar (record { round = p.round; rounds = p.rounds; answered = p.answered; total = p.total; in_run = p.answered_in_run })
 
 abbrev pub chosen_of : Best → Chosen
 chosen_of b = cond b.found (chosen b.candidate) nothing

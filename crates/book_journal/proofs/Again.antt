@@ -39,12 +39,12 @@ number_most i b g o =
     let r = g.room o in
     let c = g.core in
     let f = c.few in
-    let k = c.in-rounds in
+    let k = c.in_rounds in
     let s = c.sized.few_rounds in
     omega arith
 
 round_most : (i : Inputs) (b : Book) → Good i b → b.round ≤ 16
-round_most i b g = let k = g.core.in-rounds in let s = g.core.sized.few_rounds in omega arith
+round_most i b g = let k = g.core.in_rounds in let s = g.core.sized.few_rounds in omega arith
 
 recordable_outcome : (i : Inputs) (t : ScheimpflugParams) (o : Outcome) → Stands i t o → recordable (recorded_as o) ≡ true
 unfolding recordable

@@ -77,13 +77,13 @@ drop_written d ss m h =
 module _ (i : Inputs) (l : List Float) (room : demand i ≤ length l) where
   write_buffer : (c : Book) (m : List Float) → length m ≡ length l → drop (demand i) m ≡ drop (demand i) l → 6 * length c.list ≤ demand i → BufferOf i l c (written c.list m)
   write_buffer c m s h f = record {
-    in-front = take_at (flat c.list) (drop (6 * length c.list) m) (6 * length c.list) (flat_length c.list);
+    is_in_front = take_at (flat c.list) (drop (6 * length c.list) m) (6 * length c.list) (flat_length c.list);
     same_length = omega (arith, length-append (flat c.list) (drop (6 * length c.list) m), length-drop (6 * length c.list) m, flat_length c.list);
     beyond = drop_written (demand i) c.list m f ∙ h;
   }
 
   keep_buffer : (b c : Book) (m : List Float) → c.list ≡ b.list → BufferOf i l b m → BufferOf i l c m
-  keep_buffer b c m e h = record { in-front = rw e h.in-front; same_length = h.same_length; beyond = h.beyond }
+  keep_buffer b c m e h = record { is_in_front = rw e h.is_in_front; same_length = h.same_length; beyond = h.beyond }
 
   list_fits : (b : Book) → Good i b → 6 * length b.list ≤ demand i
   list_fits b g = rw g.inputs_are at g.core.fits

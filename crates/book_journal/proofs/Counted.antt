@@ -145,7 +145,7 @@ few_entries i b g =
     let n = length-append b.earlier b.answered in
     let c = g.core in
     let f = c.few in
-    let k = c.in-rounds in
+    let k = c.in_rounds in
     let s = c.sized.few_rounds in
     case b.over (λ o. let q = g.full o in omega arith) (λ o. let q = g.room o in omega arith)
 
@@ -176,5 +176,5 @@ counts_agree i h =
       refused_nowhere = refused_stays b;
     }
 
-pub in-journal : (i : Inputs) (h : History i) → InputsFit i → All CallFits h.calls → InJournal h
-in-journal i h f c k = ap (λ (z : Lines). count_in k z.lines) (sym (lines_right i (book_at h) (sound_at i h f c)).read_back)
+pub in_journal : (i : Inputs) (h : History i) → InputsFit i → All CallFits h.calls → InJournal h
+in_journal i h f c k = ap (λ (z : Lines). count_in k z.lines) (sym (lines_right i (book_at h) (sound_at i h f c)).read_back)

@@ -24,7 +24,7 @@ use Rattle.camera_tilt.specs.declared.sensor.ScheimpflugParams.{ScheimpflugParam
 use Rattle.seed_rules.specs.declared.CandidateSeed.{CandidateSeed}
 use Rattle.seed_rules.specs.Rules.{tilts, seed_with}
 use Rattle.seed_rules.specs.Layout.{read_from, six, seed_at, all_seeds}
-use Rattle.seed_rules.specs.Facts.{initial-all, next_all}
+use Rattle.seed_rules.specs.Facts.{initial_all, next_all}
 use Rattle.score_camera.specs.declared.pinhole.PinholeCamera.{PinholeCamera}
 use Rattle.score_camera.specs.Camera.{tangential_bound, damped, damped_camera}
 use Rattle.score_rows.specs.declared.ErrorSum.{ErrorSum}
@@ -88,7 +88,7 @@ unfolding first_list
 first_fits i all =
     let before = all_left Fits (four i.base ++ i.xs ++ i.ys) i.decomposition all in
     let typed = all_left Fits (four i.base ++ i.xs) i.ys before in
-    initial-all SeedFits (all_seeds i.decomposition) i.xs i.ys i.base i.max
+    initial_all SeedFits (all_seeds i.decomposition) i.xs i.ys i.base i.max
     (read_fits (length i.decomposition / 6) i.decomposition (all_right Fits (four i.base ++ i.xs ++ i.ys) i.decomposition all))
     (λ x y m n b.
     camera_fits i.base x y (all_left Fits (four i.base) i.xs typed)

@@ -192,8 +192,8 @@ live_list i b l [] g = refl
 live_list i b l (c ∷ cs) g =
     let a = call_agrees i b l c g in
     let m = call_list i b l c g in
-    let next-state : State i (book_call b c).book (run_call (run_of b) l c).list = record { good = call_by (steps i) b c g.good; there = a.there } in
-    rw a.run (live_list i (book_call b c).book (run_call (run_of b) l c).list cs next-state ∙ ap (λ (z : List Float). list_under (book_call b c).book z cs) m)
+    let next_state : State i (book_call b c).book (run_call (run_of b) l c).list = record { good = call_by (steps i) b c g.good; there = a.there } in
+    rw a.run (live_list i (book_call b c).book (run_call (run_of b) l c).list cs next_state ∙ ap (λ (z : List Float). list_under (book_call b c).book z cs) m)
 
 -- ---- 02, E5: the journal of a run that Start opened leaves the list as that run did
 pub start_accepts : (i : Inputs) (l : List Float) (r : Run) → start_of i l ≡ Accepted r → NoneHolds (conditions i (length l))
@@ -214,7 +214,7 @@ buffer_state i l b m room g h = record {
   good = g;
   there = record {
     tail = drop (6 * length b.list) m;
-    list_is = sym (take-append-drop (6 * length b.list) m) ∙ ap (λ (z : List Float). z ++ drop (6 * length b.list) m) h.in-front;
+    list_is = sym (take-append-drop (6 * length b.list) m) ∙ ap (λ (z : List Float). z ++ drop (6 * length b.list) m) h.is_in_front;
     long = rw g.inputs_are (let e = h.same_length in omega arith);
     fits = g.core.fits;
   };

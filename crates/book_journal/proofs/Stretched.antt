@@ -65,9 +65,9 @@ none_in : scored_in [] ≡ []
 unfolding scored_in
 none_in = refl
 
-scored-in-append : (ls ms : List Line) → scored_in (ls ++ ms) ≡ scored_in ls ++ scored_in ms
-scored-in-append [] ms = rw none_in
-scored-in-append (l ∷ ls) ms = more l.outcome refl (scored-in-append ls ms)
+scored_in_append : (ls ms : List Line) → scored_in (ls ++ ms) ≡ scored_in ls ++ scored_in ms
+scored_in_append [] ms = rw none_in
+scored_in_append (l ∷ ls) ms = more l.outcome refl (scored_in_append ls ms)
   where
     more : (r : Recorded) → l.outcome ≡ r → scored_in (ls ++ ms) ≡ scored_in ls ++ scored_in ms → scored_in (l ∷ (ls ++ ms)) ≡ scored_in (l ∷ ls) ++ scored_in ms
     more (line.Skipped n) e ih = unfold scored_in in simp (scored_in, e) ih
@@ -95,6 +95,6 @@ line_stretches_right i h f k =
     let same : line_winner (read_journal (journal_of b)).lines ≡ best_of (scored_of (entries b)) =
     ap (λ (z : Lines). line_winner z.lines) (lines_right i b (sound_at i h f k)).read_back ∙ ap best_of (scored_lines b.inputs (entries b) g.core.proper) in
     record {
-      any_cutting = λ ss e. cut_anywhere scored_in none_in scored-in-append ss ∙ ap line_winner e ∙ same;
-      any_grouping = λ gs e. group_anyhow scored_in none_in scored-in-append gs ∙ ap line_winner e ∙ same;
+      any_cutting = λ ss e. cut_anywhere scored_in none_in scored_in_append ss ∙ ap line_winner e ∙ same;
+      any_grouping = λ gs e. group_anyhow scored_in none_in scored_in_append gs ∙ ap line_winner e ∙ same;
     }

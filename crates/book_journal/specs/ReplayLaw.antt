@@ -40,7 +40,7 @@ pub record RunAgain (i : Inputs) (h : History i) (l : List Float) : Type 0 where
 
 -- ---- Where Start was lent l, a buffer m beside a book: the book's list stands in front, the length stays, and so do the numbers that no list can reach.
 pub record BufferOf (i : Inputs) (l : List Float) (b : Book) (m : List Float) : Type 0 where
-  pub in-front : take (6 * length b.list) m ≡ flat b.list
+  pub is_in_front : take (6 * length b.list) m ≡ flat b.list
   pub same_length : length m ≡ length l
   pub beyond : drop (demand i) m ≡ drop (demand i) l
 

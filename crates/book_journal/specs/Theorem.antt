@@ -23,7 +23,7 @@ use Rattle.book_journal.specs.Reported.{WrittenReport, ResumedReport}
 
 -- a history whose numbers are binary64's, as all of a program are
 pub record Fitting (i : Inputs) (h : History i) : Type 0 where
-  pub inputs-fit : InputsFit i
+  pub inputs_fit : InputsFit i
   pub calls_fit : All CallFits h.calls
 
 pub record JournalsRight : Type 0 where
@@ -59,7 +59,7 @@ pub record JournalsRight : Type 0 where
   pub journal_grows : (i : Inputs) (h : History i) → JournalGrows h
   -- ---- E6
   pub counts_agree : (i : Inputs) (h : History i) → CountsAgree i h
-  pub in-journal : (i : Inputs) (h : History i) → Fitting i h → InJournal h
+  pub in_journal : (i : Inputs) (h : History i) → Fitting i h → InJournal h
   -- after any calls of a run that Start opened, and of one that Resume gave back
   pub written_report : (i : Inputs) (l : List Float) (r : Run) (cs : List Call) → InputsFit i → All CallFits cs → WrittenReport i l r cs
   pub resumed_report : (i : Inputs) (l : List Float) (bs : List ℕ) (cs : List Call) → InputsFit i → All CallFits cs → ResumedReport i l bs cs

@@ -7,7 +7,7 @@ use Rattle.float.specs.Float.{bits_of, abs_of, is_finite, min_of, max_of}
 use Rattle.camera_models.specs.declared.intrinsics.FxFyCxCy.{FxFyCxCy}
 use Rattle.seed_rules.specs.declared.CandidateSeed.{CandidateSeed}
 use Rattle.seed_rules.specs.Merge.{keep, has_near, push, merged_into}
-use Rattle.seed_rules.specs.Rules.{closer, tilt_near, camera_near, near, within, inBound, pairs, seed_grid, initialList, offsets, y_offsets, next_list}
+use Rattle.seed_rules.specs.Rules.{closer, tilt_near, camera_near, near, within, in_bound, pairs, seed_grid, initial_list, offsets, y_offsets, next_list}
 use Rattle.seed_rules.specs.Layout.{laid, six, read_from}
 use Rattle.score_camera.specs.Camera.{finite_intrinsics, finite_distortion, valid_camera}
 use Rattle.score_camera.specs.Penalties.{distortion_penalty, tilt_penalty, centre_penalty, score_of}
@@ -49,11 +49,11 @@ abbrev seed_of : Float → CandidateSeed
 seed_of x = record { reference_k = camera; sensor = record { tilt_x = x; tilt_y = f0 } }
 
 -- two typed tilts about x, 0 and 0.25, and one about y, 0
-abbrev inputsWith : ℕ → Inputs
-inputsWith rounds = record { views = 3; rounds = rounds; step = quarter; max = half; one_axis = false; share = 0; xs = f0 ∷ quarter ∷ []; ys = f0 ∷ []; decomposition = []; base = camera; center = record { x = f0; y = f0 } }
+abbrev inputs_with : ℕ → Inputs
+inputs_with rounds = record { views = 3; rounds = rounds; step = quarter; max = half; one_axis = false; share = 0; xs = f0 ∷ quarter ∷ []; ys = f0 ∷ []; decomposition = []; base = camera; center = record { x = f0; y = f0 } }
 
 abbrev given : Inputs
-given = inputsWith 0
+given = inputs_with 0
 
 abbrev buffer : List Float
 buffer = replicate 54 f1
@@ -97,15 +97,15 @@ pub record Replays : Type 0 where
   pub line_behind : (replay_of given buffer (journal_bytes (first ∷ second ∷ second ∷ []))).reply ≡ RefusedAt 30 3
   pub bytes_behind : (replay_of given buffer (whole ++ 120 ∷ 10 ∷ [])).reply ≡ RefusedAt 29 3
   -- with a round to follow: around the winner the seeds of the next list within the bound are six; the first comes next, and they stand in the buffer
-  pub next_seed : (replay_of (inputsWith 1) buffer whole).reply ≡ Unfinished (record { reference_k = camera; sensor = record { tilt_x = f0; tilt_y = neg quarter } })
-  pub next_list_lem : take 12 (replay_of (inputsWith 1) buffer whole).list ≡ f1 ∷ f1 ∷ f0 ∷ f0 ∷ f0 ∷ neg quarter ∷ f1 ∷ f1 ∷ f0 ∷ f0 ∷ f0 ∷ f0 ∷ []
+  pub next_seed : (replay_of (inputs_with 1) buffer whole).reply ≡ Unfinished (record { reference_k = camera; sensor = record { tilt_x = f0; tilt_y = neg quarter } })
+  pub next_list_lem : take 12 (replay_of (inputs_with 1) buffer whole).list ≡ f1 ∷ f1 ∷ f0 ∷ f0 ∷ f0 ∷ neg quarter ∷ f1 ∷ f1 ∷ f0 ∷ f0 ∷ f0 ∷ f0 ∷ []
   -- after a 30 on the first line the buffer holds round 0's list, and what stood behind it
   pub first_list_lem : take 14 (replay_of given buffer (journal_bytes (second ∷ []))).list ≡ six (seed_of f0) ++ six (seed_of quarter) ++ (f1 ∷ f1 ∷ [])
   -- Start's own refusal comes before all, and leaves the buffer
   pub too_short : replay_of given [] (120 ∷ []) ≡ record { reply = Refused 8; list = [] }
 
 pub replays : Replays
-unfolding replay_of start_number good_seed too_many demand_of every walked walk_from buffer_after follows is_mean can_be_scored same_real same_reals standing opened first_list book_enter close_round with_entry with_round with_end round_best_of run_best_of scored_of best_of first_unbeaten unbeaten beats demand step_of list_around offsets y_offsets next_list digit_byte digits decimal_width decimal bits_of real reason_letter outcome_fields rest_of_line line_bytes recordable writable journal_bytes digit_of number_at decimal_width_at real_at reals reason_of outcome_at from_round from_seed unchecked_line begins of_form newlines read_line goes_on read_all keep has_near push merged_into closer tilt_near camera_near near within inBound pairs seed_grid initialList laid read_from finite_intrinsics finite_distortion valid_camera distortion_penalty tilt_penalty centre_penalty score_of abs_of is_finite min_of max_of to_bits add sub mul div neg lt le eq is_nan of_bits of_fields of_int sum round units odd size span climb
+unfolding replay_of start_number good_seed too_many demand_of every walked walk_from buffer_after follows is_mean can_be_scored same_real same_reals standing opened first_list book_enter close_round with_entry with_round with_end round_best_of run_best_of scored_of best_of first_unbeaten unbeaten beats demand step_of list_around offsets y_offsets next_list digit_byte digits decimal_width decimal bits_of real reason_letter outcome_fields rest_of_line line_bytes recordable writable journal_bytes digit_of number_at decimal_width_at real_at reals reason_of outcome_at from_round from_seed unchecked_line begins of_form newlines read_line goes_on read_all keep has_near push merged_into closer tilt_near camera_near near within in_bound pairs seed_grid initial_list laid read_from finite_intrinsics finite_distortion valid_camera distortion_penalty tilt_penalty centre_penalty score_of abs_of is_finite min_of max_of to_bits add sub mul div neg lt le eq is_nan of_bits of_fields of_int sum round units odd size span climb
 replays = record {
   its_winner = refl;
   unfinished_run = refl;
@@ -140,5 +140,5 @@ pub record Reports : Type 0 where
   pub bytes_behind : report_of (120 ∷ 10 ∷ 48 ∷ 44 ∷ 48 ∷ []) ≡ record { lines = 0; kept = 0; dropped = 5; ended_by = by.NotOfForm }
 
 pub reports : Reports
-unfolding report_on ended_by_of walked walk_from buffer_after follows is_mean can_be_scored same_real same_reals opened first_list book_enter close_round with_entry with_round with_end digit_byte digits decimal_width decimal bits_of real reason_letter outcome_fields rest_of_line line_bytes recordable writable journal_bytes digit_of number_at decimal_width_at real_at reals reason_of outcome_at from_round from_seed unchecked_line begins of_form newlines read_line goes_on read_all keep has_near push merged_into closer tilt_near camera_near near within inBound pairs seed_grid initialList laid read_from finite_intrinsics finite_distortion valid_camera distortion_penalty tilt_penalty centre_penalty score_of abs_of is_finite min_of max_of to_bits add sub mul div neg lt le eq is_nan of_bits of_fields of_int sum round units odd size span climb
+unfolding report_on ended_by_of walked walk_from buffer_after follows is_mean can_be_scored same_real same_reals opened first_list book_enter close_round with_entry with_round with_end digit_byte digits decimal_width decimal bits_of real reason_letter outcome_fields rest_of_line line_bytes recordable writable journal_bytes digit_of number_at decimal_width_at real_at reals reason_of outcome_at from_round from_seed unchecked_line begins of_form newlines read_line goes_on read_all keep has_near push merged_into closer tilt_near camera_near near within in_bound pairs seed_grid initial_list laid read_from finite_intrinsics finite_distortion valid_camera distortion_penalty tilt_penalty centre_penalty score_of abs_of is_finite min_of max_of to_bits add sub mul div neg lt le eq is_nan of_bits of_fields of_int sum round units odd size span climb
 reports = record { all_kept = refl; after_newline = refl; cut_line = refl; cut_line_again = refl; part_behind = refl; line_behind = refl; bytes_behind = refl }

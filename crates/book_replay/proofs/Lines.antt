@@ -71,9 +71,9 @@ follows_over b m o = simp o
 
 -- ---- an outcome is entered, and whether its seed waits before it makes no difference
 module _ (b : Book) where
-  await-inputs : (with_waiting b).inputs ≡ b.inputs
+  await_inputs : (with_waiting b).inputs ≡ b.inputs
   unfolding with_waiting
-  await-inputs = refl
+  await_inputs = refl
 
   pub await_seed : (run_of (with_waiting b)).waiting.seed ≡ current b
   unfolding run_of with_waiting
@@ -92,7 +92,7 @@ module _ (i : Inputs) (b : Book) (l : List Float) (f : State i b l) (o : Outcome
   entered = enter_def (run_of (with_waiting b)) l o
 
   enter_ends : Ends entered (book_enter b o)
-  enter_ends = rw (await_enter b o) at (enter_agrees (with_waiting b) o l (await_holds b).1 (await_there b l f.there) (rw (await-inputs b) f.good.core.sized.least))
+  enter_ends = rw (await_enter b o) at (enter_agrees (with_waiting b) o l (await_holds b).1 (await_there b l f.there) (rw (await_inputs b) f.good.core.sized.least))
 
   enter_left : entered ≡ left (run_of (book_enter b o)) (buffer_after b (book_enter b o) l)
   enter_left =

@@ -8,7 +8,7 @@ replay_right = record {
   replay_is_book = bytes.replay_is_book;
   resume_is_book = bytes.resume_is_book;
   resumed_run = files.resumed_run;
-  resumed_record = λ i h f l a. files.resumed_record i h f.inputs-fit f.calls_fit l a;
+  resumed_record = λ i h f l a. files.resumed_record i h f.inputs_fit f.calls_fit l a;
   cut_record = files.cut_record;
   of_run = files.of_run;
 }

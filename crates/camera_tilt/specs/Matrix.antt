@@ -50,8 +50,8 @@ unfoldable pub determinant_of : Matrix → Float
 determinant_of m = at m 0 0 *₆₄ minor_of m 0 0 -₆₄ at m 0 1 *₆₄ minor_of m 0 1 +₆₄ at m 0 2 *₆₄ minor_of m 0 2
 
 -- the transposed cofactors, each divided by the determinant
-abbrev pub inverseEntry : Matrix → ℕ → ℕ → Float
-inverseEntry m i j = cofactor_of m j i /₆₄ determinant_of m
+abbrev pub inverse_entry : Matrix → ℕ → ℕ → Float
+inverse_entry m i j = cofactor_of m j i /₆₄ determinant_of m
 
-unfoldable pub inverseOf : Matrix → Matrix
-inverseOf m = matrix_of (inverseEntry m)
+unfoldable pub inverse_of : Matrix → Matrix
+inverse_of m = matrix_of (inverse_entry m)

@@ -43,8 +43,8 @@ homogeneous h p i = at h i 0 *₆₄ p.x +₆₄ at h i 1 *₆₄ p.y +₆₄ at
 unfoldable pub forward_depth : Float → Float
 forward_depth z = cond (lt tiny z) z tiny
 
-unfoldable pub inverseDepth : Float → Float
-inverseDepth z = cond (lt tiny (abs_of z)) z tiny
+unfoldable pub inverse_depth : Float → Float
+inverse_depth z = cond (lt tiny (abs_of z)) z tiny
 
 abbrev pub divided_by : Float → Matrix → Pt2 → Pt2
 divided_by d h p = record { x = homogeneous h p 0 /₆₄ d; y = homogeneous h p 1 /₆₄ d }
@@ -53,4 +53,4 @@ unfoldable pub apply_homography : Matrix → Pt2 → Pt2
 apply_homography h p = divided_by (forward_depth (homogeneous h p 2)) h p
 
 unfoldable pub apply_homography_inverse : Matrix → Pt2 → Pt2
-apply_homography_inverse h p = divided_by (inverseDepth (homogeneous h p 2)) h p
+apply_homography_inverse h p = divided_by (inverse_depth (homogeneous h p 2)) h p

@@ -3,7 +3,7 @@
 
 ghost use Rattle.std.specs.Prelude.{◌≡◌, ◌<◌};
 ghost use Rattle.float.specs.Binary64.{◌*₆₄◌};
-ghost use Rattle.camera_tilt.specs.Matrix.{at, product_entry, product_of, first_other, second_other, determinant2_of, minor_of, cofactor_of, determinant_of, inverseEntry, inverseOf, row_of};
+ghost use Rattle.camera_tilt.specs.Matrix.{at, product_entry, product_of, first_other, second_other, determinant2_of, minor_of, cofactor_of, determinant_of, inverse_entry, inverse_of, row_of};
 
 // The entry at row i and column j.
 pub fn entry(m: [[f64; 3]; 3], i: usize, j: usize) -> f64
@@ -99,7 +99,7 @@ pub fn determinant(m: [[f64; 3]; 3]) -> f64
 
 fn inverse_row(m: [[f64; 3]; 3], i: usize) -> [f64; 3]
     requires { i < 3 }
-    ensures { result ≡ row_of (inverseEntry m i) }
+    ensures { result ≡ row_of (inverse_entry m i) }
 {
     let det = determinant(m);
     [
@@ -110,7 +110,7 @@ fn inverse_row(m: [[f64; 3]; 3], i: usize) -> [f64; 3]
 }
 
 pub fn inverse(m: [[f64; 3]; 3]) -> [[f64; 3]; 3]
-    ensures { result ≡ inverseOf m }
+    ensures { result ≡ inverse_of m }
 {
     [inverse_row(m, 0), inverse_row(m, 1), inverse_row(m, 2)]
 }

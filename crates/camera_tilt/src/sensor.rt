@@ -3,7 +3,7 @@
 
 ghost use Rattle.std.specs.Prelude.{◌≡◌, ◌<◌};
 ghost use Rattle.camera_tilt.specs.Matrix.{product_of};
-ghost use Rattle.camera_tilt.specs.Sensor.{rot_x, rot_y, proj_z, tilt_projection_matrix, is_singular, tilt_verdict, tilt_number, homogeneous, forward_depth, inverseDepth, apply_homography, apply_homography_inverse};
+ghost use Rattle.camera_tilt.specs.Sensor.{rot_x, rot_y, proj_z, tilt_projection_matrix, is_singular, tilt_verdict, tilt_number, homogeneous, forward_depth, inverse_depth, apply_homography, apply_homography_inverse};
 
 use crate::matrix::{determinant, entry, product};
 use camera_models::math::Pt2;
@@ -93,7 +93,7 @@ fn forward_depth(z: f64) -> f64
 }
 
 fn inverse_depth(z: f64) -> f64
-    ensures { result ≡ inverseDepth z }
+    ensures { result ≡ inverse_depth z }
 {
     if float::abs(z) > 1e-12 { z } else { 1e-12 }
 }

@@ -59,11 +59,11 @@ rotation u a v b =
     }
 
 -- ---- two products that cancel
-in-numbers : (p n d P N D : ℕ) → ((p * P + n * N) * (D * d) + (N * p + P * n) * (d * D)) * 1 + 0 * (d * D * (D * d)) ≡ 0 * (d * D * (D * d)) + ((p * N + n * P) * (D * d) + (N * n + P * p) * (d * D)) * 1
-in-numbers p n d P N D = simp (mul-one, zero-mul, add-zero, zero-add, add-mul, mul_assoc, mul_comm, mul_left_comm, add_assoc, add_comm, add_left_comm)
+in_numbers : (p n d P N D : ℕ) → ((p * P + n * N) * (D * d) + (N * p + P * n) * (d * D)) * 1 + 0 * (d * D * (D * d)) ≡ 0 * (d * D * (D * d)) + ((p * N + n * P) * (D * d) + (N * n + P * p) * (d * D)) * 1
+in_numbers p n d P N D = simp (mul-one, zero-mul, add-zero, zero-add, add-mul, mul_assoc, mul_comm, mul_left_comm, add_assoc, add_comm, add_left_comm)
 
 cancel : (x y : Fraction) → Near (2 ^ 53) 0 ((x ⊗ y) ⊕ (opposite y ⊗ x)) nothing
-cancel x y = near_same (2 ^ 53) ((x ⊗ y) ⊕ (opposite y ⊗ x)) nothing (in-numbers x.plus x.minus x.den y.plus y.minus y.den)
+cancel x y = near_same (2 ^ 53) ((x ⊗ y) ⊕ (opposite y ⊗ x)) nothing (in_numbers x.plus x.minus x.den y.plus y.minus y.den)
 
 exchange : (b a n m : Fraction) → (b ⊗ a) ⊗ (n ⊗ m) ≡ (b ⊗ m) ⊗ (n ⊗ a)
 exchange b a n m =

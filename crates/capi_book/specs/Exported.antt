@@ -66,7 +66,7 @@ abbrev pub read_result : ResultFlat → Reply
 read_result f = cond (eqb f.number 0) (result f.candidate) (refused f.number)
 
 abbrev pub read_progress : ProgressReply → Reply
-read_progress p = bar (record { round = p.round; rounds = p.rounds; answered = p.answered; total = p.total; in-run = p.answered_in_run })
+read_progress p = bar (record { round = p.round; rounds = p.rounds; answered = p.answered; total = p.total; in_run = p.answered_in_run })
 
 abbrev pub read_stop : StopFlat → Reply
 read_stop f =

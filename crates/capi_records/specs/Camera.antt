@@ -3,7 +3,7 @@ use Rattle.std.specs.Prelude.{cond, [], ◌∷◌, eqb}
 use Rattle.float.specs.Literals.{plus_zero}
 use Rattle.float_series.specs.declared.Sum.{Sum}
 use Rattle.float_series.specs.declared.Sum.TheVariants as sum
-use Rattle.camera_tilt.specs.Matrix.{Matrix, at, inverseOf}
+use Rattle.camera_tilt.specs.Matrix.{Matrix, at, inverse_of}
 use Rattle.camera_tilt.specs.Sensor.{tilt_verdict, tilt_number}
 use Rattle.zhang.specs.declared.Estimated.{Estimated}
 use Rattle.zhang.specs.declared.Estimated.TheVariants.{Camera, Refused}
@@ -52,7 +52,7 @@ no_matrix = record {
 abbrev pub flat_inverse : Matrix → InverseReply
 flat_inverse h =
     let n = tilt_number (tilt_verdict h) in
-    cond (eqb n 0) (record { number = 0; inverse = flat_matrix (inverseOf h) }) (record { number = n; inverse = no_matrix })
+    cond (eqb n 0) (record { number = 0; inverse = flat_matrix (inverse_of h) }) (record { number = n; inverse = no_matrix })
 
 -- 01, 'Conic to camera': the camera, or 16
 abbrev pub flat_estimate : Estimated → CameraReply

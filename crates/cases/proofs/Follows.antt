@@ -12,7 +12,7 @@ use Rattle.common.specs.Each.{All, every}
 use Rattle.float.specs.Float.{abs_of, is_finite}
 use Rattle.float.specs.Literals.{plus_zero}
 use Rattle.seed_rules.specs.Merge.{keep, has_near, push, merged_into}
-use Rattle.seed_rules.specs.Rules.{closer, tilt_near, camera_near, near, within, inBound, untilted_y, pairs, tilts, seed_grid, initialList}
+use Rattle.seed_rules.specs.Rules.{closer, tilt_near, camera_near, near, within, in_bound, untilted_y, pairs, tilts, seed_grid, initial_list}
 use Rattle.seed_rules.specs.Layout.{read_from}
 use Rattle.search_start.specs.declared.Started.TheVariants.{Accepted}
 use Rattle.search_start.specs.Start.{good_seed, only_zero, too_many, demand_of, start_reply}
@@ -28,7 +28,7 @@ use Rattle.cases.specs.Whole.{whole_inputs, whole_run, whole_calls, whole_winner
 use Rattle.cases.proofs.OnWalk.{on_walk}
 
 accepted : start_of whole_inputs sixty ≡ Accepted whole_run
-unfolding start_reply every good_seed too_many demand_of initialList seed_grid pairs keep merged_into push has_near tilt_near camera_near near closer within inBound read_from abs_of is_finite add sub neg lt le of_bits
+unfolding start_reply every good_seed too_many demand_of initial_list seed_grid pairs keep merged_into push has_near tilt_near camera_near near closer within in_bound read_from abs_of is_finite add sub neg lt le of_bits
 accepted = refl
 
 abbrev started : List Float
@@ -46,7 +46,7 @@ whole_wins = whole_follows.wins whole_winner on_walk.whole_result
 
 -- ---- the run whose scores are all NaN: it is over with 11, and the negative tilt was tried
 all_lost_accepted : start_of all_lost_inputs sixty ≡ Accepted all_lost_run
-unfolding start_reply every good_seed too_many demand_of initialList seed_grid pairs keep merged_into push has_near tilt_near camera_near near closer within inBound read_from abs_of is_finite add sub neg lt le of_bits
+unfolding start_reply every good_seed too_many demand_of initial_list seed_grid pairs keep merged_into push has_near tilt_near camera_near near closer within in_bound read_from abs_of is_finite add sub neg lt le of_bits
 all_lost_accepted = refl
 
 -- −0.25 is at least −0.25 and at most 0.25, and so is 0
@@ -64,7 +64,7 @@ all_lost_tried =
 
 -- ---- the one-axis run: its two later rounds have at most three seeds each, no tilt about y was handed out, and the winner has none
 axis_accepted : start_of axis_inputs sixty ≡ Accepted axis_run
-unfolding start_reply every good_seed only_zero untilted_y too_many demand_of initialList seed_grid pairs keep merged_into push has_near tilt_near camera_near near closer within inBound read_from abs_of is_finite add sub neg lt le eq of_bits
+unfolding start_reply every good_seed only_zero untilted_y too_many demand_of initial_list seed_grid pairs keep merged_into push has_near tilt_near camera_near near closer within in_bound read_from abs_of is_finite add sub neg lt le eq of_bits
 axis_accepted = refl
 
 pub axis_follows : Follows axis_inputs axis_run (started_list axis_inputs sixty) axis_calls

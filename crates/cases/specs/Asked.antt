@@ -6,7 +6,7 @@ use Rattle.score_best.specs.Best.{nothing, chosen}
 use Rattle.book.specs.Calls.{Call, next, answer, ask, progress, stop, nothing_left, floor, Reply, candidate, scored, skipped, result, bar, stopped, refused}
 use Rattle.book.specs.Book.{Inputs}
 use Rattle.cases.specs.Numbers.{bits, eighth, quarter}
-use Rattle.cases.specs.Words.{f0, pinhole, centre, f100, solved_with, seen_at, inFront, failed}
+use Rattle.cases.specs.Words.{f0, pinhole, centre, f100, solved_with, seen_at, in_front, failed}
 
 -- 1 / 64, the tilt penalty of (0.25, 0)
 abbrev sixty_fourth : Float
@@ -40,14 +40,14 @@ best = record {
 abbrev round_zero : List Call
 round_zero =
     progress ∷ stop 53 ∷ stop 54
-    ∷ next 54 ∷ stop 54 ∷ answer 54 (solved_with f100 f0) (seen_at (bits 0x4049_0200_0000_0000)) inFront
+    ∷ next 54 ∷ stop 54 ∷ answer 54 (solved_with f100 f0) (seen_at (bits 0x4049_0200_0000_0000)) in_front
     ∷ progress ∷ stop 54 ∷ []
 
 abbrev round_zero_replies : List Reply
 round_zero_replies =
-    bar (record { round = 0; rounds = 1; answered = 0; total = 2; in-run = 0 }) ∷ refused 10 ∷ stopped nothing (floor f0 false)
+    bar (record { round = 0; rounds = 1; answered = 0; total = 2; in_run = 0 }) ∷ refused 10 ∷ stopped nothing (floor f0 false)
     ∷ candidate 0 ∷ stopped nothing (floor f0 false) ∷ scored sixty_fourth
-    ∷ bar (record { round = 0; rounds = 1; answered = 1; total = 2; in-run = 1 }) ∷ stopped (chosen best) (floor sixty_fourth true) ∷ []
+    ∷ bar (record { round = 0; rounds = 1; answered = 1; total = 2; in_run = 1 }) ∷ stopped (chosen best) (floor sixty_fourth true) ∷ []
 
 -- ---- round 1, around (0, 0) with step 0.125: nine seeds; of the last four the lowest penalty is 1 / 256
 abbrev round_one : List Call
@@ -57,11 +57,11 @@ round_one =
 
 abbrev round_one_replies : List Reply
 round_one_replies =
-    candidate 1 ∷ skipped 1 ∷ bar (record { round = 1; rounds = 1; answered = 0; total = 9; in-run = 2 }) ∷ stopped (chosen best) (floor f0 false)
+    candidate 1 ∷ skipped 1 ∷ bar (record { round = 1; rounds = 1; answered = 0; total = 9; in_run = 2 }) ∷ stopped (chosen best) (floor f0 false)
     ∷ candidate 2 ∷ skipped 1 ∷ candidate 3 ∷ skipped 1 ∷ candidate 4 ∷ skipped 1 ∷ candidate 5 ∷ skipped 1 ∷ candidate 6 ∷ skipped 1
     ∷ stopped (chosen best) (floor (bits 0x3f70_0000_0000_0000) false)
     ∷ candidate 7 ∷ skipped 1 ∷ candidate 8 ∷ skipped 1 ∷ candidate 9 ∷ skipped 1 ∷ candidate 10 ∷ skipped 1
-    ∷ bar (record { round = 1; rounds = 1; answered = 9; total = 9; in-run = 11 }) ∷ stopped (chosen best) nothing_left ∷ refused 10 ∷ result best ∷ []
+    ∷ bar (record { round = 1; rounds = 1; answered = 9; total = 9; in_run = 11 }) ∷ stopped (chosen best) nothing_left ∷ refused 10 ∷ result best ∷ []
 
 abbrev pub asked_calls : List Call
 asked_calls = round_zero ++ round_one

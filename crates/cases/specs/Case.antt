@@ -14,7 +14,7 @@ use Rattle.point_maps.specs.Centre.{center_reply}
 use Rattle.zhang.specs.declared.Conic.{Conic}
 use Rattle.zhang.specs.declared.Estimated.{Estimated}
 use Rattle.zhang.specs.Zhang.{from_homographies}
-use Rattle.seed_rules.specs.Rules.{seed_with, initialList, offsets, next_list}
+use Rattle.seed_rules.specs.Rules.{seed_with, initial_list, offsets, next_list}
 use Rattle.score_camera.specs.Penalties.{tilt_penalty}
 
 -- ---- numbers: n and -n
@@ -45,6 +45,6 @@ Holds (forward h p q) = apply_homography h p ≡ q
 Holds (backward h p q) = apply_homography_inverse h p ≡ q
 Holds (centre pixels r) = center_reply pixels ≡ r
 Holds (conic b r) = from_homographies b ≡ r
-Holds (typed xs ys max ts) = (base : FxFyCxCy) → initialList [] xs ys base max ≡ map (seed_with base) ts
+Holds (typed xs ys max ts) = (base : FxFyCxCy) → initial_list [] xs ys base max ≡ map (seed_with base) ts
 Holds (around c s max ts) = (camera : FxFyCxCy) → next_list (offsets s) (offsets s) c camera max ≡ map (seed_with camera) ts
 Holds (penalty t r) = tilt_penalty t ≡ r

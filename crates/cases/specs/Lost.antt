@@ -8,7 +8,7 @@ use Rattle.book.specs.Calls.{Call, next, ask, Reply, candidate, over, scored, sk
 use Rattle.book.specs.Book.{Inputs}
 use Rattle.book.specs.Theorem.{options_of}
 use Rattle.cases.specs.Numbers.{bits, quarter, far}
-use Rattle.cases.specs.Words.{f0, f1, f50, f100, pinhole, centre, solved_with, seen_at, inFront, turn}
+use Rattle.cases.specs.Words.{f0, f1, f50, f100, pinhole, centre, solved_with, seen_at, in_front, turn}
 
 -- three typed tilts, 0, 0.25 and −0.25, and no further round
 abbrev pub lost_inputs : Inputs
@@ -31,14 +31,14 @@ abbrev lost : List Call
 lost = turn 54 (Solved (record {
   k = record { fx = f100; fy = f100; cx = far; cy = f50 };
   dist = record { k1 = f0; k2 = f0; k3 = f0; p1 = f0; p2 = f0 };
-})) (f0 ∷ f0 ∷ far ∷ f50 ∷ []) inFront
+})) (f0 ∷ f0 ∷ far ∷ f50 ∷ []) in_front
 
 -- a point seen one pixel from where it is projected, and one seen two pixels from it
 abbrev near : List Call
-near = turn 54 (solved_with f100 f0) (seen_at (bits 0x4049_8000_0000_0000)) inFront
+near = turn 54 (solved_with f100 f0) (seen_at (bits 0x4049_8000_0000_0000)) in_front
 
 abbrev farther : List Call
-farther = turn 54 (solved_with f100 f0) (seen_at (bits 0x404a_0000_0000_0000)) inFront
+farther = turn 54 (solved_with f100 f0) (seen_at (bits 0x404a_0000_0000_0000)) in_front
 
 abbrev winner : ℕ → Float → Float → Float → Candidate
 winner n x mean score = record {

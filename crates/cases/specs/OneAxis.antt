@@ -4,7 +4,7 @@ use Rattle.std.specs.Float.Ieee.{of_bits, add, sub, neg, lt, le, eq}
 use Rattle.common.specs.Each.{All, every}
 use Rattle.float.specs.Float.{abs_of, is_finite}
 use Rattle.seed_rules.specs.Merge.{keep, has_near, push, merged_into}
-use Rattle.seed_rules.specs.Rules.{closer, tilt_near, camera_near, near, within, inBound, untilted_y, tilts, pairs, seed_with, offsets, y_offsets, next_list}
+use Rattle.seed_rules.specs.Rules.{closer, tilt_near, camera_near, near, within, in_bound, untilted_y, tilts, pairs, seed_with, offsets, y_offsets, next_list}
 use Rattle.seed_rules.specs.Layout.{read_from}
 use Rattle.score_best.specs.declared.Candidate.{Candidate}
 use Rattle.search_record.specs.declared.run.Run.{Run}
@@ -13,7 +13,7 @@ use Rattle.book.specs.Calls.{Call, next, seed, answer, ask, Reply, candidate, ov
 use Rattle.book.specs.Book.{Inputs}
 use Rattle.book.specs.Theorem.{options_of}
 use Rattle.cases.specs.Numbers.{bits, eighth, quarter}
-use Rattle.cases.specs.Words.{f0, f1, f50, f100, pinhole, centre, solved_with, seen_at, inFront, failed, sixty}
+use Rattle.cases.specs.Words.{f0, f1, f50, f100, pinhole, centre, solved_with, seen_at, in_front, failed, sixty}
 
 -- 0.0625, −0
 abbrev sixteenth : Float
@@ -23,8 +23,8 @@ abbrev minus_zero : Float
 minus_zero = bits 0x8000_0000_0000_0000
 
 -- a run with the bound max, one typed x tilt, 0.25, the typed y tilts ys, and the decomposition ds
-abbrev inputsWith : Bool → Float → List Float → List Float → Inputs
-inputsWith one_axis max ys ds = record {
+abbrev inputs_with : Bool → Float → List Float → List Float → Inputs
+inputs_with one_axis max ys ds = record {
   views = 3;
   rounds = 2;
   step = eighth;
@@ -63,26 +63,26 @@ high = bits 0x3fe8_0000_0000_0000
 abbrev pub starts : List Row
 starts =
     -- the single value 0, of either sign, and nothing else
-    row (inputsWith true quarter (f0 ∷ []) []) 0
-    ∷ row (inputsWith true quarter (minus_zero ∷ []) []) 0
-    ∷ row (inputsWith true quarter (f0 ∷ f0 ∷ []) []) 31
-    ∷ row (inputsWith true quarter (eighth ∷ []) []) 31
+    row (inputs_with true quarter (f0 ∷ []) []) 0
+    ∷ row (inputs_with true quarter (minus_zero ∷ []) []) 0
+    ∷ row (inputs_with true quarter (f0 ∷ f0 ∷ []) []) 31
+    ∷ row (inputs_with true quarter (eighth ∷ []) []) 31
     -- a decomposition seed
-    ∷ row (inputsWith true quarter (f0 ∷ []) (decomposed minus_zero)) 0
-    ∷ row (inputsWith true quarter (f0 ∷ []) (decomposed eighth)) 32
-    ∷ row (inputsWith true quarter (f0 ∷ []) (decomposed f0 ++ decomposed (neg eighth))) 32
+    ∷ row (inputs_with true quarter (f0 ∷ []) (decomposed minus_zero)) 0
+    ∷ row (inputs_with true quarter (f0 ∷ []) (decomposed eighth)) 32
+    ∷ row (inputs_with true quarter (f0 ∷ []) (decomposed f0 ++ decomposed (neg eighth))) 32
     -- in this order: 2, 6, 7, 27, 31, 32
-    ∷ row (inputsWith true high [] (decomposed f1)) 2
-    ∷ row (inputsWith true high (not_number ∷ []) (decomposed f1)) 6
-    ∷ row (inputsWith true high (not_number ∷ []) (decomposed eighth)) 7
-    ∷ row (inputsWith true high (eighth ∷ []) (decomposed eighth)) 27
-    ∷ row (inputsWith true quarter (eighth ∷ []) (decomposed eighth)) 31
+    ∷ row (inputs_with true high [] (decomposed f1)) 2
+    ∷ row (inputs_with true high (not_number ∷ []) (decomposed f1)) 6
+    ∷ row (inputs_with true high (not_number ∷ []) (decomposed eighth)) 7
+    ∷ row (inputs_with true high (eighth ∷ []) (decomposed eighth)) 27
+    ∷ row (inputs_with true quarter (eighth ∷ []) (decomposed eighth)) 31
     -- none of it in a two-axis run
-    ∷ row (inputsWith false quarter (eighth ∷ f0 ∷ []) (decomposed eighth)) 0
+    ∷ row (inputs_with false quarter (eighth ∷ f0 ∷ []) (decomposed eighth)) 0
     ∷ []
 
 pub starts_so : All Gives starts
-unfolding every good_seed only_zero untilted_y too_many demand_of within inBound read_from abs_of is_finite neg lt le eq of_bits
+unfolding every good_seed only_zero untilted_y too_many demand_of within in_bound read_from abs_of is_finite neg lt le eq of_bits
 starts_so = (refl, (refl, (refl, (refl, (refl, (refl, (refl, (refl, (refl, (refl, (refl, (refl, (refl, tt)))))))))))))
 
 -- ---- a step of 2^-42, below 1e-12: of x − s, x, x + s the first is kept, and −0 about y becomes 0
@@ -90,19 +90,19 @@ abbrev tiny : Float
 tiny = bits 0x3d50_0000_0000_0000
 
 pub merged_to_the_first : next_list (offsets tiny) (y_offsets true tiny) (tilts f0 minus_zero) pinhole quarter ≡ seed_with pinhole (tilts (neg tiny) f0) ∷ []
-unfolding next_list offsets y_offsets pairs keep inBound within merged_into push has_near near tilt_near camera_near closer abs_of add sub neg lt le eq of_bits
+unfolding next_list offsets y_offsets pairs keep in_bound within merged_into push has_near near tilt_near camera_near closer abs_of add sub neg lt le eq of_bits
 merged_to_the_first = refl
 
 -- ---- a run through three rounds, whose typed y tilt is −0. Each found camera is the base one, and each point is seen one pixel off.
 abbrev pub axis_inputs : Inputs
-axis_inputs = inputsWith true quarter (minus_zero ∷ []) []
+axis_inputs = inputs_with true quarter (minus_zero ∷ []) []
 
 abbrev pub axis_run : Run
 axis_run = opening_of (options_of axis_inputs) centre 54 1
 
 -- Next, the seed call and an answer
 abbrev shown : List Call
-shown = next 54 ∷ seed 54 ∷ answer 54 (solved_with f100 f0) (seen_at (bits 0x4049_8000_0000_0000)) inFront ∷ []
+shown = next 54 ∷ seed 54 ∷ answer 54 (solved_with f100 f0) (seen_at (bits 0x4049_8000_0000_0000)) in_front ∷ []
 
 abbrev shown_as : ℕ → Float → Float → Float → List Reply
 shown_as n x y score = candidate n ∷ part (f100 ∷ f100 ∷ f50 ∷ f50 ∷ x ∷ y ∷ []) ∷ scored score ∷ []

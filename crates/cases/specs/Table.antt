@@ -7,7 +7,7 @@ use Rattle.root.specs.Root.{root}
 use Rattle.camera_models.specs.declared.math.Pt2.{Pt2}
 use Rattle.camera_tilt.specs.declared.sensor.Tilt.TheVariants as verdict
 use Rattle.camera_tilt.specs.Matrix.{Matrix, product_of, first_other, second_other, minor_of, determinant_of}
-use Rattle.camera_tilt.specs.Sensor.{tilt_projection_matrix, tilt_verdict, forward_depth, inverseDepth, apply_homography, apply_homography_inverse}
+use Rattle.camera_tilt.specs.Sensor.{tilt_projection_matrix, tilt_verdict, forward_depth, inverse_depth, apply_homography, apply_homography_inverse}
 use Rattle.point_maps.specs.declared.centre.Center.TheVariants.{At}
 use Rattle.point_normalise.specs.Points.{fold_points}
 use Rattle.point_maps.specs.Centre.{extent_of, center_of, center_reply}
@@ -16,7 +16,7 @@ use Rattle.zhang.specs.declared.Estimated.{Estimated}
 use Rattle.zhang.specs.declared.Estimated.TheVariants as estimate
 use Rattle.zhang.specs.Zhang.{definite, from_homographies}
 use Rattle.seed_rules.specs.Merge.{keep, has_near, push, merged_into}
-use Rattle.seed_rules.specs.Rules.{closer, tilt_near, near, within, inBound, tilts, pairs, seed_grid, initialList, offsets, next_list}
+use Rattle.seed_rules.specs.Rules.{closer, tilt_near, near, within, in_bound, tilts, pairs, seed_grid, initial_list, offsets, next_list}
 use Rattle.score_camera.specs.Penalties.{tilt_penalty}
 use Rattle.cases.specs.Case.{Case, sqrt, tilt, forward, backward, centre, conic, typed, around, penalty, Holds, whole, minus}
 use Rattle.cases.specs.Numbers.{bits, eighth, quarter, half}
@@ -57,7 +57,7 @@ table =
 
 -- Each row is proved by computing both sides.
 pub all_hold : All Holds table
-unfolding root from_homographies definite center_reply center_of extent_of fold_points tilt_projection_matrix tilt_verdict product_of first_other second_other minor_of determinant_of forward_depth inverseDepth apply_homography apply_homography_inverse initialList next_list offsets seed_grid pairs keep inBound within merged_into push has_near tilt_near closer near tilt_penalty abs_of is_finite min_of max_of of_int of_bits add sub mul div neg lt le eq is_nan
+unfolding root from_homographies definite center_reply center_of extent_of fold_points tilt_projection_matrix tilt_verdict product_of first_other second_other minor_of determinant_of forward_depth inverse_depth apply_homography apply_homography_inverse initial_list next_list offsets seed_grid pairs keep in_bound within merged_into push has_near tilt_near closer near tilt_penalty abs_of is_finite min_of max_of of_int of_bits add sub mul div neg lt le eq is_nan
 all_hold = (
   refl,
   (

@@ -10,7 +10,7 @@ use Rattle.book.specs.Calls.{Call, next, seed, answer, ask, Reply, candidate, ov
 use Rattle.book.specs.Book.{Inputs}
 use Rattle.book.specs.Theorem.{options_of}
 use Rattle.cases.specs.Numbers.{bits, quarter, half}
-use Rattle.cases.specs.Words.{f0, f1, f50, f100, pinhole, centre, solved_with, seen_at, inFront, turn, failed}
+use Rattle.cases.specs.Words.{f0, f1, f50, f100, pinhole, centre, solved_with, seen_at, in_front, turn, failed}
 
 -- the decomposition has the same seed, at no tilt, twice; of the typed tilts 0.25 and 0.5 the second is beyond the bound
 abbrev pub whole_inputs : Inputs
@@ -41,9 +41,9 @@ round_zero =
     ∷ answer 54 (solved_with f100 f0) [] (1 ∷ [])
     ∷ answer 54 (solved_with f100 f0) (seen_at f50) (2 ∷ [])
     ∷ counts
-    ∷ answer 54 (solved_with f100 f0) (seen_at (bits 0x404a_0000_0000_0000)) inFront
+    ∷ answer 54 (solved_with f100 f0) (seen_at (bits 0x404a_0000_0000_0000)) in_front
     ∷ next 54
-    ∷ answer 54 (solved_with f100 f0) (seen_at (bits 0x4049_fe00_0000_0000)) inFront
+    ∷ answer 54 (solved_with f100 f0) (seen_at (bits 0x4049_fe00_0000_0000)) in_front
     ∷ []
 
 abbrev round_zero_replies : List Reply
@@ -68,7 +68,7 @@ round_one_replies =
 -- Its score is 1 + 0.25 × 0.05² + 0.25 × 2 × 0.0625², rounded.
 abbrev round_two : List Call
 round_two =
-    (next 54 ∷ seed 54 ∷ counts ∷ answer 54 (solved_with f100 (bits 0x3fb9_9999_9999_999a)) (seen_at (bits 0x4049_8000_0000_0000)) inFront ∷ [])
+    (next 54 ∷ seed 54 ∷ counts ∷ answer 54 (solved_with f100 (bits 0x3fb9_9999_9999_999a)) (seen_at (bits 0x4049_8000_0000_0000)) in_front ∷ [])
     ++ failed 54 ++ failed 54 ++ failed 54 ++ failed 54 ++ failed 54 ++ failed 54 ++ failed 54 ++ failed 54
     ++ (next 54 ∷ answer 54 Failed [] [] ∷ ask ∷ counts ∷ [])
 

@@ -39,8 +39,8 @@ solved_with fx p1 = Solved (record { k = record { fx = fx; fy = f100; cx = f50; 
 abbrev pub seen_at : Float → List Float
 seen_at u = f0 ∷ f0 ∷ u ∷ f50 ∷ []
 
-abbrev pub inFront : List ℕ
-inFront = 1 ∷ []
+abbrev pub in_front : List ℕ
+in_front = 1 ∷ []
 
 -- Next, and then an answer
 abbrev pub turn : ℕ → Finding → List Float → List ℕ → List Call

@@ -7,19 +7,19 @@ use Rattle.float.specs.Literals.{infinity}
 use Rattle.float.specs.Float.{abs_of, is_finite}
 
 -- ---- what lies between the infinities
-pub below-infinity : (x : Float) → lt (neg infinity) x ≡ true → lt x infinity ≡ is_finite x
+pub below_infinity : (x : Float) → lt (neg infinity) x ≡ true → lt x infinity ≡ is_finite x
 unfolding lt neg div of_bits is_finite
-below-infinity nan h = refl
-below-infinity (inf true) h = absurd (true≢false (sym h))
-below-infinity (inf false) h = refl
-below-infinity (fin s m e) h = refl
+below_infinity nan h = refl
+below_infinity (inf true) h = absurd (true≢false (sym h))
+below_infinity (inf false) h = refl
+below_infinity (fin s m e) h = refl
 
-pub above-infinity : (x : Float) → lt (neg infinity) x ≡ false → lt (neg infinity) x ≡ is_finite x
+pub above_infinity : (x : Float) → lt (neg infinity) x ≡ false → lt (neg infinity) x ≡ is_finite x
 unfolding lt neg div of_bits is_finite
-above-infinity nan h = refl
-above-infinity (inf true) h = refl
-above-infinity (inf false) h = absurd (true≢false h)
-above-infinity (fin s m e) h = absurd (true≢false h)
+above_infinity nan h = refl
+above_infinity (inf true) h = refl
+above_infinity (inf false) h = absurd (true≢false h)
+above_infinity (fin s m e) h = absurd (true≢false h)
 
 -- ---- what is at most a number in size is a number
 pub finite_within : (x m : Float) → is_finite m ≡ true → le (abs_of x) m ≡ true → is_finite x ≡ true

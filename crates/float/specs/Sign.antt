@@ -79,15 +79,15 @@ abs_cond : (c : Bool) (x y : Float) → abs_of (cond c x y) ≡ cond c (abs_of x
 abs_cond true x y = refl
 abs_cond false x y = refl
 
-abs-inf : (s : Bool) → abs_of (inf s) ≡ inf false
+abs_inf : (s : Bool) → abs_of (inf s) ≡ inf false
 unfolding abs_of
-abs-inf s = refl
+abs_inf s = refl
 
 abs_units : (f : Format) (s : Bool) (q k : ℕ) → abs_of (units f s q k) ≡ units f false q k
 unfolding units
 abs_units f s q k =
     let c = ltb (q * 2 ^ k) (2 ^ (low f + suc (emax f))) in
-    abs_cond c (odd (suc (prec f)) s q k (low f)) (inf s) ∙ (λ i. cond c (abs_odd (suc (prec f)) s q k (low f) i) (abs-inf s i))
+    abs_cond c (odd (suc (prec f)) s q k (low f)) (inf s) ∙ (λ i. cond c (abs_odd (suc (prec f)) s q k (low f) i) (abs_inf s i))
 
 pub abs_round : (f : Format) (s : Bool) (a c : ℕ) → abs_of (round f s a c) ≡ round f false a c
 unfolding round
@@ -111,12 +111,12 @@ unfolding sub add neg
 abs_sub_neg f nan y = refl
 abs_sub_neg f (inf s) nan = refl
 abs_sub_neg f (inf true) (inf true) = refl
-abs_sub_neg f (inf true) (inf false) = abs-inf false ∙ sym (abs-inf true)
-abs_sub_neg f (inf false) (inf true) = abs-inf true ∙ sym (abs-inf false)
+abs_sub_neg f (inf true) (inf false) = abs_inf false ∙ sym (abs_inf true)
+abs_sub_neg f (inf false) (inf true) = abs_inf true ∙ sym (abs_inf false)
 abs_sub_neg f (inf false) (inf false) = refl
-abs_sub_neg f (inf s) (fin t n d) = abs-inf (not s) ∙ sym (abs-inf s)
+abs_sub_neg f (inf s) (fin t n d) = abs_inf (not s) ∙ sym (abs_inf s)
 abs_sub_neg f (fin s m e) nan = refl
-abs_sub_neg f (fin s m e) (inf t) = abs-inf (not (not t)) ∙ sym (abs-inf (not t))
+abs_sub_neg f (fin s m e) (inf t) = abs_inf (not (not t)) ∙ sym (abs_inf (not t))
 abs_sub_neg f (fin s m e) (fin t n d) =
     let a = m * up e * down d in
     let b = n * up d * down e in

@@ -27,31 +27,31 @@ add_nan f (inf s) = refl
 add_nan f (fin s m e) = refl
 
 -- ---- a finite product's factors and a finite sum's terms are finite
-nan-or-inf : (c : Bool) (s : Bool) → is_finite (cond c nan (inf s)) ≡ false
+nan_or_inf : (c : Bool) (s : Bool) → is_finite (cond c nan (inf s)) ≡ false
 unfolding is_finite
-nan-or-inf true s = refl
-nan-or-inf false s = refl
+nan_or_inf true s = refl
+nan_or_inf false s = refl
 
 pub finite_factors : (f : Format) (x y : Float) → is_finite (mul f x y) ≡ true → (is_finite x ≡ true) × (is_finite y ≡ true)
 unfolding mul is_finite
 finite_factors f nan y h = absurd (true≢false (sym h))
 finite_factors f (inf s) nan h = absurd (true≢false (sym h))
 finite_factors f (inf s) (inf t) h = absurd (true≢false (sym h))
-finite_factors f (inf s) (fin t n d) h = absurd (true≢false (sym h ∙ nan-or-inf (eqb n 0) (unlike s t)))
+finite_factors f (inf s) (fin t n d) h = absurd (true≢false (sym h ∙ nan_or_inf (eqb n 0) (unlike s t)))
 finite_factors f (fin s m e) nan h = absurd (true≢false (sym h))
-finite_factors f (fin s m e) (inf t) h = absurd (true≢false (sym h ∙ nan-or-inf (eqb m 0) (unlike s t)))
+finite_factors f (fin s m e) (inf t) h = absurd (true≢false (sym h ∙ nan_or_inf (eqb m 0) (unlike s t)))
 finite_factors f (fin s m e) (fin t n d) h = (refl, refl)
 
-inf-or-nan : (c : Bool) (s : Bool) → is_finite (cond c (inf s) nan) ≡ false
+inf_or_nan : (c : Bool) (s : Bool) → is_finite (cond c (inf s) nan) ≡ false
 unfolding is_finite
-inf-or-nan true s = refl
-inf-or-nan false s = refl
+inf_or_nan true s = refl
+inf_or_nan false s = refl
 
 pub finite_terms : (f : Format) (x y : Float) → is_finite (add f x y) ≡ true → (is_finite x ≡ true) × (is_finite y ≡ true)
 unfolding add is_finite
 finite_terms f nan y h = absurd (true≢false (sym h))
 finite_terms f (inf s) nan h = absurd (true≢false (sym h))
-finite_terms f (inf s) (inf t) h = absurd (true≢false (sym h ∙ inf-or-nan (beq s t) s))
+finite_terms f (inf s) (inf t) h = absurd (true≢false (sym h ∙ inf_or_nan (beq s t) s))
 finite_terms f (inf s) (fin t n d) h = absurd (true≢false (sym h))
 finite_terms f (fin s m e) nan h = absurd (true≢false (sym h))
 finite_terms f (fin s m e) (inf t) h = absurd (true≢false (sym h))

@@ -10,7 +10,7 @@ use Rattle.float.specs.Sign.{abs_round}
 use Rattle.float.specs.Zero.{finite_terms}
 use Rattle.float_laws.specs.Fraction.{Fraction, ◌⊕◌, opposite, Near, near_sym, near_trans}
 use Rattle.float_laws.specs.Rounded.{Number, number, number_of, value, Rounds, sub_rounds}
-use Rattle.float_laws.specs.Reaches.{Reaches, reaches, Below, below_finite, rounds-in-order}
+use Rattle.float_laws.specs.Reaches.{Reaches, reaches, Below, below_finite, rounds_in_order}
 
 -- ---- where a difference is a number, so are both values
 finite_neg : (x : Float) → is_finite (neg x) ≡ is_finite x
@@ -50,7 +50,7 @@ module _ (a c : ℕ) (o : 0 < c) (x y : Fraction) (p : 0 < x.den) (q : 0 < y.den
   near h =
       let w = x.den * y.den in
       let l : lt (round binary64 false r.num w) (round binary64 false a c) ≡ true = rw (size_of r, abs_round binary64 false a c) at h in
-      let b : r.num * c < a * w = lt_of_not-le (λ (k : a * w ≤ r.num * c). true≢false (sym l ∙ rounds-in-order binary64 r.num w a c (mul-pos p q) o k)) in
+      let b : r.num * c < a * w = lt_of_not-le (λ (k : a * w ≤ r.num * c). true≢false (sym l ∙ rounds_in_order binary64 r.num w a c (mul-pos p q) o k)) in
       let f = distance_at_most r.num (x ⊕ opposite y).plus (x ⊕ opposite y).minus (a * w) c r.sign r.exact (le_of_lt b) in
       record { high = rw (add_comm (y.plus * x.den) (x.minus * y.den)) f.0; low = rw (add_comm (y.plus * x.den) (x.minus * y.den), mul_comm y.den x.den) f.1 }
 
@@ -61,7 +61,7 @@ module _ (a c : ℕ) (o : 0 < c) (x y : Fraction) (p : 0 < x.den) (q : 0 < y.den
       let h = rw (add_comm (y.plus * x.den) (x.minus * y.den), mul_comm y.den x.den) at n.low in
       reaches (round binary64 false a c) d
       (rw (abs_round binary64 false a c, size_of r)
-      (rounds-in-order binary64 a c r.num w o (mul-pos p q) (at_most_distance r.num (x ⊕ opposite y).plus (x ⊕ opposite y).minus (a * w) c r.sign r.exact g h)))
+      (rounds_in_order binary64 a c r.num w o (mul-pos p q) (at_most_distance r.num (x ⊕ opposite y).plus (x ⊕ opposite y).minus (a * w) c r.sign r.exact g h)))
 
 -- ---- three values
 pub apart : (a c : ℕ) → 0 < c → (x y z : Float) → Below (sub binary64 x z) (round binary64 false a c) → Below (sub binary64 y z) (round binary64 false a c)

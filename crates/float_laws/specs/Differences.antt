@@ -8,14 +8,14 @@ use Rattle.std.specs.Float.Ieee.Fits.{down_pos}
 use Rattle.float.specs.Float.{abs_of}
 use Rattle.float_laws.specs.Fraction.{Fraction, near_sym, ring}
 use Rattle.float_laws.specs.Rounded.{Within, within, Rounds, sub_rounds}
-use Rattle.float_laws.specs.Reaches.{rounds-in-order}
+use Rattle.float_laws.specs.Reaches.{rounds_in_order}
 use Rattle.float_laws.specs.Apart.{distance, size_of}
 use Rattle.float_laws.specs.Exceeds.{Exceeds, near_exceeds}
 
 -- ---- the exact value, plus less minus over den, is at least p / q in size
 module _ {x : Float} {y : Fraction} (r : Rounds x y) (some : 0 < y.den) (p q : ℕ) (o : 0 < q) where
   num_not_below : p * y.den ≤ r.num * q → lt (abs_of x) (round binary64 false p q) ≡ false
-  num_not_below h = ap (λ (z : Float). lt z (round binary64 false p q)) (size_of r) ∙ rounds-in-order binary64 r.num y.den p q some o h
+  num_not_below h = ap (λ (z : Float). lt z (round binary64 false p q)) (size_of r) ∙ rounds_in_order binary64 r.num y.den p q some o h
 
   -- with a minus
   pub minus_not_below : q * y.plus + p * y.den ≤ q * y.minus → lt (abs_of x) (round binary64 false p q) ≡ false

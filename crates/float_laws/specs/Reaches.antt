@@ -104,11 +104,11 @@ reaches_neg : (x b : Float) → Reaches x b → Reaches x (neg b)
 reaches_neg x b h = reaches x (neg b) (rw (abs_neg b) (not_below x b h))
 
 -- ---- a rounded fraction
-pub rounds-in-order : (f : Format) (a c b d : ℕ) → 0 < c → 0 < d → b * c ≤ a * d → lt (round f false a c) (round f false b d) ≡ false
-rounds-in-order f a c b d p q h = le_not_lt (round f false b d) (round f false a c) (is_true (le (round f false b d) (round f false a c)) (round_mono f b d a c q p h))
+pub rounds_in_order : (f : Format) (a c b d : ℕ) → 0 < c → 0 < d → b * c ≤ a * d → lt (round f false a c) (round f false b d) ≡ false
+rounds_in_order f a c b d p q h = le_not_lt (round f false b d) (round f false a c) (is_true (le (round f false b d) (round f false a c)) (round_mono f b d a c q p h))
 
 pub round_reaches : (f : Format) (s t : Bool) (a c b d : ℕ) → 0 < c → 0 < d → b * c ≤ a * d → Reaches (round f s a c) (round f t b d)
-round_reaches f s t a c b d p q h = reaches (round f s a c) (round f t b d) (rw (abs_round f s a c, abs_round f t b d) (rounds-in-order f a c b d p q h))
+round_reaches f s t a c b d p q h = reaches (round f s a c) (round f t b d) (rw (abs_round f s a c, abs_round f t b d) (rounds_in_order f a c b d p q h))
 
 -- ---- products
 pub mul_reaches : (f : Format) (x y b c : Float) → Reaches x b → Reaches y c → Reaches (mul f x y) (mul f b c)

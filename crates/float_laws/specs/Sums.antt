@@ -16,7 +16,7 @@ use Rattle.float.specs.Exact.{round_own}
 use Rattle.float.specs.Order.{lt_irrefl, lt_neg}
 use Rattle.float.specs.Literals.{plus_zero}
 use Rattle.float.specs.Sign.{sign_round, abs_round, lt_zero, fits_zero}
-use Rattle.float_laws.specs.Reaches.{rounds-in-order}
+use Rattle.float_laws.specs.Reaches.{rounds_in_order}
 use Rattle.float_laws.specs.NotBelow.{not_below_trans, nan_not_below, plus_not_below_minus}
 
 -- ---- NaN in a term is NaN in the sum
@@ -90,10 +90,10 @@ round_neg a c = minus_neg (round binary64 true a c) (sign_round binary64 true a 
 
 sum_plus : (t : Bool) (a b c : ℕ) → 0 < c → lt (sum binary64 false a t b c) (round binary64 t b c) ≡ false
 unfolding sum
-sum_plus false a b c p = rounds-in-order binary64 (a + b) c b c p p (mul-le-mul_right c (omega arith))
+sum_plus false a b c p = rounds_in_order binary64 (a + b) c b c p p (mul-le-mul_right c (omega arith))
 sum_plus true a b c p =
     case (ltb a b)
-    (λ l. rw (l, round_neg (b - a) c, round_neg b c) (lt_neg (round binary64 false (b - a) c) (round binary64 false b c) ∙ rounds-in-order binary64 b c (b - a) c p p (mul-le-mul_right c (omega arith))))
+    (λ l. rw (l, round_neg (b - a) c, round_neg b c) (lt_neg (round binary64 false (b - a) c) (round binary64 false b c) ∙ rounds_in_order binary64 b c (b - a) c p p (mul-le-mul_right c (omega arith))))
     (λ l. rw l (plus_not_below_minus (round binary64 false (a - b) c) (round binary64 true b c) (sign_round binary64 false (a - b) c) (sign_round binary64 true b c)))
 
 -- and −0 as the first

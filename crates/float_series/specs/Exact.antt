@@ -22,8 +22,8 @@ square_at_most {x} a = record {
   small = rw (size_times x x) (rw (mul-mul-mul_comm 2 (size x) 2 (size x)) at (mul-le-mul a.small a.small));
 }
 
-size-inverse : (n : ℕ) → size (inverse n) ≡ 1
-size-inverse n = go (negative n)
+size_inverse : (n : ℕ) → size (inverse n) ≡ 1
+size_inverse n = go (negative n)
   where
     go : (s : Bool) → cond s 0 1 + cond s 1 0 ≡ 1
     go true = refl
@@ -49,13 +49,13 @@ factorial_grows n = le_trans (once n (factorial n)) (once (suc n) (suc n * facto
 
 pub nested_shrinks : (x : Fraction) → AtMost 2 x → (j n : ℕ) → Shrinks n (nested x j n)
 unfolding nested
-nested_shrinks x a zero n = record { some = factorial_pos n; small = rw (size-inverse n) (omega arith) }
+nested_shrinks x a zero n = record { some = factorial_pos n; small = rw (size_inverse n) (omega arith) }
 nested_shrinks x a (suc j) n = next (nested x j (suc (suc n))) (x ⊗ x) (nested_shrinks x a j (suc (suc n))) (square_at_most a)
   where
     next : (y q : Fraction) → Shrinks (suc (suc n)) y → AtMost 4 q → Shrinks n ((y ⊗ q) ⊕ inverse n)
     next y q u v = record {
       some = mul-pos (mul-pos u.some v.some) (factorial_pos n);
-      small = rw (size_plus (y ⊗ q) (inverse n), size-inverse n, size_times y q) (shrink (size y) y.den (size q) q.den (factorial n) (factorial (suc (suc n))) u.small v.small (factorial_grows n));
+      small = rw (size_plus (y ⊗ q) (inverse n), size_inverse n, size_times y q) (shrink (size y) y.den (size q) q.den (factorial n) (factorial (suc (suc n))) u.small v.small (factorial_grows n));
     }
 
 pub nested_small : (x : Fraction) → AtMost 2 x → (j n : ℕ) → Small (nested x j n)

@@ -91,8 +91,8 @@ module _ (s : List ℕ) (at : ℕ) where
       not_so b f t = rw (lt-ltb at (length s) h, can_so, begins_so b f, t)
 
       -- the place behind the line lies in the journal
-      pub in-journal : (b : Bool) → b ≡ begins (take n m) (drop at s) → b ≡ true → at + n ≤ length s
-      in-journal b f t =
+      pub in_journal : (b : Bool) → b ≡ begins (take n m) (drop at s) → b ≡ true → at + n ≤ length s
+      in_journal b f t =
           let w = line_bytes (unchecked_line (drop at s)) in
           let p = begins_is w (drop at s) (begins_so b f ∙ t) in
           let q : n ≡ length w = d.long ∙ ap (λ (k : Line). length (line_bytes k)) e in

@@ -47,9 +47,9 @@ unfolding rest_of_line
 ends_with a b fs = ap (λ (r : List ℕ). 44 ∷ b ∷ r) (rest_of_commas fs [])
 
 module _ (at w : ℕ) (b : ℕ) (fs : List (List ℕ)) (k : length (comma_fields fs) ≡ w) (o o₁ o₂ o₃ o₄ : List ℕ) where
-  letter-stored : Stored o at (44 ∷ []) o₁ → Stored o₁ (at + 1) (b ∷ []) o₂ → Stored o₂ (at + 2) (comma_fields fs) o₃ → Stored o₃ (at + (2 + w)) (10 ∷ []) o₄
+  letter_stored : Stored o at (44 ∷ []) o₁ → Stored o₁ (at + 1) (b ∷ []) o₂ → Stored o₂ (at + 2) (comma_fields fs) o₃ → Stored o₃ (at + (2 + w)) (10 ∷ []) o₄
       → (length (rest_of_line ((b ∷ []) ∷ (fs ++ []))) ≡ 3 + w) × Stored o at (rest_of_line ((b ∷ []) ∷ (fs ++ []))) o₄
-  letter-stored p q r s =
+  letter_stored p q r s =
       let t = stored_then (44 ∷ []) (b ∷ []) o o₁ o₂ at (at + 1) p q refl in
       let u = stored_then (44 ∷ b ∷ []) (comma_fields fs) o o₂ o₃ at (at + 2) t r refl in
       let v = stored_then ((44 ∷ b ∷ []) ++ comma_fields fs) (10 ∷ []) o o₃ o₄ at (at + (2 + w)) u s (omega arith) in (
@@ -63,7 +63,7 @@ module _ (at : ℕ) (o o₁ o₂ o₃ o₄ : List ℕ) (out : Recorded) where
       → (at + 139 ≡ at + length (rest_of_line (outcome_fields out))) × Stored o at (rest_of_line (outcome_fields out)) o₄
   unfolding outcome_fields
   scored_stored r xs e f p q s t =
-      let z = letter-stored at 136 83 (map real (eight r)) (comma_fields_length (eight r)) o o₁ o₂ o₃ o₄ p q (rw f at s) t in
+      let z = letter_stored at 136 83 (map real (eight r)) (comma_fields_length (eight r)) o o₁ o₂ o₃ o₄ p q (rw f at s) t in
       rw e (omega (arith, z.0), z.1)
 
   pub skipped_stored : (n b : ℕ) → out ≡ Skipped n → b ≡ reason_letter n
@@ -71,7 +71,7 @@ module _ (at : ℕ) (o o₁ o₂ o₃ o₄ : List ℕ) (out : Recorded) where
       → (at + 19 ≡ at + length (rest_of_line (outcome_fields out))) × Stored o at (rest_of_line (outcome_fields out)) o₄
   unfolding outcome_fields comma_fields
   skipped_stored n b e f p q s t =
-      let z = letter-stored at 16 (reason_letter n) (replicate 8 (45 ∷ [])) refl o o₁ o₂ o₃ o₄ p (rw f at q) s t in
+      let z = letter_stored at 16 (reason_letter n) (replicate 8 (45 ∷ [])) refl o o₁ o₂ o₃ o₄ p (rw f at q) s t in
       rw e (omega (arith, z.0), z.1)
 
 -- ---- the whole line

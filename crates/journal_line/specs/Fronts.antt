@@ -16,7 +16,7 @@ use Rattle.journal_line.specs.declared.Read.{Read}
 use Rattle.journal_line.specs.declared.Read.TheVariants.{Got, End, Refused}
 use Rattle.journal_line.specs.Line.{line_bytes, LineFits, Writable, journal_bytes}
 use Rattle.journal_line.specs.Reading.{newlines, read_line, Ending, ended, refused, unread, Lines, goes_on, read_all, read_journal}
-use Rattle.journal_line.specs.Unique.{Correct, read_correct, line_bounds, line-injective}
+use Rattle.journal_line.specs.Unique.{Correct, read_correct, line_bounds, line_injective}
 use Rattle.journal_line.specs.Numbers.{newlines_append, line_newlines, cut_line}
 use Rattle.journal_line.specs.Whole.{whole_stops}
 
@@ -34,8 +34,8 @@ pub record Front (s : List ℕ) (r : Lines) : Type 0 where
   pub at_end : r.ending ≡ ended → rest ≡ []
   pub before_end : (k : ℕ) → r.ending ≡ refused k → rest ≡ [] → ⊥
 
-no-line-in-nothing : NoLine []
-no-line-in-nothing l rest ok can e = let b = line_bounds l can in omega (arith, ap length e, length-append (line_bytes l) rest)
+no_line_in_nothing : NoLine []
+no_line_in_nothing l rest ok can e = let b = line_bounds l can in omega (arith, ap length e, length-append (line_bytes l) rest)
 
 read_front : (n : ℕ) (s : List ℕ) (at : ℕ) → Front (drop at s) (read_all n s at)
 unfolding read_all goes_on journal_bytes
@@ -56,7 +56,7 @@ read_front (suc n) s at = one (read_line s at) (read_correct s at) (read_front n
       can_be_written = tt;
       rest = [];
       bytes_are = drop_of_length-le s t;
-      none_there = λ h. no-line-in-nothing;
+      none_there = λ h. no_line_in_nothing;
       at_end = λ h. refl;
       before_end = λ k h e. let z : ◌≡◌ {A = ℕ} 0 1 = cc in omega arith;
     }
@@ -101,7 +101,7 @@ fronts_agree [] ms r q f c g d n e = record { more = ms; lines_are = refl; rest_
 fronts_agree (l ∷ ls) [] r q f c g d n e = absurd (n l (journal_bytes ls ++ r) f.0 c.0 (sym e ∙ append_assoc (line_bytes l) (journal_bytes ls) r))
 fronts_agree (l ∷ ls) (m ∷ ms) r q f c g d n e =
     let p : line_bytes l ++ (journal_bytes ls ++ r) ≡ line_bytes m ++ (journal_bytes ms ++ q) = sym (append_assoc (line_bytes l) (journal_bytes ls) r) ∙ e ∙ append_assoc (line_bytes m) (journal_bytes ms) q in
-    let h = line-injective l m f.0 c.0 g.0 d.0 (journal_bytes ls ++ r) (journal_bytes ms ++ q) p in
+    let h = line_injective l m f.0 c.0 g.0 d.0 (journal_bytes ls ++ r) (journal_bytes ms ++ q) p in
     let t = fronts_agree ls ms r q f.1 c.1 g.1 d.1 n h.1 in
     record { more = t.more; lines_are = ap₂ (λ (k : Line) (ks : List Line). k ∷ ks) (sym h.0) t.lines_are; rest_is = t.rest_is }
 

@@ -69,9 +69,9 @@ decimal_injective n m h k s t e =
     let p : n ≡ m = sym (number_back n (omega arith) s) ∙ ap₂ (number_at 10) w e ∙ number_back m (omega arith) t in
     (p, sym (past_comma (decimal n) s (decimal_width n) (decimal_length n)) ∙ ap₂ (λ (v : ℕ) (r : List ℕ). drop (v + 1) r) w e ∙ past_comma (decimal m) t (decimal_width m) (decimal_length m))
 
-pub report-injective : (c d : Counts) → total c ≤ 656 → total d ≤ 656 → report_bytes c ≡ report_bytes d → c ≡ d
+pub report_injective : (c d : Counts) → total c ≤ 656 → total d ≤ 656 → report_bytes c ≡ report_bytes d → c ≡ d
 unfolding report_bytes rest_of_line
-report-injective c d h k e =
+report_injective c d h k e =
     let a = all_small c h in
     let b = all_small d k in
     let p₀ = decimal_injective c.scored d.scored a.0 b.0 _ _ e in

@@ -8,8 +8,8 @@ use Rattle.journal_line.specs.declared.Read.TheVariants.{Got}
 use Rattle.journal_line.specs.Line.{line_bytes, LineFits, Writable, journal_bytes}
 use Rattle.journal_line.specs.Reading.{newlines, line_number_of, read_line, ended, refused, unread, read_journal}
 use Rattle.journal_line.specs.Report.{total, report_bytes}
-use Rattle.journal_line.specs.ReportLaws.{report_front, report_is, no_newline_before, report_bounds, report-injective}
-use Rattle.journal_line.specs.Unique.{LineAt, Correct, read_correct, line_bounds, line-injective, one_reading, one_line}
+use Rattle.journal_line.specs.ReportLaws.{report_front, report_is, no_newline_before, report_bounds, report_injective}
+use Rattle.journal_line.specs.Unique.{LineAt, Correct, read_correct, line_bounds, line_injective, one_reading, one_line}
 use Rattle.journal_line.specs.Whole.{Written, whole_reading, whole_lines, whole_stops}
 use Rattle.journal_line.specs.Numbers.{cut_line, whole_numbered, line_numbers}
 
@@ -40,7 +40,7 @@ journal_is_exact = record {
   read_as_written = one_reading;
   written_as_read = one_line;
   each_answer = read_correct;
-  no_two_alike = line-injective;
+  no_two_alike = line_injective;
   short = line_bounds;
   all_read = whole_reading;
   all_written = whole_lines;
@@ -61,4 +61,4 @@ pub record ReportIsExact : Type 0 where
   pub no_two_alike : (c d : Counts) → total c ≤ 656 → total d ≤ 656 → report_bytes c ≡ report_bytes d → c ≡ d
 
 pub report_is_exact : ReportIsExact
-report_is_exact = record { short = report_bounds; ends = report_is; no_other = no_newline_before; no_two_alike = report-injective }
+report_is_exact = record { short = report_bounds; ends = report_is; no_other = no_newline_before; no_two_alike = report_injective }

@@ -158,8 +158,8 @@ line_bounds l can =
 
 -- ---- each line has one reading
 -- no line's bytes begin another's
-pub line-injective : (l m : Line) → LineFits l → Writable l → LineFits m → Writable m → (s t : List ℕ) → line_bytes l ++ s ≡ line_bytes m ++ t → (l ≡ m) × (s ≡ t)
-line-injective l m a b c d s t e =
+pub line_injective : (l m : Line) → LineFits l → Writable l → LineFits m → Writable m → (s t : List ℕ) → line_bytes l ++ s ≡ line_bytes m ++ t → (l ≡ m) × (s ≡ t)
+line_injective l m a b c d s t e =
     let p : l ≡ m = sym (unchecked_back l a b s) ∙ ap unchecked_line e ∙ unchecked_back m c d t in
     (p, sym (drop-append_seam (line_bytes l) s) ∙ ap₂ (λ (k : Line) (r : List ℕ). drop (length (line_bytes k)) r) p e ∙ drop-append_seam (line_bytes m) t)
 

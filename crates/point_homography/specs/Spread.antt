@@ -171,9 +171,9 @@ unfolding collinear_of degenerate mean_distance centroid_of fold_points root add
 two_points = (refl, refl)
 
 -- (0, 0), (0.0015, 0), (0, 0.0015)
-pub three-points :
+pub three_points :
     let a = of_bits binary64 0x3f58_9374_bc6a_7efa in
     let s = plus_zero ∷ plus_zero ∷ a ∷ plus_zero ∷ plus_zero ∷ a ∷ [] in
     (collinear_of s ≡ false) × (le (mean_distance (centroid_of s) s) (of_bits binary64 0x3f60_0000_0000_0000) ≡ true)
 unfolding collinear_of along off_line find_point mean_distance centroid_of fold_points root add sub mul div of_int of_bits lt le eq abs_of
-three-points = (refl, refl)
+three_points = (refl, refl)

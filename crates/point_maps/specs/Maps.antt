@@ -4,7 +4,7 @@ use Rattle.common.specs.Refusal.{◌when◌, first_refusal}
 use Rattle.camera_models.specs.declared.math.Pt2.{Pt2}
 use Rattle.camera_models.specs.declared.intrinsics.FxFyCxCy.{FxFyCxCy}
 use Rattle.camera_models.specs.Intrinsics.{pixel_to_sensor, sensor_to_pixel}
-use Rattle.camera_tilt.specs.Matrix.{Matrix, inverseOf}
+use Rattle.camera_tilt.specs.Matrix.{Matrix, inverse_of}
 use Rattle.camera_tilt.specs.Sensor.{is_singular, apply_homography_inverse}
 use Rattle.point_normalise.specs.Points.{bad_length}
 use Rattle.camera_undistort.specs.Undistortion.{undistorted}
@@ -46,4 +46,4 @@ unfoldable pub map_reply : Matrix → List Float → List Float → Mapped
 map_reply h points to = let n = refusal_of h (length points) (length to) in cond (eqb n 0) Done (Refused n)
 
 unfoldable pub map_destination : FxFyCxCy → Lens → Matrix → List Float → List Float → List Float
-map_destination k lens h points to = cond (eqb (refusal_of h (length points) (length to)) 0) (written (mapped_point k lens (inverseOf h)) points to) to
+map_destination k lens h points to = cond (eqb (refusal_of h (length points) (length to)) 0) (written (mapped_point k lens (inverse_of h)) points to) to

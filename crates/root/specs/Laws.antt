@@ -18,9 +18,9 @@ pub root_nan : (f : Format) → root f nan ≡ nan
 unfolding root
 root_nan f = refl
 
-pub root-infinity : (f : Format) → root f (inf false) ≡ inf false
+pub root_infinity : (f : Format) → root f (inf false) ≡ inf false
 unfolding root
-root-infinity f = refl
+root_infinity f = refl
 
 -- -0 and +0
 pub root_zero : (f : Format) (s : Bool) (e : ℤ) → root f (fin s zero e) ≡ fin s zero e
@@ -39,9 +39,9 @@ plus_not_below m e = lt_zero false m e
 minus_below : (m : ℕ) (e : ℤ) → lt (fin true (suc m) e) plus_zero ≡ true
 minus_below m e = lt_zero true (suc m) e ∙ ap not (eqb-suc-zero m)
 
-infinity-not-below : lt (inf false) plus_zero ≡ false
+infinity_not_below : lt (inf false) plus_zero ≡ false
 unfolding lt of_bits
-infinity-not-below = refl
+infinity_not_below = refl
 
 -- ---- a rounded root of whole numbers: no NaN, no sign
 
@@ -61,7 +61,7 @@ pub root_negative : (f : Format) (x : Float) → lt x plus_zero ≡ true → roo
 unfolding root
 root_negative f nan h = refl
 root_negative f (inf true) h = refl
-root_negative f (inf false) h = absurd (true≢false (sym h ∙ infinity-not-below))
+root_negative f (inf false) h = absurd (true≢false (sym h ∙ infinity_not_below))
 root_negative f (fin s zero e) h = absurd (true≢false (sym h ∙ zero_not_below s e))
 root_negative f (fin true (suc m) e) h = refl
 root_negative f (fin false (suc m) e) h = absurd (true≢false (sym h ∙ plus_not_below (suc m) e))
@@ -71,10 +71,10 @@ pub root_not_below : (f : Format) (x : Float) → lt (root f x) plus_zero ≡ fa
 unfolding root lt
 root_not_below f nan = refl
 root_not_below f (inf true) = refl
-root_not_below f (inf false) = infinity-not-below
+root_not_below f (inf false) = infinity_not_below
 root_not_below f (fin s zero e) = zero_not_below s e
 root_not_below f (fin true (suc m) e) = refl
-root_not_below f (fin false (suc m) e) = plus (λ (y : Float). lt y plus_zero ≡ false) infinity-not-below plus_not_below f (radicand f (suc m) e)
+root_not_below f (fin false (suc m) e) = plus (λ (y : Float). lt y plus_zero ≡ false) infinity_not_below plus_not_below f (radicand f (suc m) e)
 
 -- and none has a minus where the number has none
 pub sign_root : (f : Format) (x : Float) → sign_bit x ≡ false → sign_bit (root f x) ≡ false

@@ -36,9 +36,9 @@ place l m (negsuc a) h =
 abbrev InUnits : Format → ℕ → ℤ → Type 0
 InUnits f m e = (m < 2 ^ prec f) × (down e ≤ 2 ^ low f) × (m * up e < 2 ^ suc (emax f) * down e)
 
-in-units : (f : Format) (s : Bool) (m : ℕ) (e : ℤ) → T (fits f (fin s (suc m) e)) → InUnits f (suc m) e
+in_units : (f : Format) (s : Bool) (m : ℕ) (e : ℤ) → T (fits f (fin s (suc m) e)) → InUnits f (suc m) e
 unfolding fits
-in-units f s m e h =
+in_units f s m e h =
     let A = eqb (suc m % 2) 1 in
     let B = ltb (suc m) (2 ^ prec f) in
     let C = leb (down e) (2 ^ low f) in
@@ -55,7 +55,7 @@ Placed f x = (c : ℕ) × (j : ℕ) × (c < 2 ^ prec f) × HasValue x false (c *
 placed : (f : Format) (m : ℕ) (e : ℤ) → T (fits f (fin false m e)) → Placed f (fin false m e)
 placed f zero e h = (zero, zero, pow_pos (prec f), (refl, mul_assoc 0 (up e) (2 ^ low f) ∙ zero-mul (up e * 2 ^ low f) ∙ sym (mul_assoc 0 1 (down e) ∙ zero-mul (1 * down e))))
 placed f (suc m) e h =
-    let i = in-units f false m e h in
+    let i = in_units f false m e h in
     let p = place (low f) (suc m) e i.1 in
     (suc m, p.0, i.0, (refl, p.1))
 
@@ -192,8 +192,8 @@ root_fits f (fin false (suc m) e) h = root_of_fits f (suc m * up e * 2 ^ low f /
 -- ---- squares
 
 -- with X / dx = a / l and Y / dy = y / l, and X / dx the square of Y / dy: a / l is the square of y / l
-square-in-units : (X dx Y dy a y l : ℕ) → 0 < dx → 0 < dy → X * l ≡ a * dx → Y * l ≡ y * dy → X * (dy * dy) ≡ Y * Y * dx → a * l ≡ y * y
-square-in-units X dx Y dy a y l DX DY ex ey e =
+square_in_units : (X dx Y dy a y l : ℕ) → 0 < dx → 0 < dy → X * l ≡ a * dx → Y * l ≡ y * dy → X * (dy * dy) ≡ Y * Y * dx → a * l ≡ y * y
+square_in_units X dx Y dy a y l DX DY ex ey e =
     eq_of_mul-eq-mul_right (dx * (dy * dy)) (mul-pos DX (mul-pos DY DY)) (a * l) (y * y)
     (mul-mul-mul_comm a l dx (dy * dy)
     ∙ ap (λ (q : ℕ). q * (l * (dy * dy))) (sym ex)
@@ -232,7 +232,7 @@ module _ (f : Format) (z : ℕ) (a : ℤ) (h : T (fits f (fin false (suc z) a)))
   r = root f x
 
   abbrev inside : InUnits f (suc z) a
-  inside = in-units f false z a h
+  inside = in_units f false z a h
 
   abbrev at : (j : ℕ) × (suc z * up a * 2 ^ low f ≡ suc z * 2 ^ j * down a)
   at = place (low f) (suc z) a inside.1
@@ -307,11 +307,11 @@ module _ (f : Format) (z : ℕ) (a : ℤ) (h : T (fits f (fin false (suc z) a)))
   exact (fin true m d) p g e = absurd p
   exact (fin false zero d) p g e = absurd p
   exact (fin false (suc m) d) p g e =
-      let y = in-units f false m d g in
+      let y = in_units f false m d g in
       let q = place (low f) (suc m) d y.1 in
       let Y = suc m * 2 ^ q.0 in
       let same : radicand f (suc z) a ≡ Y * Y =
-      radicand_is ∙ sym N-is ∙ square-in-units (suc z * up a) (down a) (suc m * up d) (down d) (suc z * 2 ^ j) Y (2 ^ low f) (down_pos a) (down_pos d) at.1 q.1 e in
+      radicand_is ∙ sym N-is ∙ square_in_units (suc z * up a) (down a) (suc m * up d) (down d) (suc z * 2 ^ j) Y (2 ^ low f) (down_pos a) (down_pos d) at.1 q.1 e in
       let v = root_of_square f Y (suc m) q.0 y.0 refl (small_of f (suc m) d q.0 y.2 q.1) in
       value_unique f r (fin false (suc m) d) Y (root_fits f x h) g (subst (λ (n : ℕ). HasValue (root_of f n) false Y (2 ^ low f)) (sym same) v) (refl, q.1)
 

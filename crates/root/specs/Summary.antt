@@ -9,7 +9,7 @@ use Rattle.float.specs.Literals.{plus_zero}
 use Rattle.root.specs.Root.{middle, radicand, root}
 use Rattle.root.specs.Nearer.{Nearer}
 use Rattle.root.specs.Nearest.{root_fits, root_nearest, root_no_tie, root_exact}
-use Rattle.root.specs.Laws.{root_nan, root-infinity, root_zero, root_negative, root_not_below, root_is_nan, root_is_finite}
+use Rattle.root.specs.Laws.{root_nan, root_infinity, root_zero, root_negative, root_not_below, root_is_nan, root_is_finite}
 
 -- `fits f x` says that x is a value of the format f; `positive x` that it is finite and above zero.
 pub record SquareRootOf754 (f : Format) : Type 0 where
@@ -23,7 +23,7 @@ pub record SquareRootOf754 (f : Format) : Type 0 where
   pub exact : (x y : Float) → T (positive x) → T (fits f x) → T (positive y) → T (fits f y) → num x * (den y * den y) ≡ num y * num y * den x → root f x ≡ y
   -- the special values
   pub of_zero : (s : Bool) (e : ℤ) → root f (fin s zero e) ≡ fin s zero e
-  pub of-infinity : root f (inf false) ≡ inf false
+  pub of_infinity : root f (inf false) ≡ inf false
   pub of_nan : root f nan ≡ nan
   pub of_negative : (x : Float) → lt x plus_zero ≡ true → root f x ≡ nan
   -- no root is below zero; it is NaN exactly for NaN and below zero, and finite exactly for what is finite and not below zero
@@ -39,7 +39,7 @@ square_root f =
       no_tie = root_no_tie f;
       exact = root_exact f;
       of_zero = root_zero f;
-      of-infinity = root-infinity f;
+      of_infinity = root_infinity f;
       of_nan = root_nan f;
       of_negative = root_negative f;
       not_below = root_not_below f;

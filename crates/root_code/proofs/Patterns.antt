@@ -102,11 +102,11 @@ module _ (b : ℕ) (p : 0 < b) (h : b < 2 ^ 52) where
   digit_lt : top_digit.0 < 52
   digit_lt = lt_of_not-le (λ (g : 52 ≤ top_digit.0). lt_irrefl b (lt_of_lt_of_le h (le_trans (pow_mono g) top_digit.2)))
 
-  pub lz-in : (12 ≤ lz) × (lz ≤ 63)
-  lz-in = (omega (arith, digit_lt, top_digit.1), omega (arith, top_digit.1))
+  pub lz_in : (12 ≤ lz) × (lz ≤ 63)
+  lz_in = (omega (arith, digit_lt, top_digit.1), omega (arith, top_digit.1))
 
   sum_is : top_digit.0 + (lz - 11) ≡ 52
-  sum_is = omega (arith, top_digit.1, lz-in)
+  sum_is = omega (arith, top_digit.1, lz_in)
 
   pub moved_lo : 2 ^ 52 ≤ b * 2 ^ (lz - 11)
   moved_lo = le_trans (le_of_eq (ap (λ (x : ℕ). 2 ^ x) (sym sum_is) ∙ pow-add 2 top_digit.0 (lz - 11))) (mul-le-mul_right (2 ^ (lz - 11)) top_digit.2)
@@ -120,7 +120,7 @@ module _ (b : ℕ) (p : 0 < b) (h : b < 2 ^ 52) where
   pub root_moved : root_of binary64 (b * 2 ^ (lz - 11) % 2 ^ 64 * 2 ^ (1074 - (lz - 11))) ≡ root binary64 (of_bits binary64 b)
   root_moved =
       ap (λ (x : ℕ). root_of binary64 (x * 2 ^ (1074 - (lz - 11)))) moved_is
-      ∙ ap (root_of binary64) (mul_assoc b (2 ^ (lz - 11)) (2 ^ (1074 - (lz - 11))) ∙ ap (λ (x : ℕ). b * x) (sym (pow-add 2 (lz - 11) (1074 - (lz - 11))) ∙ ap (λ (x : ℕ). 2 ^ x) (back (lz - 11) (omega (arith, lz-in)))))
+      ∙ ap (root_of binary64) (mul_assoc b (2 ^ (lz - 11)) (2 ^ (1074 - (lz - 11))) ∙ ap (λ (x : ℕ). b * x) (sym (pow-add 2 (lz - 11) (1074 - (lz - 11))) ∙ ap (λ (x : ℕ). 2 ^ x) (back (lz - 11) (omega (arith, lz_in)))))
       ∙ sym (root_low b p h)
     where
       back : (z : ℕ) → z ≤ 1074 → z + (1074 - z) ≡ 1074

@@ -52,19 +52,19 @@ pub record Attained (ss : List CandidateSeed) : Type 0 where
   pub listed : Memᴰ seed ss
   pub penalty : counted_penalty seed.sensor ≡ floor_of ss
 
-not-below-infinity : (p : Float) → lt infinity p ≡ false
+not_below_infinity : (p : Float) → lt infinity p ≡ false
 unfolding lt div of_bits
-not-below-infinity nan = refl
-not-below-infinity (inf s) = refl
-not-below-infinity (fin s m e) = refl
+not_below_infinity nan = refl
+not_below_infinity (inf s) = refl
+not_below_infinity (fin s m e) = refl
 
-min-infinity : (p : Float) → is_nan p ≡ false → min_of p infinity ≡ p
+min_infinity : (p : Float) → is_nan p ≡ false → min_of p infinity ≡ p
 unfolding min_of
-min-infinity p n = rw (n, not-below-infinity p)
+min_infinity p n = rw (n, not_below_infinity p)
 
 pub floor_attained : (s : CandidateSeed) (ss : List CandidateSeed) → Attained (s ∷ ss)
 unfolding floor_of
-floor_attained s [] = record { seed = s; listed = Memᴰ.head refl; penalty = sym (min-infinity (counted_penalty s.sensor) (counted_number s.sensor)) }
+floor_attained s [] = record { seed = s; listed = Memᴰ.head refl; penalty = sym (min_infinity (counted_penalty s.sensor) (counted_number s.sensor)) }
 floor_attained s (t ∷ ss) =
     ⊎_elim
     (λ e. record { seed = s; listed = Memᴰ.head refl; penalty = sym e })

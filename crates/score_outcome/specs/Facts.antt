@@ -12,7 +12,7 @@ use Rattle.camera_tilt.specs.declared.sensor.ScheimpflugParams.{ScheimpflugParam
 use Rattle.score_camera.specs.Camera.{tangential_bound, damped, damped_camera, finite_intrinsics, finite_distortion, valid_camera}
 use Rattle.score_camera.specs.Penalties.{score_of}
 use Rattle.score_outcome.specs.Evaluation.{solved_at, mean_with, enough_with, scoring_of, evaluated, outcome_of}
-use Rattle.score_outcome.specs.Outcomes.{never, invalid-skips, few_skips, infinite-skips, nan_skips, number_scores, scored_passed}
+use Rattle.score_outcome.specs.Outcomes.{never, invalid_skips, few_skips, infinite_skips, nan_skips, number_scores, scored_passed}
 use Rattle.score_outcome.specs.Mean.{mean_unsigned}
 use Rattle.score_outcome.specs.declared.SolvedCamera.{SolvedCamera}
 use Rattle.score_outcome.specs.declared.Scoring.{Scoring}
@@ -97,9 +97,9 @@ solved_reason share s sensor center rows flags n h =
     (λ m. case (is_nan (scoring_of s sensor center rows flags).score)
     (λ k. let q = skipped_same 4 n (sym (nan_skips share s sensor center rows flags v e m k) ∙ h) in (omega arith, omega arith))
     (λ k. absurd (never n (scoring_of s sensor center rows flags) (sym h ∙ number_scores share s sensor center rows flags v e m k))))
-    (λ m. let q = skipped_same 3 n (sym (infinite-skips share s sensor center rows flags v m) ∙ h) in (omega arith, omega arith)))
+    (λ m. let q = skipped_same 3 n (sym (infinite_skips share s sensor center rows flags v m) ∙ h) in (omega arith, omega arith)))
     (λ e. let q = skipped_same 3 n (sym (few_skips share s sensor center rows flags v e) ∙ h) in (omega arith, omega arith)))
-    (λ v. let q = skipped_same 2 n (sym (invalid-skips share s sensor center rows flags v) ∙ h) in (omega arith, omega arith))
+    (λ v. let q = skipped_same 2 n (sym (invalid_skips share s sensor center rows flags v) ∙ h) in (omega arith, omega arith))
 
 -- Reason 1, 2, 3 or 4.
 pub skipped_reason : (share : ℕ) (f : Finding) (sensor : ScheimpflugParams) (center : Pt2) (rows : List Float) (flags : List ℕ) (n : ℕ)

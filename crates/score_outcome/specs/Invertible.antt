@@ -21,6 +21,6 @@ taken_tilts t rows flags h =
     let h3 = (refuses_none (any_above_one flags) 13 _ (omega arith) h2).1 in
     both_false (beyond_half t.tilt_x) (beyond_half t.tilt_y) (refuses_none (beyond_half t.tilt_x || beyond_half t.tilt_y) 27 _ (omega arith) h3).0
 
-pub taken-invertible : (c : PinholeCamera) (t : ScheimpflugParams) (rows : List Float) (flags : List ℕ) → finding_refusal (Solved c) t rows flags ≡ 0 → tilt_verdict (tilt_matrix (trig_of t)) ≡ Invertible
+pub taken_invertible : (c : PinholeCamera) (t : ScheimpflugParams) (rows : List Float) (flags : List ℕ) → finding_refusal (Solved c) t rows flags ≡ 0 → tilt_verdict (tilt_matrix (trig_of t)) ≡ Invertible
 unfolding finding_refusal tilt_matrix trig_of
-taken-invertible c t rows flags h = let k = taken_tilts t rows flags h in never_singular t.tilt_x t.tilt_y k.0 k.1
+taken_invertible c t rows flags h = let k = taken_tilts t rows flags h in never_singular t.tilt_x t.tilt_y k.0 k.1

@@ -29,15 +29,15 @@ sign_sum c h (r ∷ rs) s p =
       | false ↦ sign_sum c h rs s p
     ]
 
-sign-infinity : sign_bit infinity ≡ false
+sign_infinity : sign_bit infinity ≡ false
 unfolding sign_bit div of_bits
-sign-infinity = refl
+sign_infinity = refl
 
 sign_mean : (s : ErrorSum) → sign_bit s.sum ≡ false → sign_bit (mean_of s) ≡ false
 unfolding mean_of
 sign_mean s p =
     elim (eqb s.count 0) as (λ (v : Bool). sign_bit (cond v infinity (s.sum /₆₄ of_int binary64 (pos s.count))) ≡ false) [
-      | true ↦ sign-infinity
+      | true ↦ sign_infinity
       | false ↦ sign_div binary64 s.sum (of_int binary64 (pos s.count)) p (sign_count binary64 s.count)
     ]
 

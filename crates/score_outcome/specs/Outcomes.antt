@@ -22,18 +22,18 @@ pub scored_same : (g k : Scoring) → Scored g ≡ Scored k → g ≡ k
 scored_same g k h = cc
 
 module _ (share : ℕ) (s : SolvedCamera) (sensor : ScheimpflugParams) (center : Pt2) (rows : List Float) (flags : List ℕ) where
-  pub invalid-skips : valid_camera (damped_camera s.camera) ≡ false → evaluated share s sensor center rows flags ≡ Skipped 2
+  pub invalid_skips : valid_camera (damped_camera s.camera) ≡ false → evaluated share s sensor center rows flags ≡ Skipped 2
   unfolding evaluated
-  invalid-skips v = simp v
+  invalid_skips v = simp v
 
   pub few_skips : valid_camera (damped_camera s.camera) ≡ true → enough_with share s rows flags ≡ false → evaluated share s sensor center rows flags ≡ Skipped 3
   unfolding evaluated
   few_skips v e = simp (v, e)
 
   -- whether or not enough of the rows count
-  pub infinite-skips : valid_camera (damped_camera s.camera) ≡ true → is_finite (mean_with s rows flags) ≡ false → evaluated share s sensor center rows flags ≡ Skipped 3
+  pub infinite_skips : valid_camera (damped_camera s.camera) ≡ true → is_finite (mean_with s rows flags) ≡ false → evaluated share s sensor center rows flags ≡ Skipped 3
   unfolding evaluated
-  infinite-skips v f = case (enough_with share s rows flags) (λ e. simp (v, e, f)) (λ e. simp (v, e))
+  infinite_skips v f = case (enough_with share s rows flags) (λ e. simp (v, e, f)) (λ e. simp (v, e))
 
   pub passed_scored : valid_camera (damped_camera s.camera) ≡ true → enough_with share s rows flags ≡ true → is_finite (mean_with s rows flags) ≡ true
       → evaluated share s sensor center rows flags ≡ scored_as (scoring_of s sensor center rows flags)
@@ -66,9 +66,9 @@ module _ (share : ℕ) (s : SolvedCamera) (sensor : ScheimpflugParams) (center :
       (λ f. case (is_nan (scoring_of s sensor center rows flags).score)
       (λ n. absurd (never 4 g (sym (nan_skips v e f n) ∙ h)))
       (λ n. record { valid = v; enough_counted = e; finite = f; number = n; is = scored_same (scoring_of s sensor center rows flags) g (sym (number_scores v e f n) ∙ h) }))
-      (λ f. absurd (never 3 g (sym (infinite-skips v f) ∙ h))))
+      (λ f. absurd (never 3 g (sym (infinite_skips v f) ∙ h))))
       (λ e. absurd (never 3 g (sym (few_skips v e) ∙ h))))
-      (λ v. absurd (never 2 g (sym (invalid-skips v) ∙ h)))
+      (λ v. absurd (never 2 g (sym (invalid_skips v) ∙ h)))
 
 -- the finding as it is scored, from the damped camera, its mean and its score
 pub scoring_is : (s : SolvedCamera) (sensor : ScheimpflugParams) (center : Pt2) (rows : List Float) (flags : List ℕ) (k : PinholeCamera) (mean score : Float)

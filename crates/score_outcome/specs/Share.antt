@@ -12,7 +12,7 @@ use Rattle.camera_tilt.specs.declared.sensor.ScheimpflugParams.{ScheimpflugParam
 use Rattle.score_camera.specs.Camera.{damped_camera, valid_camera}
 use Rattle.score_rows.specs.Rows.{rows_of, counted_errors, summed, error_sum, mean_of}
 use Rattle.score_outcome.specs.Evaluation.{solved_at, errors_with, mean_with, enough, enough_with, scoring_of, scored_as, evaluated, outcome_of}
-use Rattle.score_outcome.specs.Outcomes.{infinite-skips, scored_passed}
+use Rattle.score_outcome.specs.Outcomes.{infinite_skips, scored_passed}
 use Rattle.score_outcome.specs.declared.SolvedCamera.{SolvedCamera}
 use Rattle.score_outcome.specs.declared.Scoring.{Scoring}
 use Rattle.score_outcome.specs.declared.Finding.{Finding}
@@ -59,7 +59,7 @@ no_mean_lem s = refl
 pub no_rows : (share : ℕ) (s : SolvedCamera) (sensor : ScheimpflugParams) (center : Pt2)
     → valid_camera (damped_camera s.camera) ≡ true → (enough_with share s [] [] ≡ true) × (evaluated share s sensor center [] [] ≡ Skipped 3)
 unfolding enough_with
-no_rows share s sensor center v = (no_rows_enough share (errors_with s [] []).count, infinite-skips share s sensor center [] [] v (no_mean_lem s))
+no_rows share s sensor center v = (no_rows_enough share (errors_with s [] []).count, infinite_skips share s sensor center [] [] v (no_mean_lem s))
 
 -- more than 100 per cent is what no rows but none have
 few_of_many : (share counted n : ℕ) → 100 < share → counted ≤ suc n → counted * 100 < share * suc n

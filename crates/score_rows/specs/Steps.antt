@@ -57,9 +57,9 @@ add_all s bits (suc j) = add_error (add_all s bits j) true (of_bits binary64 (sl
 unfoldable pub one_in_front : ℕ → ℕ
 one_in_front flag = cond (flag == 1) 1 0
 
-unfoldable pub inFront : List ℕ → ℕ → ℕ → ℕ
-inFront flags i zero = 0
-inFront flags i (suc j) = inFront flags i j + one_in_front (slice_index flags (i + j))
+unfoldable pub in_front : List ℕ → ℕ → ℕ → ℕ
+in_front flags i zero = 0
+in_front flags i (suc j) = in_front flags i j + one_in_front (slice_index flags (i + j))
 
 -- xs starts with the squares of the errors of n rows from row i on
 abbrev pub Squares : PinholeCamera → Matrix → List Float → ℕ → ℕ → List Float → Type 0
@@ -165,8 +165,8 @@ one_at_most flag = go (flag == 1)
     go true = omega arith
     go false = omega arith
 
-pub front_at_most : (fs : List ℕ) (i n : ℕ) → inFront fs i n ≤ n
-unfolding inFront
+pub front_at_most : (fs : List ℕ) (i n : ℕ) → in_front fs i n ≤ n
+unfolding in_front
 front_at_most fs i zero = omega arith
 front_at_most fs i (suc j) = omega (arith, front_at_most fs i j, one_at_most (slice_index fs (i + j)))
 
@@ -175,11 +175,11 @@ all_step : (v : Bool) (m j : ℕ) → m ≤ j → m + cond v 1 0 ≡ suc j → (
 all_step true m j l e = (refl, omega (arith, e))
 all_step false m j l e = absurd (omega (arith, e))
 
-pub all_bits : (s : ErrorSum) (fs bits : List ℕ) (i n : ℕ) → inFront fs i n ≡ n → add_all s bits n ≡ add_bits s fs bits i n
-unfolding add_all add_bits inFront one_in_front
+pub all_bits : (s : ErrorSum) (fs bits : List ℕ) (i n : ℕ) → in_front fs i n ≡ n → add_all s bits n ≡ add_bits s fs bits i n
+unfolding add_all add_bits in_front one_in_front
 all_bits s fs bits i zero all = refl
 all_bits s fs bits i (suc j) all =
-    let step = all_step (slice_index fs (i + j) == 1) (inFront fs i j) j (front_at_most fs i j) all in
+    let step = all_step (slice_index fs (i + j) == 1) (in_front fs i j) j (front_at_most fs i j) all in
     rw (step.0, all_bits s fs bits i j step.1)
 
 -- none of them: nothing is added
@@ -187,11 +187,11 @@ none_step : (v : Bool) (m : ℕ) → m + cond v 1 0 ≡ 0 → (v ≡ false) × (
 none_step true m e = absurd (omega (arith, e))
 none_step false m e = (refl, omega (arith, e))
 
-pub none_counted : (s : ErrorSum) (c : PinholeCamera) (h : Matrix) (ns : List Float) (fs : List ℕ) (i n : ℕ) → inFront fs i n ≡ 0 → s ≡ add_rows s c h ns fs i n
-unfolding add_rows add_row add_error inFront one_in_front
+pub none_counted : (s : ErrorSum) (c : PinholeCamera) (h : Matrix) (ns : List Float) (fs : List ℕ) (i n : ℕ) → in_front fs i n ≡ 0 → s ≡ add_rows s c h ns fs i n
+unfolding add_rows add_row add_error in_front one_in_front
 none_counted s c h ns fs i zero none = refl
 none_counted s c h ns fs i (suc j) none =
-    let step = none_step (slice_index fs (i + j) == 1) (inFront fs i j) none in
+    let step = none_step (slice_index fs (i + j) == 1) (in_front fs i j) none in
     rw step.0 (none_counted s c h ns fs i j step.1)
 
 -- ---- row by row: s has the errors of the first i rows, and adding those of the rest to it gives the whole

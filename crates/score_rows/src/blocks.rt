@@ -3,7 +3,7 @@
 // camera, its rows are taken one by one.
 
 ghost use Rattle.std.specs.Prelude.{◌≡◌, ◌+◌, ◌*◌, ◌<◌, ◌≤◌, length};
-ghost use Rattle.score_rows.specs.Steps.{add_rows, add_bits, add_all, one_in_front, inFront, Squares, QuickRoots, FiniteBits};
+ghost use Rattle.score_rows.specs.Steps.{add_rows, add_bits, add_all, one_in_front, in_front, Squares, QuickRoots, FiniteBits};
 
 use crate::{ErrorSum, add_rows, square_at, with_error};
 use root_code::quick::{quick_guess, quick_sqrt};
@@ -81,7 +81,7 @@ fn one_in_front(flag: u8) -> u8
 // How many of the n rows from row i on lie in front of the camera.
 fn in_front(flags: &[u8], i: usize, n: usize) -> u8
     requires { (n ≤ 16) × (i + n ≤ length flags.now) }
-    ensures { result ≡ inFront flags.now i n }
+    ensures { result ≡ in_front flags.now i n }
 {
     let mut count: u8 = 0;
     let mut j = 0;

@@ -10,8 +10,8 @@ use Rattle.search_record.specs.Laws.{bounds, open_at, waiting_at, in_list}
 use Rattle.search_calls.specs.Next.{next_refusal, reply_by, next_def, seed_lent}
 use Rattle.search_record.specs.declared.run.Run.{Run}
 
-pub next-in-list : (r : Run) (n : ℕ) → next_refusal r n ≡ 0 → r.place.over ≡ false → 6 * r.place.at + 6 ≤ n
-next-in-list r n h e =
+pub next_in_list : (r : Run) (n : ℕ) → next_refusal r n ≡ 0 → r.place.over ≡ false → 6 * r.place.at + 6 ≤ n
+next_in_list r n h e =
     let p = refuses_none (not (sound r)) 11 _ (omega arith) h in
     let q = refuses_none r.waiting.is_waiting 9 _ (omega arith) p.1 in
     let s = refuses_none (ltb n r.place.demand) 10 _ (omega arith) q.1 in
@@ -36,9 +36,9 @@ next_keeps r l n is h =
     (λ e. case r.place.over (λ o. rw (e, o)) (λ o. absurd (true≢false (rw (e, o) at h))))
     (λ e. rw e))
 
-pub seed-in-list : (r : Run) (n : ℕ) → seed_lent r n ≡ true → 6 * r.place.at + 6 ≤ n
+pub seed_in_list : (r : Run) (n : ℕ) → seed_lent r n ≡ true → 6 * r.place.at + 6 ≤ n
 unfolding seed_lent
-seed-in-list r n h =
+seed_in_list r n h =
     let k = both_true (sound r && r.waiting.is_waiting) (leb r.place.demand n) h in
     let w = both_true (sound r) r.waiting.is_waiting k.0 in
     let b = bounds r w.0 in

@@ -9,7 +9,7 @@ use Rattle.float.specs.Literals.{plus_zero, half₆₄}
 use Rattle.camera_models.specs.declared.math.Pt2.{Pt2}
 use Rattle.camera_models.specs.declared.intrinsics.FxFyCxCy.{FxFyCxCy}
 use Rattle.seed_rules.specs.declared.CandidateSeed.{CandidateSeed}
-use Rattle.seed_rules.specs.Rules.{inBound, untilted_y, initialList}
+use Rattle.seed_rules.specs.Rules.{in_bound, untilted_y, initial_list}
 use Rattle.seed_rules.specs.Layout.{all_seeds, written}
 use Rattle.score_best.specs.Best.{no_best}
 use Rattle.journal_line.specs.Counts.{no_counts}
@@ -33,7 +33,7 @@ good_seed max s =
     && is_finite k.cy
     && is_finite s.sensor.tilt_x
     && is_finite s.sensor.tilt_y
-    && inBound max s.sensor
+    && in_bound max s.sensor
 
 -- 02, E8: the typed y tilts of a one-axis run are a single value, a zero of either sign
 unfoldable pub only_zero : List Float → Bool
@@ -105,7 +105,7 @@ module _ (views : ℕ) (options : Options) (xs ys decomposition : List Float) wh
 
 module _ (views : ℕ) (options : Options) (xs ys decomposition : List Float) (base : FxFyCxCy) (center : Pt2) where
   abbrev pub start_seeds : List CandidateSeed
-  start_seeds = initialList (all_seeds decomposition) xs ys base options.max_abs_tilt
+  start_seeds = initial_list (all_seeds decomposition) xs ys base options.max_abs_tilt
 
   abbrev pub opening : ℕ → Run
   opening n = opening_of options center (start_demand views options xs ys decomposition) n

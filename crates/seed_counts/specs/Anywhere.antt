@@ -79,9 +79,9 @@ nan_moved : (d : Float) → nan +₆₄ d ≡ nan
 unfolding add
 nan_moved d = refl
 
-inf-moved : (r t : Bool) (n : ℕ) (d : ℤ) → inf r +₆₄ fin t n d ≡ inf r
+inf_moved : (r t : Bool) (n : ℕ) (d : ℤ) → inf r +₆₄ fin t n d ≡ inf r
 unfolding add
-inf-moved r t n d = refl
+inf_moved r t n d = refl
 
 far_centre : (max : Float) (r : Bool) (m n : ℕ) (e d : ℤ) → lt half₆₄ max ≡ false → 3 * down e ≤ 4 * (m * up e)
     → TiltsApart (keep (within max) ((fin r m e +₆₄ fin true n d) ∷ (fin r m e +₆₄ fin false 0 (pos 0)) ∷ (fin r m e +₆₄ fin false n d) ∷ []))
@@ -92,7 +92,7 @@ pub offsets_admitted : (max c s : Float) → lt half₆₄ max ≡ false → Ste
 unfolding admitted offsets neg of_bits
 offsets_admitted max nan s h k = first_alone (within max) _ _ _ (rw nan_moved (no_number max)) (rw nan_moved (no_number max))
 offsets_admitted max (inf r) s h (step {n = n} {d = d} l u) =
-    first_alone (within max) _ _ _ (rw (inf-moved r false 0 (pos 0)) (goes max (inf r) h (endless r))) (rw (inf-moved r false n d) (goes max (inf r) h (endless r)))
+    first_alone (within max) _ _ _ (rw (inf_moved r false 0 (pos 0)) (goes max (inf r) h (endless r))) (rw (inf_moved r false n d) (goes max (inf r) h (endless r)))
 offsets_admitted max (fin r m e) s h (step {n = n} {d = d} l u) =
     case (leb (4 * (m * up e)) (3 * down e))
     (λ t. keep_apart (closer tilt_limit) (within max) _ (offsets_apart (fin r m e) (fin false n d) (centred {s = r} {m = m} {e = e} (leb-true (4 * (m * up e)) (3 * down e) t)) (step {n = n} {d = d} l u)))

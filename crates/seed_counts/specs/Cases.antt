@@ -7,7 +7,7 @@ use Rattle.float.specs.Float.{abs_of}
 use Rattle.float.specs.Literals.{plus_zero, half₆₄}
 use Rattle.camera_models.specs.declared.intrinsics.FxFyCxCy.{FxFyCxCy}
 use Rattle.seed_rules.specs.Merge.{keep, has_near, push, merged_into}
-use Rattle.seed_rules.specs.Rules.{closer, tilt_limit, tilt_near, camera_near, near, within, inBound, tilts, pairs, offsets, next_list}
+use Rattle.seed_rules.specs.Rules.{closer, tilt_limit, tilt_near, camera_near, near, within, in_bound, tilts, pairs, offsets, next_list}
 use Rattle.seed_counts.specs.Admissible.{admitted, seed_count, least_step}
 
 -- ---- step 0.02 and bound 0.3: 0.28 + 0.02 is above 0.3 once it is rounded
@@ -21,18 +21,18 @@ abbrev to30 : Float
 to30 = of_bits binary64 0x3fd3_3333_3333_3333
 
 -- centre (0.28, 0), and (0, 0.28)
-pub six-in-x : seed_count (offsets by02) (offsets by02) (tilts at28 plus_zero) to30 ≡ 6
+pub six_in_x : seed_count (offsets by02) (offsets by02) (tilts at28 plus_zero) to30 ≡ 6
 unfolding seed_count admitted keep offsets neg add abs_of le lt eq within of_bits
-six-in-x = refl
+six_in_x = refl
 
-pub six-in-y : seed_count (offsets by02) (offsets by02) (tilts plus_zero at28) to30 ≡ 6
+pub six_in_y : seed_count (offsets by02) (offsets by02) (tilts plus_zero at28) to30 ≡ 6
 unfolding seed_count admitted keep offsets neg add abs_of le lt eq within of_bits
-six-in-y = refl
+six_in_y = refl
 
 -- with tilt_y fixed at 0: two
-pub two-in-x : seed_count (offsets by02) (plus_zero ∷ []) (tilts at28 plus_zero) to30 ≡ 2
+pub two_in_x : seed_count (offsets by02) (plus_zero ∷ []) (tilts at28 plus_zero) to30 ≡ 2
 unfolding seed_count admitted keep offsets neg add abs_of le lt eq within of_bits
-two-in-x = refl
+two_in_x = refl
 
 -- half of the step stays within: nine
 pub nine_by_half : seed_count (offsets (of_bits binary64 0x3f84_7ae1_47ae_147b)) (offsets (of_bits binary64 0x3f84_7ae1_47ae_147b)) (tilts at28 plus_zero) to30 ≡ 9
@@ -54,7 +54,7 @@ unfolding seed_count admitted keep offsets neg add abs_of le lt eq within of_bit
 far_admissible = refl
 
 pub far_merges : length (next_list (offsets least_step) (offsets least_step) (tilts far plus_zero) some_camera wide) ≡ 6
-unfolding next_list offsets neg add sub abs_of le lt eq within inBound of_bits keep pairs has_near push merged_into near tilt_near camera_near closer
+unfolding next_list offsets neg add sub abs_of le lt eq within in_bound of_bits keep pairs has_near push merged_into near tilt_near camera_near closer
 far_merges = refl
 
 -- ---- centre (0.3, 0), step 1e-12, bound 0.5, one axis: a step that small can merge, since the rounding of the sums takes its share
@@ -63,5 +63,5 @@ unfolding seed_count admitted keep offsets neg add abs_of le lt eq within of_bit
 small_admissible = refl
 
 pub small_step_merges : length (next_list (offsets tilt_limit) (plus_zero ∷ []) (tilts to30 plus_zero) some_camera half₆₄) ≡ 2
-unfolding next_list offsets neg add sub abs_of le lt eq within inBound of_bits keep pairs has_near push merged_into near tilt_near camera_near closer
+unfolding next_list offsets neg add sub abs_of le lt eq within in_bound of_bits keep pairs has_near push merged_into near tilt_near camera_near closer
 small_step_merges = refl

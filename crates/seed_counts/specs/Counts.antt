@@ -12,7 +12,7 @@ use Rattle.camera_models.specs.declared.intrinsics.FxFyCxCy.{FxFyCxCy}
 use Rattle.camera_tilt.specs.declared.sensor.ScheimpflugParams.{ScheimpflugParams}
 use Rattle.seed_rules.specs.Merge.{keep, merged}
 use Rattle.seed_rules.specs.MergeLaws.{keep_append}
-use Rattle.seed_rules.specs.Rules.{closer, tilt_limit, tilt_near, near, within, inBound, tilts, pairs, seed_with, moved, next_list}
+use Rattle.seed_rules.specs.Rules.{closer, tilt_limit, tilt_near, near, within, in_bound, tilts, pairs, seed_with, moved, next_list}
 use Rattle.seed_rules.specs.RulesLaws.{pairs_length}
 use Rattle.seed_rules.specs.Unmerged.{Apart, merged_apart, append_apart, map_apart}
 use Rattle.seed_counts.specs.Admissible.{admitted, seed_count}
@@ -22,8 +22,8 @@ abbrev pub TiltsApart : List Float → Type 0
 TiltsApart ts = Apart (closer tilt_limit) ts
 
 -- ---- those of all pairs that lie within the bound are the pairs of those that do
-row_within : (max x : Float) (ys : List Float) → keep (inBound max) (map (tilts x) ys) ≡ cond (within max x) (map (tilts x) (keep (within max) ys)) []
-unfolding keep inBound
+row_within : (max x : Float) (ys : List Float) → keep (in_bound max) (map (tilts x) ys) ≡ cond (within max x) (map (tilts x) (keep (within max) ys)) []
+unfolding keep in_bound
 row_within max x [] = case (within max x) (λ e. rw e) (λ e. rw e)
 row_within max x (y ∷ ys) =
     let r = row_within max x ys in
@@ -31,13 +31,13 @@ row_within max x (y ∷ ys) =
     (λ e. case (within max y) (λ f. simp (e, f) (ap (λ (l : List ScheimpflugParams). tilts x y ∷ l) (simp e at r))) (λ f. simp (e, f) (simp e at r)))
     (λ e. simp e (simp e at r))
 
-pairs_within : (max : Float) (xs ys : List Float) → keep (inBound max) (pairs xs ys) ≡ pairs (keep (within max) xs) (keep (within max) ys)
+pairs_within : (max : Float) (xs ys : List Float) → keep (in_bound max) (pairs xs ys) ≡ pairs (keep (within max) xs) (keep (within max) ys)
 unfolding pairs keep
 pairs_within max [] ys = refl
 pairs_within max (x ∷ xs) ys =
     let r = pairs_within max xs ys in
-    keep_append (inBound max) (map (tilts x) ys) (pairs xs ys)
-    ∙ ap (λ (l : List ScheimpflugParams). l ++ keep (inBound max) (pairs xs ys)) (row_within max x ys)
+    keep_append (in_bound max) (map (tilts x) ys) (pairs xs ys)
+    ∙ ap (λ (l : List ScheimpflugParams). l ++ keep (in_bound max) (pairs xs ys)) (row_within max x ys)
     ∙ case (within max x) (λ e. simp (e, r)) (λ e. simp (e, r))
 
 -- ---- pairs of tilts that are apart are apart

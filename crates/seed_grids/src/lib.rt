@@ -7,7 +7,7 @@ ghost use Rattle.std.specs.Prelude.{map, ◌+◌, ◌*◌, ◌/◌, ◌≤◌, l
 ghost use Rattle.seed_rules.specs.Layout.{six, seeds_of, all_seeds, Leaves, two, tilts_of};
 ghost use Rattle.seed_rules.specs.Merge.{keep, merged_into, merged};
 ghost use Rattle.seed_rules.specs.Rules as rules;
-ghost use Rattle.seed_rules.specs.Rules.{tilt_near, inBound, tilts, moved, seed_with, seeds_within, seed_grid, initialList, next_list};
+ghost use Rattle.seed_rules.specs.Rules.{tilt_near, in_bound, tilts, moved, seed_with, seeds_within, seed_grid, initial_list, next_list};
 
 use camera_models::intrinsics::FxFyCxCy;
 use camera_tilt::sensor::ScheimpflugParams;
@@ -81,7 +81,7 @@ fn seed_row(
     max_abs_tilt: f64,
 ) -> usize
     requires { 2 * (count + length y_seeds.now) ≤ length grid.old }
-    ensures { Leaves two 2 (merged_into tilt_near (tilts_of count grid.old) (keep (inBound max_abs_tilt) (map (tilts tilt_x) y_seeds.now))) grid.old grid.new result }
+    ensures { Leaves two 2 (merged_into tilt_near (tilts_of count grid.old) (keep (in_bound max_abs_tilt) (map (tilts tilt_x) y_seeds.now))) grid.old grid.new result }
 {
     let mut j = 0;
     while j < y_seeds.len() {
@@ -163,7 +163,7 @@ pub fn initial_seed_grid(
 ) -> usize
     requires x_seeds_len_bound { (length x_seeds.now ≤ 16) × (length y_seeds.now ≤ 16) }
     requires y_seeds_in_bounds { 6 * (length decomposition.now / 6 + length x_seeds.now * length y_seeds.now) ≤ length seeds.old }
-    ensures { Leaves six 6 (initialList (all_seeds decomposition.now) x_seeds.now y_seeds.now base_k max_abs_tilt) seeds.old seeds.new result }
+    ensures { Leaves six 6 (initial_list (all_seeds decomposition.now) x_seeds.now y_seeds.now base_k max_abs_tilt) seeds.old seeds.new result }
 {
     let mut grid = [0.0; 512];
     let number = seed_grid(x_seeds, y_seeds, max_abs_tilt, &mut grid);

@@ -3,7 +3,7 @@
 
 ghost use Rattle.std.specs.Prelude.{◌≡◌};
 ghost use Rattle.seed_rules.specs.Rules as rules;
-ghost use Rattle.seed_rules.specs.Rules.{tilt_near, camera_near, inBound};
+ghost use Rattle.seed_rules.specs.Rules.{tilt_near, camera_near, in_bound};
 
 use camera_models::intrinsics::FxFyCxCy;
 use camera_tilt::sensor::ScheimpflugParams;
@@ -44,7 +44,7 @@ pub fn near(s: CandidateSeed, t: CandidateSeed) -> bool
 }
 
 pub fn in_bound(max_abs_tilt: f64, t: ScheimpflugParams) -> bool
-    ensures { result ≡ inBound max_abs_tilt t }
+    ensures { result ≡ in_bound max_abs_tilt t }
 {
     (float::abs(t.tilt_x) <= max_abs_tilt) & (float::abs(t.tilt_y) <= max_abs_tilt)
 }

@@ -10,7 +10,7 @@ ghost use Rattle.std.proofs.lemmas.List.Edits.{sets};
 ghost use Rattle.seed_rules.specs.Layout.{six, seed_at, seeds_of, Leaves, two, tilts_at, tilts_of};
 ghost use Rattle.seed_rules.specs.Merge.{keep, newest_near, push, merged_into};
 ghost use Rattle.seed_rules.specs.Rules as rules;
-ghost use Rattle.seed_rules.specs.Rules.{tilt_near, inBound, seeds_within};
+ghost use Rattle.seed_rules.specs.Rules.{tilt_near, in_bound, seeds_within};
 
 use crate::checks::{in_bound, near, tilt_near};
 use camera_models::intrinsics::FxFyCxCy;
@@ -146,7 +146,7 @@ fn find_tilt_near(grid: &[f64], count: usize, t: ScheimpflugParams) -> Found
 // Puts tilts within the bound behind the kept ones, unless some of these are near.
 pub fn push_seed(grid: &mut [f64], count: usize, t: ScheimpflugParams, max_abs_tilt: f64) -> usize
     requires { 2 * count + 2 ≤ length grid.old }
-    ensures { Leaves two 2 (merged_into tilt_near (tilts_of count grid.old) (keep (inBound max_abs_tilt) (t ∷ []))) grid.old grid.new result }
+    ensures { Leaves two 2 (merged_into tilt_near (tilts_of count grid.old) (keep (in_bound max_abs_tilt) (t ∷ []))) grid.old grid.new result }
 {
     if !in_bound(max_abs_tilt, t) {
         return count;

@@ -13,7 +13,7 @@ use Rattle.camera_tilt.specs.declared.sensor.ScheimpflugParams.{ScheimpflugParam
 use Rattle.seed_rules.specs.declared.CandidateSeed.{CandidateSeed}
 use Rattle.seed_rules.specs.Merge.{has_near}
 use Rattle.seed_rules.specs.MergeLaws.{mem_keep, Covered, merged_covers, merged_fresh}
-use Rattle.seed_rules.specs.Rules.{near, inBound, untilted_y, tilts, pairs, seed_with, seeds_within, offsets, y_offsets, moved, next_list}
+use Rattle.seed_rules.specs.Rules.{near, in_bound, untilted_y, tilts, pairs, seed_with, seeds_within, offsets, y_offsets, moved, next_list}
 use Rattle.seed_rules.specs.RulesLaws.{next_length}
 use Rattle.seed_rules.specs.Facts.{pairs_mem, next_all}
 
@@ -28,7 +28,7 @@ pub record AtOffsets (dxs dys : List Float) (centre : ScheimpflugParams) (camera
   pub is_dx : Memᴰ dx dxs
   pub is_dy : Memᴰ dy dys
   pub seed_is : s ≡ offset_seed centre camera dx dy
-  pub in-bound : inBound max s.sensor ≡ true
+  pub is_in_bound : in_bound max s.sensor ≡ true
 
 pub record RoundOver (dxs dys : List Float) (centre : ScheimpflugParams) (camera : FxFyCxCy) (max : Float) : Type 0 where
   -- at most one seed for each pair of offsets, and nothing else
@@ -36,23 +36,23 @@ pub record RoundOver (dxs dys : List Float) (centre : ScheimpflugParams) (camera
   pub made : All (AtOffsets dxs dys centre camera max) (next_list dxs dys centre camera max)
   -- none is near an earlier one, and each pair of offsets within the bound is there, or a seed near it
   pub apart : (before behind : List CandidateSeed) (s : CandidateSeed) → next_list dxs dys centre camera max ≡ before ++ s ∷ behind → has_near near before s ≡ false
-  pub all_tried : (dx dy : Float) → Memᴰ dx dxs → Memᴰ dy dys → inBound max (offset_seed centre camera dx dy).sensor ≡ true
+  pub all_tried : (dx dy : Float) → Memᴰ dx dxs → Memᴰ dy dys → in_bound max (offset_seed centre camera dx dy).sensor ≡ true
       → Covered near (next_list dxs dys centre camera max) (offset_seed centre camera dx dy)
 
 offsets_tried : (dxs dys : List Float) (centre : ScheimpflugParams) (camera : FxFyCxCy) (max dx dy : Float) → Memᴰ dx dxs → Memᴰ dy dys
-    → inBound max (offset_seed centre camera dx dy).sensor ≡ true → Covered near (next_list dxs dys centre camera max) (offset_seed centre camera dx dy)
+    → in_bound max (offset_seed centre camera dx dy).sensor ≡ true → Covered near (next_list dxs dys centre camera max) (offset_seed centre camera dx dy)
 unfolding next_list
 offsets_tried dxs dys centre camera max dx dy m n b =
     let xs = moved centre.tilt_x dxs in
     let ys = moved centre.tilt_y dys in
     merged_covers near [] (seeds_within max camera (pairs xs ys))
-    (Memᴰ.map (seed_with camera) (mem_keep (inBound max) (pairs xs ys) (pairs_mem xs ys (Memᴰ.map (λ d. centre.tilt_x +₆₄ d) m) (Memᴰ.map (λ d. centre.tilt_y +₆₄ d) n)) b))
+    (Memᴰ.map (seed_with camera) (mem_keep (in_bound max) (pairs xs ys) (pairs_mem xs ys (Memᴰ.map (λ d. centre.tilt_x +₆₄ d) m) (Memᴰ.map (λ d. centre.tilt_y +₆₄ d) n)) b))
 
 pub any_offsets : (dxs dys : List Float) (centre : ScheimpflugParams) (camera : FxFyCxCy) (max : Float) → RoundOver dxs dys centre camera max
 unfolding next_list
 any_offsets dxs dys centre camera max = record {
   few = next_length dxs dys centre camera max;
-  made = next_all (AtOffsets dxs dys centre camera max) dxs dys centre camera max (λ dx dy m n b. record { dx = dx; dy = dy; is_dx = m; is_dy = n; seed_is = refl; in-bound = b });
+  made = next_all (AtOffsets dxs dys centre camera max) dxs dys centre camera max (λ dx dy m n b. record { dx = dx; dy = dy; is_dx = m; is_dy = n; seed_is = refl; is_in_bound = b });
   apart = λ before behind s e. merged_fresh near (seeds_within max camera (pairs (moved centre.tilt_x dxs) (moved centre.tilt_y dys))) before s behind e;
   all_tried = offsets_tried dxs dys centre camera max;
 }

@@ -35,14 +35,14 @@ module _ {A : Type 0} (first : List Float → A) (w : ℕ) where
       read_at n i (drop w l) d (omega arith) ∙ ap first (drop-drop (w * i) w l ∙ ap (λ (k : ℕ). drop k l) e)
 
   module _ (n i : ℕ) (l : List Float) (h : i < n) where
-    in-range : i < length (read_from first w n l)
-    in-range = rw read_length h
+    in_range : i < length (read_from first w n l)
+    in_range = rw read_length h
 
     pub read_drop : drop i (read_from first w n l) ≡ first (drop (w * i) l) ∷ drop (suc i) (read_from first w n l)
-    read_drop = drop-cons (read_from first w n l) i (first (drop (w * i) l)) in-range ∙ rw (read_at n i l (first (drop (w * i) l)) h)
+    read_drop = drop-cons (read_from first w n l) i (first (drop (w * i) l)) in_range ∙ rw (read_at n i l (first (drop (w * i) l)) h)
 
     pub read_take : take (suc i) (read_from first w n l) ≡ take i (read_from first w n l) ++ (first (drop (w * i) l) ∷ [])
-    read_take = take-suc (read_from first w n l) i (first (drop (w * i) l)) in-range ∙ rw (read_at n i l (first (drop (w * i) l)) h)
+    read_take = take-suc (read_from first w n l) i (first (drop (w * i) l)) in_range ∙ rw (read_at n i l (first (drop (w * i) l)) h)
 
 module _ {A : Type 0} {numbers : A → List Float} {first : List Float → A} {w : ℕ} (y : Layout numbers first w) where
   pub laid_length : (xs : List A) → length (laid numbers xs) ≡ w * length xs

@@ -226,17 +226,17 @@ module _ {A : Type 0} where
     unfolding push
     push_fresh ks s f = case (has_near near ks s) (λ e. simp e f) (λ e. simp e (fresh_more [] ks s f e))
 
-    fresh-into : (ks ss : List A) → Fresh [] ks → Fresh [] (merged_into near ks ss)
+    fresh_into : (ks ss : List A) → Fresh [] ks → Fresh [] (merged_into near ks ss)
     unfolding merged_into
-    fresh-into ks [] f = f
-    fresh-into ks (s ∷ ss) f = fresh-into (push near ks s) ss (push_fresh ks s f)
+    fresh_into ks [] f = f
+    fresh_into ks (s ∷ ss) f = fresh_into (push near ks s) ss (push_fresh ks s f)
 
     fresh_at : (ks before : List A) (s : A) (behind : List A) → Fresh ks (before ++ s ∷ behind) → has_near near (ks ++ before) s ≡ false
     fresh_at ks [] s behind f = rw append-nil f.0
     fresh_at ks (t ∷ before) s behind f = rw (← append_assoc ks (t ∷ []) before) (fresh_at (ks ++ t ∷ []) before s behind f.1)
 
     pub merged_fresh : (ss before : List A) (s : A) (behind : List A) → merged near ss ≡ before ++ s ∷ behind → has_near near before s ≡ false
-    merged_fresh ss before s behind e = fresh_at [] before s behind (rw e at (fresh-into [] ss tt))
+    merged_fresh ss before s behind e = fresh_at [] before s behind (rw e at (fresh_into [] ss tt))
 
     -- ---- a map that keeps nearness keeps merging
     module _ (f : A → A) (same : (a b : A) → near (f a) (f b) ≡ near a b) where

@@ -11,7 +11,7 @@ use Rattle.camera_tilt.specs.declared.sensor.ScheimpflugParams.{ScheimpflugParam
 use Rattle.seed_rules.specs.declared.CandidateSeed.{CandidateSeed}
 use Rattle.seed_rules.specs.Merge.{keep, merged}
 use Rattle.seed_rules.specs.MergeLaws.{keep_map, merged_map}
-use Rattle.seed_rules.specs.Rules.{closer, tilt_limit, tilt_near, camera_near, near, within, inBound, tilts, pairs, seed_with, seed_grid, initialList}
+use Rattle.seed_rules.specs.Rules.{closer, tilt_limit, tilt_near, camera_near, near, within, in_bound, tilts, pairs, seed_with, seed_grid, initial_list}
 
 -- both tilts negated, the camera kept
 abbrev pub opposite : ScheimpflugParams → ScheimpflugParams
@@ -33,8 +33,8 @@ near_mirrored : (s t : CandidateSeed) → near (mirrored s) (mirrored t) ≡ nea
 unfolding near
 near_mirrored s t = ap (λ (b : Bool). b && camera_near s.reference_k t.reference_k) (near_opposite s.sensor t.sensor)
 
-bound_opposite : (max : Float) (t : ScheimpflugParams) → inBound max (opposite t) ≡ inBound max t
-unfolding inBound within
+bound_opposite : (max : Float) (t : ScheimpflugParams) → in_bound max (opposite t) ≡ in_bound max t
+unfolding in_bound within
 bound_opposite max t = rw (abs_neg t.tilt_x, abs_neg t.tilt_y)
 
 -- ---- the grid
@@ -53,15 +53,15 @@ pairs_opposite (x ∷ xs) ys =
 grid_opposite : (xs ys : List Float) (max : Float) → seed_grid (map neg xs) (map neg ys) max ≡ map opposite (seed_grid xs ys max)
 unfolding seed_grid
 grid_opposite xs ys max =
-    ap (λ (ts : List ScheimpflugParams). merged tilt_near (keep (inBound max) ts)) (pairs_opposite xs ys)
-    ∙ ap (merged tilt_near) (keep_map (inBound max) opposite (bound_opposite max) (pairs xs ys))
-    ∙ merged_map tilt_near opposite near_opposite [] (keep (inBound max) (pairs xs ys))
+    ap (λ (ts : List ScheimpflugParams). merged tilt_near (keep (in_bound max) ts)) (pairs_opposite xs ys)
+    ∙ ap (merged tilt_near) (keep_map (in_bound max) opposite (bound_opposite max) (pairs xs ys))
+    ∙ merged_map tilt_near opposite near_opposite [] (keep (in_bound max) (pairs xs ys))
 
 -- ---- round 0's list of the negated seeds is the negated list
-pub initial-list-negated : (ds : List CandidateSeed) (xs ys : List Float) (base : FxFyCxCy) (max : Float)
-    → initialList (map mirrored ds) (map neg xs) (map neg ys) base max ≡ map mirrored (initialList ds xs ys base max)
-unfolding initialList
-initial-list-negated ds xs ys base max =
+pub initial_list_negated : (ds : List CandidateSeed) (xs ys : List Float) (base : FxFyCxCy) (max : Float)
+    → initial_list (map mirrored ds) (map neg xs) (map neg ys) base max ≡ map mirrored (initial_list ds xs ys base max)
+unfolding initial_list
+initial_list_negated ds xs ys base max =
     let g = seed_grid xs ys max in
     ap (λ (ts : List ScheimpflugParams). merged near (map mirrored ds ++ map (seed_with base) ts)) (grid_opposite xs ys max)
     ∙ ap (λ (ss : List CandidateSeed). merged near (map mirrored ds ++ ss)) (map_map opposite (seed_with base) (seed_with base) mirrored (λ t. refl) g)

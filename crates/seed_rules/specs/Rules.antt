@@ -34,8 +34,8 @@ near s t = tilt_near s.sensor t.sensor && camera_near s.reference_k t.reference_
 unfoldable pub within : Float → Float → Bool
 within max t = le (abs_of t) max
 
-unfoldable pub inBound : Float → ScheimpflugParams → Bool
-inBound max t = within max t.tilt_x && within max t.tilt_y
+unfoldable pub in_bound : Float → ScheimpflugParams → Bool
+in_bound max t = within max t.tilt_x && within max t.tilt_y
 
 -- ---- 02, E8: no tilt about y, which is a zero of either sign
 unfoldable pub untilted_y : ScheimpflugParams → Bool
@@ -54,15 +54,15 @@ seed_with k t = record { reference_k = k; sensor = t }
 
 -- tilts within the bound, as seeds with one camera
 abbrev pub seeds_within : Float → FxFyCxCy → List ScheimpflugParams → List CandidateSeed
-seeds_within max k ts = map (seed_with k) (keep (inBound max) ts)
+seeds_within max k ts = map (seed_with k) (keep (in_bound max) ts)
 
 -- ---- 01: round 0's grid. Typed tilts beyond the bound are skipped, and the rest merged by tilt alone.
 unfoldable pub seed_grid : List Float → List Float → Float → List ScheimpflugParams
-seed_grid xs ys max = merged tilt_near (keep (inBound max) (pairs xs ys))
+seed_grid xs ys max = merged tilt_near (keep (in_bound max) (pairs xs ys))
 
 -- 01: round 0's list is the decomposition's seeds, then the grid with the base camera, merged in this order.
-unfoldable pub initialList : List CandidateSeed → List Float → List Float → FxFyCxCy → Float → List CandidateSeed
-initialList decomposition xs ys base max = merged near (decomposition ++ map (seed_with base) (seed_grid xs ys max))
+unfoldable pub initial_list : List CandidateSeed → List Float → List Float → FxFyCxCy → Float → List CandidateSeed
+initial_list decomposition xs ys base max = merged near (decomposition ++ map (seed_with base) (seed_grid xs ys max))
 
 -- ---- 01: a later round's offsets are added to the centre, those then beyond the bound go, and the rest merge by the same rule, the earlier kept.
 -- The offsets are any two lists; 01's are -s, 0, s for both, and those of 02, E8, for a one-axis run are 0 alone for y.

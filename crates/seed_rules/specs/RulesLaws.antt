@@ -9,13 +9,13 @@ use Rattle.camera_tilt.specs.declared.sensor.ScheimpflugParams.{ScheimpflugParam
 use Rattle.seed_rules.specs.declared.CandidateSeed.{CandidateSeed}
 use Rattle.seed_rules.specs.Merge.{keep}
 use Rattle.seed_rules.specs.MergeLaws.{keep_append, keep_length, merged_length}
-use Rattle.seed_rules.specs.Rules.{tilt_near, near, inBound, tilts, pairs, seed_with, seeds_within, seed_grid, initialList, moved, next_list}
+use Rattle.seed_rules.specs.Rules.{tilt_near, near, in_bound, tilts, pairs, seed_with, seeds_within, seed_grid, initial_list, moved, next_list}
 
 pub within_append : (max : Float) (k : FxFyCxCy) (ss ts : List ScheimpflugParams) → seeds_within max k (ss ++ ts) ≡ seeds_within max k ss ++ seeds_within max k ts
-within_append max k ss ts = ap (map (seed_with k)) (keep_append (inBound max) ss ts) ∙ map-append (seed_with k) (keep (inBound max) ss) (keep (inBound max) ts)
+within_append max k ss ts = ap (map (seed_with k)) (keep_append (in_bound max) ss ts) ∙ map-append (seed_with k) (keep (in_bound max) ss) (keep (in_bound max) ts)
 
 pub within_length : (max : Float) (k : FxFyCxCy) (ts : List ScheimpflugParams) → length (seeds_within max k ts) ≤ length ts
-within_length max k ts = omega (arith, length-map (keep (inBound max) ts) (seed_with k), keep_length (inBound max) ts)
+within_length max k ts = omega (arith, length-map (keep (in_bound max) ts) (seed_with k), keep_length (in_bound max) ts)
 
 pub pairs_append : (xs zs ys : List Float) → pairs (xs ++ zs) ys ≡ pairs xs ys ++ pairs zs ys
 unfolding pairs
@@ -34,20 +34,20 @@ pairs_one x ys = append-nil (map (tilts x) ys)
 
 -- ---- one more of the typed tilts
 pub row_more : (max x : Float) (ys : List Float) (j : ℕ) → j < length ys
-    → keep (inBound max) (map (tilts x) (take (suc j) ys)) ≡ keep (inBound max) (map (tilts x) (take j ys)) ++ keep (inBound max) (tilts x (get_or ys j nan) ∷ [])
+    → keep (in_bound max) (map (tilts x) (take (suc j) ys)) ≡ keep (in_bound max) (map (tilts x) (take j ys)) ++ keep (in_bound max) (tilts x (get_or ys j nan) ∷ [])
 row_more max x ys j h =
-    ap (λ (zs : List Float). keep (inBound max) (map (tilts x) zs)) (take-suc ys j nan h)
-    ∙ ap (keep (inBound max)) (map-append (tilts x) (take j ys) (get_or ys j nan ∷ []))
-    ∙ keep_append (inBound max) (map (tilts x) (take j ys)) (tilts x (get_or ys j nan) ∷ [])
+    ap (λ (zs : List Float). keep (in_bound max) (map (tilts x) zs)) (take-suc ys j nan h)
+    ∙ ap (keep (in_bound max)) (map-append (tilts x) (take j ys) (get_or ys j nan ∷ []))
+    ∙ keep_append (in_bound max) (map (tilts x) (take j ys)) (tilts x (get_or ys j nan) ∷ [])
 
 pub grid_more : (max : Float) (xs ys : List Float) (i : ℕ) → i < length xs
-    → keep (inBound max) (pairs (take (suc i) xs) ys) ≡ keep (inBound max) (pairs (take i xs) ys) ++ keep (inBound max) (map (tilts (get_or xs i nan)) ys)
+    → keep (in_bound max) (pairs (take (suc i) xs) ys) ≡ keep (in_bound max) (pairs (take i xs) ys) ++ keep (in_bound max) (map (tilts (get_or xs i nan)) ys)
 grid_more max xs ys i h =
     let x = get_or xs i nan in
-    ap (λ (zs : List Float). keep (inBound max) (pairs zs ys)) (take-suc xs i nan h)
-    ∙ ap (keep (inBound max)) (pairs_append (take i xs) (x ∷ []) ys)
-    ∙ keep_append (inBound max) (pairs (take i xs) ys) (pairs (x ∷ []) ys)
-    ∙ ap (λ (zs : List ScheimpflugParams). keep (inBound max) (pairs (take i xs) ys) ++ keep (inBound max) zs) (pairs_one x ys)
+    ap (λ (zs : List Float). keep (in_bound max) (pairs zs ys)) (take-suc xs i nan h)
+    ∙ ap (keep (in_bound max)) (pairs_append (take i xs) (x ∷ []) ys)
+    ∙ keep_append (in_bound max) (pairs (take i xs) ys) (pairs (x ∷ []) ys)
+    ∙ ap (λ (zs : List ScheimpflugParams). keep (in_bound max) (pairs (take i xs) ys) ++ keep (in_bound max) zs) (pairs_one x ys)
 
 -- ---- one more of the offsets
 moved_more : (centre : Float) (ds : List Float) (j : ℕ) → j < length ds → moved centre (take (suc j) ds) ≡ moved centre (take j ds) ++ ((centre +₆₄ get_or ds j nan) ∷ [])
@@ -76,12 +76,12 @@ module _ (max : Float) (k : FxFyCxCy) where
 pub grid_length : (xs ys : List Float) (max : Float) → length (seed_grid xs ys max) ≤ length xs * length ys
 unfolding seed_grid
 grid_length xs ys max =
-    omega (arith, merged_length tilt_near [] (keep (inBound max) (pairs xs ys)), keep_length (inBound max) (pairs xs ys), pairs_length xs ys)
+    omega (arith, merged_length tilt_near [] (keep (in_bound max) (pairs xs ys)), keep_length (in_bound max) (pairs xs ys), pairs_length xs ys)
 
-pub initial-length : (ds : List CandidateSeed) (xs ys : List Float) (base : FxFyCxCy) (max : Float)
-    → length (initialList ds xs ys base max) ≤ length ds + length xs * length ys
-unfolding initialList
-initial-length ds xs ys base max =
+pub initial_length : (ds : List CandidateSeed) (xs ys : List Float) (base : FxFyCxCy) (max : Float)
+    → length (initial_list ds xs ys base max) ≤ length ds + length xs * length ys
+unfolding initial_list
+initial_length ds xs ys base max =
     let g = map (seed_with base) (seed_grid xs ys max) in
     omega (arith, merged_length near [] (ds ++ g), length-append ds g, length-map (seed_grid xs ys max) (seed_with base), grid_length xs ys max)
 

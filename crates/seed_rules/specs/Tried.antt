@@ -14,7 +14,7 @@ use Rattle.camera_tilt.specs.declared.sensor.ScheimpflugParams.{ScheimpflugParam
 use Rattle.seed_rules.specs.declared.CandidateSeed.{CandidateSeed}
 use Rattle.seed_rules.specs.Merge.{keep}
 use Rattle.seed_rules.specs.MergeLaws.{mem_keep, merged_covers}
-use Rattle.seed_rules.specs.Rules.{closer, tilt_limit, tilt_near, camera_near, near, within, inBound, tilts, pairs, seed_with, seed_grid, initialList}
+use Rattle.seed_rules.specs.Rules.{closer, tilt_limit, tilt_near, camera_near, near, within, in_bound, tilts, pairs, seed_with, seed_grid, initial_list}
 use Rattle.seed_rules.specs.Bound.{abs_order}
 use Rattle.seed_rules.specs.Facts.{pairs_mem}
 
@@ -45,14 +45,14 @@ at_most max t l h = rw (abs_order max t, l, h)
 
 pub every_tilt_tried : (ds : List CandidateSeed) (xs ys : List Float) (base : FxFyCxCy) (max : Float) → is_finite max ≡ true
     → (x y : Float) → Memᴰ x xs → Memᴰ y ys → le (neg max) x ≡ true → le x max ≡ true → le (neg max) y ≡ true → le y max ≡ true
-    → Tried (initialList ds xs ys base max) (seed_grid xs ys max) base (tilts x y)
-unfolding initialList seed_grid inBound within
+    → Tried (initial_list ds xs ys base max) (seed_grid xs ys max) base (tilts x y)
+unfolding initial_list seed_grid in_bound within
 every_tilt_tried ds xs ys base max f x y mx my lx hx ly hy =
     let t = tilts x y in
     let ax = at_most max x lx hx in
     let ay = at_most max y ly hy in
-    let b : inBound max t ≡ true = rw (ax, ay) in
-    let first = merged_covers tilt_near [] (keep (inBound max) (pairs xs ys)) (mem_keep (inBound max) (pairs xs ys) (pairs_mem xs ys mx my) b) in
+    let b : in_bound max t ≡ true = rw (ax, ay) in
+    let first = merged_covers tilt_near [] (keep (in_bound max) (pairs xs ys)) (mem_keep (in_bound max) (pairs xs ys) (pairs_mem xs ys mx my) b) in
     let u = first.by in
     let close : tilt_near u t ≡ true = ⊎_elim (λ e. rw e (near_self t (finite_within x max f ax) (finite_within y max f ay))) (λ n. n) first.nearby in
     let second = merged_covers near [] (ds ++ map (seed_with base) (seed_grid xs ys max)) (Memᴰ.append_right ds (Memᴰ.map (seed_with base) first.kept)) in

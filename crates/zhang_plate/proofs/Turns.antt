@@ -11,12 +11,12 @@ use Rattle.zhang_plate.proofs.Given.{numbers_of, refused_of}
 
 -- a turn at the power j, of which u is the value
 module _ (j u : ℕ) (below : j < 9) (value : u ≡ 2 ^ j) where
-  pub in-range : (1 ≤ u) × (u ≤ 256)
-  in-range = let l : j ≤ 8 = omega arith in rw value (pow_pos j, pow_mono l)
+  pub in_range : (1 ≤ u) × (u ≤ 256)
+  in_range = let l : j ≤ 8 = omega arith in rw value (pow_pos j, pow_mono l)
 
   pub castable : T (in_float binary64 (pos u))
   unfolding in_float
-  castable = let r = in-range in le→leb u (2 ^ 53) (omega (arith, r.1))
+  castable = let r = in_range in le→leb u (2 ^ 53) (omega (arith, r.1))
 
   pub next_power : u * 2 ≡ 2 ^ (j + 1)
   next_power = rw value (doubled j)

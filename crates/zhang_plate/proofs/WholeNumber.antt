@@ -80,11 +80,11 @@ cut_is : (m : ℕ) (e : ℤ) → m * up e < 65537 * down e → to_unsigned 64 (f
 unfolding to_unsigned
 cut_is m e h = let l = cut m e h in min-eq_left (omega arith)
 
-in-range : (x : Float) → lt (abs_of x) limit ≡ true → T (lt (fin true 1 (pos 0)) (abs_of x)) × T (lt (abs_of x) (fin false 1 (pos 64)))
+in_range : (x : Float) → lt (abs_of x) limit ≡ true → T (lt (fin true 1 (pos 0)) (abs_of x)) × T (lt (abs_of x) (fin false 1 (pos 64)))
 unfolding lt abs_of of_bits
-in-range nan h = absurd (true≢false (sym h))
-in-range (inf s) h = absurd (true≢false (sym h))
-in-range (fin s m e) h =
+in_range nan h = absurd (true≢false (sym h))
+in_range (inf s) h = absurd (true≢false (sym h))
+in_range (fin s m e) h =
     let d = down_pos e in
     let l = below_limit m e h in
     (lt→ltb 0 (1 * down e + m * up e * 1) (omega arith), lt→ltb (m * up e * 1) (18446744073709551616 * down e) (omega arith))
@@ -151,7 +151,7 @@ module _ (u : ℕ) (high : u ≤ 256) (x a : Float) (is-abs : a ≡ abs_of x) wh
     size_below = rw is-abs at (not-false (lt a limit) below)
 
     pub castable : T (lt (fin true 1 (pos 0)) a) × T (lt a (fin false 1 (pos 64)))
-    castable = rw is-abs (in-range x size_below)
+    castable = rw is-abs (in_range x size_below)
 
     module _ (n : ℕ) (is_cut : n ≡ to_unsigned 64 a) where
       cut_of : n ≡ to_unsigned 64 (abs_of x)

@@ -35,7 +35,7 @@ returns c =
       c.before.before.before.is-finite2.ensures,
       c.before.before.is-finite3.ensures,
       c.before.is-finite4.ensures,
-      c.in-bound.ensures,
+      c.in_bound.ensures,
     )
 
 pub is_good_seed_spec : {M : Type 1} → statement M

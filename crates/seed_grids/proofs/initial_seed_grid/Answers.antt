@@ -8,7 +8,7 @@ use lib.ListN.{length}
 use Rattle.seed_rules.specs.Layout.{six, seed_at, all_seeds, tilts_of}
 use Rattle.seed_rules.specs.LayoutLaws.{seeds_layout, tilts_layout, read_length}
 use Rattle.seed_rules.specs.MergeLaws.{merged_length}
-use Rattle.seed_rules.specs.Rules.{near, seed_with, seed_grid, initialList}
+use Rattle.seed_rules.specs.Rules.{near, seed_with, seed_grid, initial_list}
 use Rattle.seed_rules.specs.RulesLaws.{grid_length}
 use Rattle.seed_rules.specs.Steps.{Merging, leaves_read, merging_more}
 use borrow.Author.Rules.{rules}
@@ -31,7 +31,7 @@ push_grid-requires c =
     (search rules, search rules)
 
 pub returns : goal.returns
-unfolding initialList
+unfolding initial_list
 returns c =
     let a = c.args in
     let ds = all_seeds a.decomposition.now in

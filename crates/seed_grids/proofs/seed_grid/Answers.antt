@@ -13,7 +13,7 @@ use Rattle.seed_rules.specs.Layout.{two, read_from}
 use Rattle.seed_rules.specs.LayoutLaws.{tilts_layout}
 use Rattle.seed_rules.specs.Merge.{keep}
 use Rattle.seed_rules.specs.MergeLaws.{keep_length}
-use Rattle.seed_rules.specs.Rules.{tilt_near, inBound, tilts, pairs, seed_grid}
+use Rattle.seed_rules.specs.Rules.{tilt_near, in_bound, tilts, pairs, seed_grid}
 use Rattle.seed_rules.specs.RulesLaws.{grid_more}
 use Rattle.seed_rules.specs.Steps.{Merging, merging_start, merging_more}
 use Rattle.seed_grids.proofs.seed_grid.Goals as goal
@@ -40,10 +40,10 @@ loop-i-preserved c =
     let row = map (tilts (get_or xs i nan)) ys in (
       search rules,
       rw (add-one i)
-          (merging_more tilts_layout tilt_near [] (keep (inBound max) (pairs (take i xs) ys)) (keep (inBound max) row) (keep (inBound max) (pairs (take (suc i) xs) ys))
+          (merging_more tilts_layout tilt_near [] (keep (in_bound max) (pairs (take i xs) ys)) (keep (in_bound max) row) (keep (in_bound max) (pairs (take (suc i) xs) ys))
           a.grid.now c.loop-i.grid c.seed_row-kept.new.grid c.loop-i.kept c.seed_row-kept.result (i * y) (suc i * y)
           c.loop-i.invariant.1 c.seed_row-kept.ensures (search rules)
-          (omega (arith, keep_length (inBound max) row, length-map ys (tilts (get_or xs i nan)), suc-mul i y)) (grid_more max xs ys i (search rules))),
+          (omega (arith, keep_length (in_bound max) row, length-map ys (tilts (get_or xs i nan)), suc-mul i y)) (grid_more max xs ys i (search rules))),
     )
 
 pub returns : goal.returns

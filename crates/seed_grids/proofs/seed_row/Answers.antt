@@ -13,7 +13,7 @@ use Rattle.seed_rules.specs.Layout.{two, tilts_of}
 use Rattle.seed_rules.specs.LayoutLaws.{tilts_layout}
 use Rattle.seed_rules.specs.Merge.{keep}
 use Rattle.seed_rules.specs.MergeLaws.{keep_length}
-use Rattle.seed_rules.specs.Rules.{tilt_near, inBound, tilts}
+use Rattle.seed_rules.specs.Rules.{tilt_near, in_bound, tilts}
 use Rattle.seed_rules.specs.RulesLaws.{row_more}
 use Rattle.seed_rules.specs.Steps.{Merging, merging_start, merging_more}
 use Rattle.seed_grids.proofs.seed_row.Goals as goal
@@ -34,10 +34,10 @@ loop-j-preserved c =
     let one = tilts x (get_or ys j nan) ∷ [] in (
       search rules,
       rw (add-one j)
-          (merging_more tilts_layout tilt_near (tilts_of a.count a.grid.now) (keep (inBound max) (map (tilts x) (take j ys))) (keep (inBound max) one)
-          (keep (inBound max) (map (tilts x) (take (suc j) ys)))
+          (merging_more tilts_layout tilt_near (tilts_of a.count a.grid.now) (keep (in_bound max) (map (tilts x) (take j ys))) (keep (in_bound max) one)
+          (keep (in_bound max) (map (tilts x) (take (suc j) ys)))
           a.grid.now c.loop-j.grid c.push_seed-count.new.grid c.loop-j.count c.push_seed-count.result (a.count + j) (a.count + suc j)
-          c.loop-j.invariant.1 c.push_seed-count.ensures (search rules) (omega (arith, keep_length (inBound max) one)) (row_more max x ys j (search rules))),
+          c.loop-j.invariant.1 c.push_seed-count.ensures (search rules) (omega (arith, keep_length (in_bound max) one)) (row_more max x ys j (search rules))),
     )
 
 pub returns : goal.returns

@@ -5,7 +5,7 @@ use borrow.Author.Tests.{not-true, not-false}
 use borrow.Author.Rules.{rules}
 use Rattle.seed_rules.specs.LayoutLaws.{tilts_layout}
 use Rattle.seed_rules.specs.Merge.{is_found, keep, merged_into}
-use Rattle.seed_rules.specs.Rules.{tilt_near, inBound}
+use Rattle.seed_rules.specs.Rules.{tilt_near, in_bound}
 use Rattle.seed_rules.specs.Steps.{push_drops, push_stores, merging_start}
 use Rattle.seed_lists.proofs.push_seed.Goals as goal
 
@@ -13,7 +13,7 @@ pub returns-then-not-in_bound : goal.returns-then-not-in_bound
 unfolding keep
 returns-then-not-in_bound c =
     let a = c.args in
-    let e : inBound a.max_abs_tilt a.t ≡ false = sym c.in_bound.ensures ∙ c.if-not-in_bound.true in
+    let e : in_bound a.max_abs_tilt a.t ≡ false = sym c.in_bound.ensures ∙ c.if-not-in_bound.true in
     simp e (merging_start tilts_layout tilt_near a.grid.now a.count (search rules)).leaves
 
 pub returns-in_default : goal.returns-in_default
@@ -22,7 +22,7 @@ returns-in_default c =
     let a = c.args in
     let l = a.grid.now in
     let n = a.count in
-    let e : inBound a.max_abs_tilt a.t ≡ true = sym c.in_bound.ensures ∙ c.if-not-in_bound.false in
+    let e : in_bound a.max_abs_tilt a.t ≡ true = sym c.in_bound.ensures ∙ c.if-not-in_bound.false in
     let f = sym c.find_tilt_near.ensures ∙ c.in_default.is in
     simp e (push_drops tilts_layout tilt_near l n a.t (search rules) (ap is_found f))
 
@@ -32,6 +32,6 @@ returns c =
     let a = c.args in
     let l = a.grid.now in
     let n = a.count in
-    let e : inBound a.max_abs_tilt a.t ≡ true = sym c.in_bound.ensures ∙ c.if-not-in_bound.false in
+    let e : in_bound a.max_abs_tilt a.t ≡ true = sym c.in_bound.ensures ∙ c.if-not-in_bound.false in
     let f = sym c.find_tilt_near.ensures ∙ c.in-Nothing.is in
     simp e (push_stores tilts_layout tilt_near l c.put_tilts.new.grid n a.t (search rules) (ap is_found f) c.put_tilts.ensures)

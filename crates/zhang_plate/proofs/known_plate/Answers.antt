@@ -1,11 +1,11 @@
 -- `zhang_plate::known_plate` meets its contract. The loop's invariant: the lowest unit of those that are left, from here on, is the lowest of all. Assumes nothing.
 use Rattle.std.proofs.Common.{◌≡◌, ◌-◌, ◌^◌, ◌≤◌, sym, ◌∙◌, arith, rules}
 use Rattle.zhang_plate.specs.Plate.{unit_from}
-use Rattle.zhang_plate.proofs.Turns.{in-range, castable, next_power, stops, goes_on, ends}
+use Rattle.zhang_plate.proofs.Turns.{in_range, castable, next_power, stops, goes_on, ends}
 use Rattle.zhang_plate.proofs.known_plate.Goals as goal
 
 pub shared_unit-requires : goal.shared_unit-requires
-shared_unit-requires c = let l = c.loop-power in in-range l.power l.unit (omega arith) l.invariant.1
+shared_unit-requires c = let l = c.loop-power in in_range l.power l.unit (omega arith) l.invariant.1
 
 pub int_to_float-unit : goal.int_to_float-unit
 int_to_float-unit c = let l = c.loop-power in castable l.power l.unit (omega arith) l.invariant.1
@@ -16,7 +16,7 @@ returns-then-shared_unit c =
     stops l.power l.unit (omega arith) l.invariant.1 c.args.k l.invariant.2 (sym c.shared_unit.ensures ∙ c.if-shared_unit.true) c.conic_with.result c.conic_with.ensures
 
 pub overflow_mul-unit : goal.overflow_mul-unit
-overflow_mul-unit c = let l = c.loop-power in let r = in-range l.power l.unit (omega arith) l.invariant.1 in omega (arith, r.1)
+overflow_mul-unit c = let l = c.loop-power in let r = in_range l.power l.unit (omega arith) l.invariant.1 in omega (arith, r.1)
 
 pub loop-power-preserved : goal.loop-power-preserved
 loop-power-preserved c =

@@ -1,7 +1,7 @@
 -- `zhang_plate::known_plate` meets its contract. The loop's invariant: the lowest unit of those that are left, from here on, is the lowest of all. Assumes nothing.
 use Rattle.std.proofs.Common.{◌≡◌, ◌-◌, ◌^◌, ◌≤◌, sym, ◌∙◌, arith, rules}
 use Rattle.zhang_plate.specs.Plate.{unit_from}
-use Rattle.zhang_plate.proofs.Turns.{in-range, castable, next_power, stops, goes_on, ends}
+use Rattle.zhang_plate.proofs.Turns.{in_range, castable, next_power, stops, goes_on, ends}
 use Rattle.zhang_plate.proofs.known_plate.Given as goal
 
 abbrev pub invariant-loop-power : goal.invariant-loop-power

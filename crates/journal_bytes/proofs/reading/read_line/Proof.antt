@@ -7,7 +7,7 @@ use mathlib.Core.List.{List}
 use lib.ListN.{length, drop, replicate, length-replicate}
 use mathlib.Core.Path.{◌≡◌, ap, ◌∙◌}
 use Rattle.common.specs.Slices.{rest_from}
-use Rattle.journal_bytes.proofs.Found.{Done, at_end, done, front_long, front_room, undone, got, not_so, not_written, in-journal}
+use Rattle.journal_bytes.proofs.Found.{Done, at_end, done, front_long, front_room, undone, got, not_so, not_written, in_journal}
 use borrow.Author.Rules.{rules}
 use Rattle.journal_bytes.proofs.reading.read_line.Statement.{statement}
 use Rattle.journal_bytes.proofs.reading.read_line.Tie as tie
@@ -85,7 +85,7 @@ add-t17 c =
     let f = x.before.before in
     let a = f.before.before.args in
     let e = b.begins-with.ensures ∙ ap (begins _) (rest_from a.bytes.now a.at) in
-    omega (arith, in-journal a.bytes.now a.at x.unchecked-line.result f.if1.false (line_is x) _ _ _ _ (made n) b.begins-with.result e c.if2.true)
+    omega (arith, in_journal a.bytes.now a.at x.unchecked-line.result f.if1.false (line_is x) _ _ _ _ (made n) b.begins-with.result e c.if2.true)
 
 returns-3 : tie.Need-returns-3
 returns-3 c =

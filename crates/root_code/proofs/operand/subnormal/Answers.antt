@@ -6,11 +6,11 @@ use lib.Ieee.{binary64}
 use Rattle.root.specs.Root.{root_of}
 use Rattle.root_code.specs.Exponent.{shifted}
 use Rattle.root_code.proofs.Exponents.{read}
-use Rattle.root_code.proofs.Patterns.{root_moved, lz-in, moved_is, moved_lo, moved_hi}
+use Rattle.root_code.proofs.Patterns.{root_moved, lz_in, moved_is, moved_lo, moved_hi}
 use Rattle.root_code.proofs.operand.subnormal.Goals as goal
 
 digit : (c : goal.Start) → (12 ≤ count_leading_zeros 64 c.args.b) × (count_leading_zeros 64 c.args.b ≤ 63)
-digit c = lz-in c.args.b c.requires.0 c.requires.1
+digit c = lz_in c.args.b c.requires.0 c.requires.1
 
 pub overflow_sub-z : goal.overflow_sub-z
 overflow_sub-z c = omega (arith, digit c)

@@ -1,14 +1,14 @@
 -- `score_rows::blocks::in_front` meets its contract. The loop's invariant: the count is that of the first j rows.
 -- The measure is what is left of the rows. Assumes nothing.
 use Rattle.std.proofs.Common.{◌≡◌, ℕ, ◌+◌, ◌-◌, ◌^◌, ◌<◌, ◌≤◌, get_or, refl, ap, ◌∙◌, add-one, arith, rules}
-use Rattle.score_rows.specs.Steps.{inFront, one_at_most, front_at_most}
+use Rattle.score_rows.specs.Steps.{in_front, one_at_most, front_at_most}
 use Rattle.score_rows.proofs.blocks.in_front.Goals as goal
 
 few : (count one j : ℕ) → count ≤ j → one ≤ 1 → j < 16 → count + one < 2 ^ 8
 few count one j h k l = omega arith
 
 pub loop-j-init : goal.loop-j-init
-unfolding inFront
+unfolding in_front
 loop-j-init c = (omega arith, refl)
 
 pub overflow_add-count : goal.overflow_add-count
@@ -20,7 +20,7 @@ overflow_add-count c =
     record { fits = few l.count c.one_in_front-count.result l.j (rw l.invariant.1 k) (rw c.one_in_front-count.ensures m) (omega arith) }
 
 pub loop-j-preserved : goal.loop-j-preserved
-unfolding inFront
+unfolding in_front
 loop-j-preserved c =
     let l = c.loop-j in
     (omega arith, rw (add-one l.j, c.one_in_front-count.ensures, l.invariant.1))
@@ -30,4 +30,4 @@ returns c =
     let l = c.loop-j in
     let a = c.args in
     let e : l.j ≡ a.n = omega arith in
-    l.invariant.1 ∙ ap (inFront a.flags.now a.i) e
+    l.invariant.1 ∙ ap (in_front a.flags.now a.i) e

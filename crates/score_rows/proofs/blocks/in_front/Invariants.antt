@@ -1,11 +1,11 @@
 -- `score_rows::blocks::in_front` meets its contract. The loop's invariant: the count is that of the first j rows.
 -- The measure is what is left of the rows. Assumes nothing.
 use Rattle.std.proofs.Common.{◌≡◌, ℕ, ◌+◌, ◌-◌, ◌^◌, ◌<◌, ◌≤◌, get_or, refl, ap, ◌∙◌, add-one, arith, rules}
-use Rattle.score_rows.specs.Steps.{inFront, one_at_most, front_at_most}
+use Rattle.score_rows.specs.Steps.{in_front, one_at_most, front_at_most}
 use Rattle.score_rows.proofs.blocks.in_front.Given as goal
 
 abbrev pub invariant-loop-j : goal.invariant-loop-j
-invariant-loop-j l = (l.j ≤ l.n) × (l.count ≡ inFront l.flags l.i l.j)
+invariant-loop-j l = (l.j ≤ l.n) × (l.count ≡ in_front l.flags l.i l.j)
 
 abbrev pub decreases-loop-j : goal.decreases-loop-j
 decreases-loop-j l = l.n - l.j

@@ -3,7 +3,7 @@ use mathlib.Core.Path.{sym, ◌∙◌}
 use borrow.Author.Rules.{rules}
 use borrow.Author.Tests.{eqb-true, not-true}
 use Rattle.common.specs.Tests.{both_true}
-use Rattle.search_calls.specs.NextLaws.{next-in-list, next_hands, next_keeps}
+use Rattle.search_calls.specs.NextLaws.{next_in_list, next_hands, next_keeps}
 use Rattle.search_calls.proofs.next.next.Statement.{statement}
 use Rattle.search_calls.proofs.next.next.Tie as tie
 
@@ -16,7 +16,7 @@ reply-by-requires c κs = search rules
 seed-at-requires : tie.Need-seed-at-requires
 seed-at-requires c κs =
     let k = both_true _ _ c.if1.true in
-    next-in-list _ _ (sym c.before.before.before.next-refusal.ensures ∙ eqb-true _ _ k.0) (not-true _ k.1)
+    next_in_list _ _ (sym c.before.before.before.next-refusal.ensures ∙ eqb-true _ _ k.0) (not-true _ k.1)
 
 awaiting-requires : tie.Need-awaiting-requires
 awaiting-requires c κs = search rules

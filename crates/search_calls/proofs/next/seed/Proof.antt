@@ -6,7 +6,7 @@ use borrow.Author.Rules.{rules}
 use borrow.Author.Tests.{not-true, not-false}
 use lib.ListN.{length}
 use Rattle.search_calls.specs.Next.{seed_part}
-use Rattle.search_calls.specs.NextLaws.{seed-in-list}
+use Rattle.search_calls.specs.NextLaws.{seed_in_list}
 use Rattle.search_calls.proofs.next.seed.Statement.{statement}
 use Rattle.search_calls.proofs.next.seed.Tie as tie
 
@@ -27,7 +27,7 @@ unfolding seed_part
 returns c = simp (sym c.before.before.is-seed-lent.ensures ∙ not-true _ c.before.if1.true)
 
 in_list : (c : tie.After-struct-known) → 6 * c.before.before.before.before.args.run.place.at + 6 ≤ length c.before.before.before.before.args.list.now
-in_list c = seed-in-list _ _ (sym c.before.before.is-seed-lent.ensures ∙ not-false _ c.before.if1.false)
+in_list c = seed_in_list _ _ (sym c.before.before.is-seed-lent.ensures ∙ not-false _ c.before.if1.false)
 
 mul-from : tie.Need-overflow-mul-from
 mul-from c = omega (arith, in_list c, c.before.before.before.before.well-formed)

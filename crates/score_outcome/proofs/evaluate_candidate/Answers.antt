@@ -1,0 +1,72 @@
+-- `score_outcome::evaluate_candidate` meets its contract: each test of the code is the definition's. Assumes nothing.
+use mathlib.Core.Path.{◌≡◌, refl, sym, ap, ◌∙◌}
+use mathlib.Core.Bool.{true}
+use mathlib.Core.List.{List}
+use Prim.Native.Nat.{ℕ}
+use lib.Ieee.{Float}
+use borrow.Author.Rules.{rules}
+use lib.ListN.{length}
+use Rattle.float.specs.Float.{is_finite}
+use Rattle.camera_tilt.specs.Matrix.{Matrix}
+use Rattle.score_camera.specs.declared.pinhole.PinholeCamera.{PinholeCamera}
+use Rattle.score_camera.specs.Camera.{damped_camera, valid_camera}
+use Rattle.score_camera.specs.Penalties.{score_of}
+use Rattle.score_rows.specs.Rows.{rows_of, tilt_matrix, error_sum, mean_of}
+use Rattle.score_rows.specs.Counted.{counted_most}
+use Rattle.score_rows.specs.declared.ErrorSum.{ErrorSum}
+use Rattle.score_outcome.specs.Evaluation.{errors_with, mean_with, enough, enough_with, scoring_of, scored_as}
+use Rattle.score_outcome.specs.Outcomes.{invalid_skips, few_skips, infinite_skips, passed_scored, scoring_is}
+use Rattle.score_outcome.specs.declared.SolvedCamera.{SolvedCamera}
+use Rattle.score_outcome.proofs.evaluate_candidate.Goals as goal
+
+-- ---- what the calls say of the definition's parts
+module _ (s : SolvedCamera) (rows : List Float) (flags : List ℕ) where
+  errors : (k : PinholeCamera) (h : Matrix) (e : ErrorSum) → k ≡ damped_camera s.camera → h ≡ tilt_matrix s.trig → e ≡ error_sum k h (rows_of rows flags) → errors_with s rows flags ≡ e
+  unfolding errors_with
+  errors k h e p q r = rw (← p, ← q, ← r)
+
+  counted : (share : ℕ) (e : ErrorSum) → errors_with s rows flags ≡ e → enough_with share s rows flags ≡ enough share e.count (length flags)
+  unfolding enough_with
+  counted share e p = ap (λ (x : ErrorSum). enough share x.count (length flags)) p
+
+  mean : (e : ErrorSum) → errors_with s rows flags ≡ e → mean_with s rows flags ≡ mean_of e
+  unfolding mean_with
+  mean e p = ap mean_of p
+
+pub returns-then-not-validate_camera : goal.returns-then-not-validate_camera
+returns-then-not-validate_camera c =
+    let a = c.args in
+    let valid = ap valid_camera (sym c.damped_camera-camera.ensures) ∙ sym c.validate_camera.ensures ∙ c.if-not-validate_camera.true in
+    sym (invalid_skips a.share a.solved a.sensor a.center a.rows.now a.flags.now valid)
+
+pub is_enough-requires : goal.is_enough-requires
+is_enough-requires c = rw c.reproj_error_sum-errors.ensures (counted_most _ _ _ _)
+
+pub returns-then-not-is_enough : goal.returns-then-not-is_enough
+returns-then-not-is_enough c =
+    let a = c.args in
+    let valid = ap valid_camera (sym c.damped_camera-camera.ensures) ∙ sym c.validate_camera.ensures ∙ c.if-not-validate_camera.false in
+    let e = errors a.solved a.rows.now a.flags.now _ _ _ c.damped_camera-camera.ensures c.tilt_matrix.ensures c.reproj_error_sum-errors.ensures in
+    let few = counted a.solved a.rows.now a.flags.now a.share _ e ∙ sym c.is_enough.ensures ∙ c.if-not-is_enough.true in
+    sym (few_skips a.share a.solved a.sensor a.center a.rows.now a.flags.now valid few)
+
+pub returns-then-not-is_finite : goal.returns-then-not-is_finite
+returns-then-not-is_finite c =
+    let a = c.args in
+    let valid = ap valid_camera (sym c.damped_camera-camera.ensures) ∙ sym c.validate_camera.ensures ∙ c.if-not-validate_camera.false in
+    let e = errors a.solved a.rows.now a.flags.now _ _ _ c.damped_camera-camera.ensures c.tilt_matrix.ensures c.reproj_error_sum-errors.ensures in
+    let m = mean a.solved a.rows.now a.flags.now _ e ∙ sym c.mean_reproj_error-mean.ensures in
+    let infinite = ap is_finite m ∙ sym c.is_finite.ensures ∙ c.if-not-is_finite.true in
+    sym (infinite_skips a.share a.solved a.sensor a.center a.rows.now a.flags.now valid infinite)
+
+pub returns : goal.returns
+returns c =
+    let a = c.args in
+    let valid = ap valid_camera (sym c.damped_camera-camera.ensures) ∙ sym c.validate_camera.ensures ∙ c.if-not-validate_camera.false in
+    let e = errors a.solved a.rows.now a.flags.now _ _ _ c.damped_camera-camera.ensures c.tilt_matrix.ensures c.reproj_error_sum-errors.ensures in
+    let m = mean a.solved a.rows.now a.flags.now _ e ∙ sym c.mean_reproj_error-mean.ensures in
+    let many = counted a.solved a.rows.now a.flags.now a.share _ e ∙ sym c.is_enough.ensures ∙ c.if-not-is_enough.false in
+    let finite = ap is_finite m ∙ sym c.is_finite.ensures ∙ c.if-not-is_finite.false in
+    c.scored_outcome.ensures
+    ∙ sym (passed_scored a.share a.solved a.sensor a.center a.rows.now a.flags.now valid many finite
+    ∙ ap scored_as (scoring_is _ _ _ _ _ _ _ _ (sym c.damped_camera-camera.ensures) m refl))
