@@ -1,0 +1,13 @@
+-- `score_best::improved` meets its contract. Assumes nothing.
+use mathlib.Core.Path.{sym, ◌∙◌}
+use borrow.Author.Rules.{rules}
+use Rattle.score_best.specs.Best.{improved}
+use Rattle.score_best.proofs.improved.Goals as goal
+
+pub returns-then-is_better : goal.returns-then-is_better
+unfolding improved
+returns-then-is_better c = simp (sym c.is_better.ensures ∙ c.if-is_better.true)
+
+pub returns : goal.returns
+unfolding improved
+returns c = simp (sym c.is_better.ensures ∙ c.if-is_better.false)
