@@ -1,7 +1,5 @@
 -- `journal_bytes::reading::read_line` meets its contract: what the writer made of the line that the bytes would be says which answer is right.
 -- Assumes nothing.
--- the line that the writer is given
--- what the writer has made, where it gave a length
 use Rattle.journal_line.specs.Reading.{unchecked_line, begins}
 use native.Mathlib.Omega.{arith}
 use Prim.Native.Nat.{ℕ}
@@ -32,20 +30,20 @@ returns-in_default c =
 pub slice_bounds-buffer-end : goal.slice_bounds-buffer-end
 slice_bounds-buffer-end c =
     let made : Done c.unchecked_line-line.result zeros c.write_line.new.out c.in-Length.n long = let e = c.write_line.ensures in
-    done c.unchecked_line-line.result zeros c.write_line.new.out c.in-Length.n long c.write_line.result e.0 e.1.0 c.in-Length.is in
+    done c.unchecked_line-line.result zeros c.write_line.new.out c.in-Length.n long c.write_line.result e.reply e.written c.in-Length.is in
     front_room _ _ _ _ _ (made)
 
 pub slice_bounds-begins_with-end : goal.slice_bounds-begins_with-end
 slice_bounds-begins_with-end c =
     let made : Done c.unchecked_line-line.result zeros c.write_line.new.out c.in-Length.n long = let e = c.write_line.ensures in
-    done c.unchecked_line-line.result zeros c.write_line.new.out c.in-Length.n long c.write_line.result e.0 e.1.0 c.in-Length.is in
+    done c.unchecked_line-line.result zeros c.write_line.new.out c.in-Length.n long c.write_line.result e.reply e.written c.in-Length.is in
     front_long _ _ _ _ _ (made)
 
 pub overflow_add-result : goal.overflow_add-result
 overflow_add-result c =
     let line_is : c.unchecked_line-line.result ≡ unchecked_line (drop c.args.at c.args.bytes.now) = let a = c.args in c.unchecked_line-line.ensures ∙ ap unchecked_line (rest_from a.bytes.now a.at) in
     let made : Done c.unchecked_line-line.result zeros c.write_line.new.out c.in-Length.n long = let e = c.write_line.ensures in
-    done c.unchecked_line-line.result zeros c.write_line.new.out c.in-Length.n long c.write_line.result e.0 e.1.0 c.in-Length.is in
+    done c.unchecked_line-line.result zeros c.write_line.new.out c.in-Length.n long c.write_line.result e.reply e.written c.in-Length.is in
     let a = c.args in
     let e = c.begins_with.ensures ∙ ap (begins _) (rest_from a.bytes.now a.at) in
     omega (arith, in_journal a.bytes.now a.at c.unchecked_line-line.result c.if-bytes-at.false (line_is) _ _ _ _ (made) c.begins_with.result e c.if-begins_with.true)
@@ -54,7 +52,7 @@ pub returns-then-begins_with : goal.returns-then-begins_with
 returns-then-begins_with c =
     let line_is : c.unchecked_line-line.result ≡ unchecked_line (drop c.args.at c.args.bytes.now) = let a = c.args in c.unchecked_line-line.ensures ∙ ap unchecked_line (rest_from a.bytes.now a.at) in
     let made : Done c.unchecked_line-line.result zeros c.write_line.new.out c.in-Length.n long = let e = c.write_line.ensures in
-    done c.unchecked_line-line.result zeros c.write_line.new.out c.in-Length.n long c.write_line.result e.0 e.1.0 c.in-Length.is in
+    done c.unchecked_line-line.result zeros c.write_line.new.out c.in-Length.n long c.write_line.result e.reply e.written c.in-Length.is in
     let a = c.args in
     let e = c.begins_with.ensures ∙ ap (begins _) (rest_from a.bytes.now a.at) in
     got a.bytes.now a.at c.unchecked_line-line.result c.if-bytes-at.false (line_is) _ _ _ _ (made) c.begins_with.result e c.if-begins_with.true
@@ -63,7 +61,7 @@ pub returns : goal.returns
 returns c =
     let line_is : c.unchecked_line-line.result ≡ unchecked_line (drop c.args.at c.args.bytes.now) = let a = c.args in c.unchecked_line-line.ensures ∙ ap unchecked_line (rest_from a.bytes.now a.at) in
     let made : Done c.unchecked_line-line.result zeros c.write_line.new.out c.in-Length.n long = let e = c.write_line.ensures in
-    done c.unchecked_line-line.result zeros c.write_line.new.out c.in-Length.n long c.write_line.result e.0 e.1.0 c.in-Length.is in
+    done c.unchecked_line-line.result zeros c.write_line.new.out c.in-Length.n long c.write_line.result e.reply e.written c.in-Length.is in
     let a = c.args in
     let e = c.begins_with.ensures ∙ ap (begins _) (rest_from a.bytes.now a.at) in
     let r = not_so a.bytes.now a.at c.unchecked_line-line.result c.if-bytes-at.false (line_is) _ _ _ _ (made) c.begins_with.result e c.if-begins_with.false in
