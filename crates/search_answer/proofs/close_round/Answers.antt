@@ -48,11 +48,11 @@ shape_of-list c = c.loop-run.invariant.1.1.1
 pub returns : goal.returns
 returns c =
     let ends : close_round (c.loop-run.run.options.refine_rounds - c.loop-run.run.place.round) c.loop-run.run c.loop-run.list ≡ left (ended c.loop-run.run) c.loop-run.list =
-        elim c.loop-run-test.branch [
-          | else-loop-run-test w ↦ close_last _ c.loop-run.run c.loop-run.list (omega (arith, w.loop-run-test.false))
-          | then-loop-run-test+then-not-best w ↦
-              close_none _ c.loop-run.run c.loop-run.list _ (omega (arith, w.loop-run-test.true)) w.or_else-best.ensures (not-true _ w.if-not-best.true)
-        ]
+    elim c.loop-run-test.branch [
+      | else-loop-run-test w ↦ close_last _ c.loop-run.run c.loop-run.list (omega (arith, w.loop-run-test.false))
+      | then-loop-run-test+then-not-best w ↦
+          close_none _ c.loop-run.run c.loop-run.list _ (omega (arith, w.loop-run-test.true)) w.or_else-best.ensures (not-true _ w.if-not-best.true)
+    ]
     in
     let e = sym c.loop-run.invariant.0 ∙ ends in
     record { value = c.ended.ensures ∙ sym (ap (λ (x : Left). x.run) e); list_after = sym (ap (λ (x : Left). x.list) e) }

@@ -12,7 +12,7 @@ use Rattle.search_answer.specs.AnswerLaws.{close_last, close_none, close_open, c
 use Rattle.search_answer.proofs.close_round.Given as goal
 
 abbrev pub invariant-loop-run : goal.invariant-loop-run
-invariant-loop-run l = 
+invariant-loop-run l =
     (close_round (l.run.options.refine_rounds - l.run.place.round) l.run l.list ≡ close_round (l.initial.run.options.refine_rounds - l.initial.run.place.round) l.initial.run l.initial.list)
     × ((l.run.options.refine_rounds ≤ 16)
     × ((54 ≤ length l.list)

@@ -16,7 +16,7 @@ use Rattle.search_start.specs.Start.{untilted_seed}
 use Rattle.search_start.proofs.all_untilted_seeds.Given as goal
 
 abbrev pub invariant-loop-i : goal.invariant-loop-i
-invariant-loop-i l = 
+invariant-loop-i l =
     (l.i ≤ l.n)
     × ((6 * l.n ≤ length l.decomposition)
     × (every untilted_seed (drop l.i (seeds_of l.n l.decomposition)) ≡ every untilted_seed (seeds_of (length l.decomposition / 6) l.decomposition)))

@@ -14,8 +14,10 @@ loop-i-preserved c =
     let a = c.args in
     let l = c.loop-i in
     let f : ℕ → ℕ = λ k. k + newlines (drop (l.i + 1) a.s.now) in
-    elim c.if-s-i-eq10.branch [ then-s-i-eq10 w ↦ (search rules, omega arith, ap f w.n-is ∙ newline_here a.s.now l.i l.n (search rules) w.if-s-i-eq10.true l.invariant.2)
-    | else-s-i-eq10 w ↦ (search rules, omega arith, ap f w.n-is ∙ newline_not a.s.now l.i l.n (search rules) w.if-s-i-eq10.false l.invariant.2) ]
+    elim c.if-s-i-eq10.branch [
+      | then-s-i-eq10 w ↦ (search rules, omega arith, ap f w.n-is ∙ newline_here a.s.now l.i l.n (search rules) w.if-s-i-eq10.true l.invariant.2)
+      | else-s-i-eq10 w ↦ (search rules, omega arith, ap f w.n-is ∙ newline_not a.s.now l.i l.n (search rules) w.if-s-i-eq10.false l.invariant.2)
+    ]
 
 pub returns : goal.returns
 returns c = let l = c.loop-i in (newlines_all c.args.s.now l.i l.n (search rules) l.invariant.2, search rules)

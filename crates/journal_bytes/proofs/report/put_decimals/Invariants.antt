@@ -12,7 +12,7 @@ use borrow.Author.Rules.{rules}
 use Rattle.journal_bytes.proofs.report.put_decimals.Given as goal
 
 abbrev pub invariant-loop-i : goal.invariant-loop-i
-invariant-loop-i l = 
+invariant-loop-i l =
     (l.i ≤ length l.ns) × (length l.out ≡ length l.initial.out) × (l.place ≤ l.at + 4 * l.i)
     × (l.place + length (comma_fields (map decimal (drop l.i l.ns))) ≡ l.at + length (comma_fields (map decimal l.ns)))
     × (sets l.out l.place (comma_fields (map decimal (drop l.i l.ns))) ≡ sets l.initial.out l.at (comma_fields (map decimal l.ns)))

@@ -11,7 +11,7 @@ use Rattle.journal_replay.specs.WalkLaws.{walk_at, walk_starts, walk_ends, walk_
 use Rattle.journal_replay.proofs.walk.walk.Given as goal
 
 abbrev pub invariant-loop-line : goal.invariant-loop-line
-invariant-loop-line l = 
+invariant-loop-line l =
     (walk_at l.run l.list l.lines (suc (length l.bytes - l.lines)) l.bytes l.at ≡ walk_of l.initial.run l.initial.list l.bytes)
     × ((2 * l.lines ≤ l.at)
     × ((l.at ≤ length l.bytes)
