@@ -353,7 +353,7 @@ reaches i r [] h k n = case r.place.over (λ o. o) (λ o. absurd (let p = h.room
 reaches i r (t ∷ ts) h k n =
     case r.place.over
     (λ o. through_over i r (turns (t ∷ ts)) h o)
-    (λ o. let a = one_turn i r t h o k.0 in reaches i _ ts a.lasts k.1 (let p = a.less in omega arith))
+    (λ o. let a = one_turn i r t h o k.0 in reaches i (left (left r (next_with t.to_next)) (answer_with t.to_answer t.finding t.rows t.flags)) ts a.lasts k.1 (let p = a.less in omega arith))
 
 -- ---- the run that goes with a book between the calls
 run_lasts : (i : Inputs) (b : Book) → Good i b → Lasts i (run_of b)

@@ -102,6 +102,10 @@ module _ (i : Inputs) (b : Book) (l : List Float) (t : State i b l) where
   by_call (seed n) cs w m = absurd (mathlib.Core.List.Memᴰ.not-nil m)
   by_call (answer n f rows flags) cs w m = now_answered n f rows flags cs w (own b n rows flags w f m)
   by_call ask cs w m = absurd (mathlib.Core.List.Memᴰ.not-nil m)
+  by_call Rattle.book.specs.Calls.progress cs w m = elim m [ ]
+  by_call (Rattle.book.specs.Calls.stop _) cs w m = elim m [ ]
+  by_call Rattle.book.specs.Calls.last cs w m = elim m [ ]
+  by_call Rattle.book.specs.Calls.counts cs w m = elim m [ ]
 
   later : (c : Call) (cs : List Call) (w : Candidate) → AnsweredBy i.share (run_call (run_of b) l c).run (run_call (run_of b) l c).list cs w → AnsweredBy i.share (run_of b) l (c ∷ cs) w
   unfolding run_after list_after

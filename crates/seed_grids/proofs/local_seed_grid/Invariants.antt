@@ -19,7 +19,7 @@ use Rattle.seed_rules.specs.Steps.{Merging, merging_start, merging_more}
 use Rattle.seed_grids.proofs.local_seed_grid.Given as goal
 
 abbrev pub invariant-loop-i : goal.invariant-loop-i
-invariant-loop-i l = 
+invariant-loop-i l =
     (l.i ≤ length l.offsets_x)
     × Merging six 6 near [] (seeds_within l.max_abs_tilt l.reference_k (pairs (moved l.center.tilt_x (take l.i l.offsets_x)) (moved l.center.tilt_y l.offsets_y))) l.initial.seeds l.seeds l.kept (l.i * length l.offsets_y)
 

@@ -19,7 +19,7 @@ use Rattle.seed_rules.specs.Steps.{Merging, merging_start, merging_more}
 use Rattle.seed_grids.proofs.local_seed_row.Given as goal
 
 abbrev pub invariant-loop-j : goal.invariant-loop-j
-invariant-loop-j l = 
+invariant-loop-j l =
     (l.j ≤ length l.offsets_y)
     × Merging six 6 near (seeds_of l.initial.count l.initial.seeds) (seeds_within l.max_abs_tilt l.reference_k (map (tilts l.tilt_x) (moved l.center_y (take l.j l.offsets_y)))) l.initial.seeds l.seeds l.count (l.initial.count + l.j)
 

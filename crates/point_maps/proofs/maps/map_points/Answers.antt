@@ -15,8 +15,7 @@ pub bounds-to-i-in-loop-i : goal.bounds-to-i-in-loop-i
 bounds-to-i-in-loop-i c = simp length-set (omega arith)
 
 pub loop-i-preserved : goal.loop-i-preserved
-loop-i-preserved c =
-    (
+loop-i-preserved c = (
   search rules,
   (
     search rules,

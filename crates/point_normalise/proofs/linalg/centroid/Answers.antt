@@ -13,12 +13,11 @@ pub loop-i-init : goal.loop-i-init
 loop-i-init c = (search rules, refl)
 
 pub loop-i-preserved : goal.loop-i-preserved
-loop-i-preserved c =
-    (
-      search rules,
-      rw c.point_at-p.ensures
-          (sym (fold_next add_point (record { x = c.loop-i.cx; y = c.loop-i.cy }) c.args.points.now c.loop-i.i (search rules)) ∙ c.loop-i.invariant.1),
-    )
+loop-i-preserved c = (
+  search rules,
+  rw c.point_at-p.ensures
+      (sym (fold_next add_point (record { x = c.loop-i.cx; y = c.loop-i.cy }) c.args.points.now c.loop-i.i (search rules)) ∙ c.loop-i.invariant.1),
+)
 
 pub int_to_float-n : goal.int_to_float-n
 int_to_float-n c = count_fits c.args.points.now (search rules)

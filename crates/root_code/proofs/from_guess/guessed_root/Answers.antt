@@ -41,8 +41,7 @@ returns c =
     let d = c.wrapping_sub_u64-d in
     let l = c.low_digits-l in
     let a = c.wrapping_sub_u64-a in
-    let h = c.high_digits-h in
-    (
+    let h = c.high_digits-h in (
       near_sum h.result l.result v.result h.ensures l.ensures v.type_inv,
       λ wide signs.
           let p = both_below a.result d.result (2 ^ 37) wide in

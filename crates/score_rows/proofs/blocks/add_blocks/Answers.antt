@@ -38,7 +38,7 @@ overflow_add-at c =
     let a = c.args in
     let D = Dense a.camera a.h a.rows.now a.flags.now c.loop-done.sum c.loop-done.done a.n in
     let dense : D c.if-first-eq0.part =
-        elim c.if-first-eq0.branch [ then-first-eq0 w ↦ subst D (sym w.part-is) (omega arith, refl) | else-first-eq0 w ↦ subst D (sym w.part-is) w.add_dense-part.ensures ]
+    elim c.if-first-eq0.branch [ then-first-eq0 w ↦ subst D (sym w.part-is) (omega arith, refl) | else-first-eq0 w ↦ subst D (sym w.part-is) w.add_dense-part.ensures ]
     in
     let d = dense.0 in search rules
 
@@ -48,7 +48,7 @@ overflow_sub-n c =
     let a = c.args in
     let D = Dense a.camera a.h a.rows.now a.flags.now c.loop-done.sum c.loop-done.done a.n in
     let dense : D c.if-first-eq0.part =
-        elim c.if-first-eq0.branch [ then-first-eq0 w ↦ subst D (sym w.part-is) (omega arith, refl) | else-first-eq0 w ↦ subst D (sym w.part-is) w.add_dense-part.ensures ]
+    elim c.if-first-eq0.branch [ then-first-eq0 w ↦ subst D (sym w.part-is) (omega arith, refl) | else-first-eq0 w ↦ subst D (sym w.part-is) w.add_dense-part.ensures ]
     in
     let d = dense.0 in search rules
 
@@ -58,7 +58,7 @@ add_sparse-sum-requires c =
     let a = c.args in
     let D = Dense a.camera a.h a.rows.now a.flags.now c.loop-done.sum c.loop-done.done a.n in
     let dense : D c.if-first-eq0.part =
-        elim c.if-first-eq0.branch [ then-first-eq0 w ↦ subst D (sym w.part-is) (omega arith, refl) | else-first-eq0 w ↦ subst D (sym w.part-is) w.add_dense-part.ensures ]
+    elim c.if-first-eq0.branch [ then-first-eq0 w ↦ subst D (sym w.part-is) (omega arith, refl) | else-first-eq0 w ↦ subst D (sym w.part-is) w.add_dense-part.ensures ]
     in
     let d = dense.0 in search rules
 
@@ -68,7 +68,7 @@ overflow_add-done c =
     let a = c.args in
     let D = Dense a.camera a.h a.rows.now a.flags.now c.loop-done.sum c.loop-done.done a.n in
     let dense : D c.if-first-eq0.part =
-        elim c.if-first-eq0.branch [ then-first-eq0 w ↦ subst D (sym w.part-is) (omega arith, refl) | else-first-eq0 w ↦ subst D (sym w.part-is) w.add_dense-part.ensures ]
+    elim c.if-first-eq0.branch [ then-first-eq0 w ↦ subst D (sym w.part-is) (omega arith, refl) | else-first-eq0 w ↦ subst D (sym w.part-is) w.add_dense-part.ensures ]
     in
     let d = dense.0 in search rules
 
@@ -78,7 +78,7 @@ loop-done-smaller c =
     let a = c.args in
     let D = Dense a.camera a.h a.rows.now a.flags.now c.loop-done.sum c.loop-done.done a.n in
     let dense : D c.if-first-eq0.part =
-        elim c.if-first-eq0.branch [ then-first-eq0 w ↦ subst D (sym w.part-is) (omega arith, refl) | else-first-eq0 w ↦ subst D (sym w.part-is) w.add_dense-part.ensures ]
+    elim c.if-first-eq0.branch [ then-first-eq0 w ↦ subst D (sym w.part-is) (omega arith, refl) | else-first-eq0 w ↦ subst D (sym w.part-is) w.add_dense-part.ensures ]
     in
     let d = dense.0 in
     let p = c.if-first-eq0.part in
@@ -93,7 +93,7 @@ loop-done-preserved c =
     let a = c.args in
     let D = Dense a.camera a.h a.rows.now a.flags.now c.loop-done.sum c.loop-done.done a.n in
     let dense : D c.if-first-eq0.part =
-        elim c.if-first-eq0.branch [ then-first-eq0 w ↦ subst D (sym w.part-is) (omega arith, refl) | else-first-eq0 w ↦ subst D (sym w.part-is) w.add_dense-part.ensures ]
+    elim c.if-first-eq0.branch [ then-first-eq0 w ↦ subst D (sym w.part-is) (omega arith, refl) | else-first-eq0 w ↦ subst D (sym w.part-is) w.add_dense-part.ensures ]
     in
     let d = dense in
     let p = c.if-first-eq0.part in

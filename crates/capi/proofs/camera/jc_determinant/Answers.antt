@@ -1,0 +1,8 @@
+-- `capi::camera::jc_determinant` meets its contract, by those of `rows_of` and `determinant`. Assumes nothing.
+use mathlib.Core.Path.{ap, ◌∙◌}
+use borrow.Author.Rules.{rules}
+use Rattle.camera_tilt.specs.Matrix.{determinant_of}
+use Rattle.capi.proofs.camera.jc_determinant.Goals as goal
+
+pub returns : goal.returns
+returns c = c.determinant.ensures ∙ ap determinant_of c.rows_of.ensures

@@ -1,0 +1,11 @@
+-- `capi_records::journal::write_reply` meets its contract. Assumes nothing.
+use mathlib.Core.Path.{ap, sym}
+use borrow.Author.Rules.{rules}
+use Rattle.capi_records.specs.Journal.{flat_written}
+use Rattle.capi_records.proofs.journal.write_reply.Goals as goal
+
+pub returns-in-Length : goal.returns-in-Length
+returns-in-Length c = sym (ap flat_written c.in-Length.is)
+
+pub returns-in-Refused : goal.returns-in-Refused
+returns-in-Refused c = sym (ap flat_written c.in-Refused.is)

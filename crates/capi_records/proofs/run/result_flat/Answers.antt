@@ -1,0 +1,11 @@
+-- `capi_records::run::result_flat` meets its contract, by that of `no_candidate`. Assumes nothing.
+use mathlib.Core.Path.{ap, sym}
+use borrow.Author.Rules.{rules}
+use Rattle.capi_records.specs.Run.{flat_result}
+use Rattle.capi_records.proofs.run.result_flat.Goals as goal
+
+pub returns-in-Result : goal.returns-in-Result
+returns-in-Result c = sym (ap flat_result c.in-Result.is)
+
+pub returns-in-Refused : goal.returns-in-Refused
+returns-in-Refused c = simp (c.in-Refused.is, c.no_candidate.ensures)

@@ -1,0 +1,11 @@
+-- `capi_records::scoring::error_count_reply` meets its contract. Assumes nothing.
+use mathlib.Core.Path.{ap, sym}
+use borrow.Author.Rules.{rules}
+use Rattle.capi_records.specs.Scoring.{flat_error_count}
+use Rattle.capi_records.proofs.scoring.error_count_reply.Goals as goal
+
+pub returns-in-Errors : goal.returns-in-Errors
+returns-in-Errors c = sym (ap flat_error_count c.in-Errors.is)
+
+pub returns-in-Refused : goal.returns-in-Refused
+returns-in-Refused c = sym (ap flat_error_count c.in-Refused.is)

@@ -1,0 +1,16 @@
+-- `journal_bytes::reading::number_at` meets its contract: the number so far is that of the bytes passed. Assumes nothing.
+use Prim.Native.Nat.{ℕ, ◌≤◌, ◌-◌}
+use mathlib.Core.Path.{◌≡◌, refl, ap, ◌∙◌}
+use native.Mathlib.Omega.{arith}
+use lib.ListN.{drop}
+use Rattle.journal_line.specs.Reading.{number_at}
+use Rattle.journal_line.specs.DigitLaws.{digit_below}
+use Rattle.journal_bytes.proofs.Bytes.{number_room, number_turn}
+use borrow.Author.Rules.{rules}
+use Rattle.journal_bytes.proofs.reading.number_at.Given as goal
+
+abbrev pub invariant-loop-i : goal.invariant-loop-i
+invariant-loop-i l = (l.i ≤ l.w) × (l.n ≡ number_at l.base l.i (drop l.at l.s))
+
+abbrev pub decreases-loop-i : goal.decreases-loop-i
+decreases-loop-i l = l.w - l.i

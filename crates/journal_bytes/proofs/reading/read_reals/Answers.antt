@@ -1,0 +1,23 @@
+-- `journal_bytes::reading::read_reals` meets its contract: the first i are read, and the rest, from here, is the whole. Assumes nothing.
+use Prim.Native.Nat.{◌≤◌, ◌+◌, ◌-◌, ◌*◌}
+use mathlib.Core.Path.{◌≡◌, refl}
+use mathlib.Core.List.{◌++◌}
+use native.Mathlib.Nat.{add-zero, sub-zero}
+use native.Mathlib.Omega.{arith}
+use lib.ListN.{length, take, drop, length-set}
+use Rattle.journal_line.specs.Reading.{reals}
+use Rattle.journal_bytes.proofs.Bytes.{reals_next, reals_all}
+use borrow.Author.Rules.{rules}
+use Rattle.journal_bytes.proofs.reading.read_reals.Goals as goal
+
+pub loop-i-init : goal.loop-i-init
+loop-i-init c = (search rules, refl, simp (sub-zero, add-zero))
+
+pub loop-i-preserved : goal.loop-i-preserved
+loop-i-preserved c =
+    let l = c.loop-i in
+    let a = c.args in
+    (simp length-set (omega arith), simp length-set l.invariant.1, reals_next l.into _ a.s.now a.at l.i (length a.into.now) c.real_at.result (search rules) l.invariant.1 c.real_at.ensures l.invariant.2)
+
+pub returns : goal.returns
+returns c = let l = c.loop-i in reals_all l.into _ _ 0 l.i (length c.args.into.now) (search rules) l.invariant.1 l.invariant.2

@@ -1,0 +1,10 @@
+-- `journal_bytes::reading::real_at` meets its contract. Assumes nothing.
+use mathlib.Core.Path.{ap, ◌∙◌}
+use lib.Ieee.{binary64, of_bits}
+use Rattle.journal_line.specs.Reading.{real_at}
+use borrow.Author.Rules.{rules}
+use Rattle.journal_bytes.proofs.reading.real_at.Goals as goal
+
+pub returns : goal.returns
+unfolding real_at
+returns c = c.from_bits.ensures ∙ ap (of_bits binary64) c.number_at.ensures

@@ -1,0 +1,17 @@
+-- `journal_bytes::reading::refused_at` meets its contract. Assumes nothing.
+use Prim.Native.Nat.{ℕ, ◌+◌}
+use mathlib.Core.Path.{ap, sym}
+use native.Mathlib.Omega.{arith}
+use lib.Seq.{length-take-le}
+use Rattle.journal_line.specs.declared.Read.TheVariants.{Refused}
+use borrow.Author.Rules.{rules}
+use Rattle.journal_bytes.proofs.reading.refused_at.Goals as goal
+
+pub slice_bounds-count_newlines-end : goal.slice_bounds-count_newlines-end
+slice_bounds-count_newlines-end c = let a = c.args in sym (length-take-le a.at a.bytes.now c.requires)
+
+pub overflow_add-result : goal.overflow_add-result
+overflow_add-result c = let a = c.args in omega (arith, c.count_newlines.ensures.1, length-take-le a.at a.bytes.now c.requires)
+
+pub returns : goal.returns
+returns c = ap (λ (n : ℕ). Refused 29 (n + 1)) c.count_newlines.ensures.0

@@ -1,0 +1,10 @@
+-- `journal_bytes::writing::put_decimal` meets its contract. Assumes nothing.
+use borrow.Author.Rules.{rules}
+use Rattle.journal_line.specs.Line.{decimal}
+use Rattle.journal_bytes.proofs.writing.put_decimal.Goals as goal
+
+pub returns : goal.returns
+unfolding decimal
+returns c =
+    let w = c.decimal_width-w in
+    (search rules, rw (← w.ensures.0) c.put_digits.ensures, search rules)

@@ -1,0 +1,28 @@
+-- `journal_bytes::writing::put_minuses` meets its contract: what is left to store, from here, is the whole. Assumes nothing.
+use Prim.Native.Nat.{◌≤◌, ◌+◌, ◌-◌, ◌*◌}
+use mathlib.Core.Path.{◌≡◌, refl}
+use mathlib.Core.List.{[], ◌∷◌}
+use native.Mathlib.Nat.{add-zero}
+use native.Mathlib.Omega.{arith}
+use lib.ListN.{length, replicate, length-set}
+use lib.Seq.{sets}
+use Rattle.journal_line.specs.Steps.{comma_fields}
+use Rattle.journal_bytes.proofs.Stores.{minus_turn, no_minuses}
+use borrow.Author.Rules.{rules}
+use Rattle.journal_bytes.proofs.writing.put_minuses.Goals as goal
+
+pub loop-i-init : goal.loop-i-init
+loop-i-init c = (search rules, refl, rw add-zero)
+
+pub bounds-out-place-in-loop-i : goal.bounds-out-place-in-loop-i
+bounds-out-place-in-loop-i c = simp length-set (omega arith)
+
+pub loop-i-preserved : goal.loop-i-preserved
+loop-i-preserved c =
+    let l = c.loop-i in
+    (search rules, simp length-set l.invariant.1, minus_turn l.out _ c.args.at l.i (search rules) l.invariant.2)
+
+pub returns : goal.returns
+returns c =
+    let l = c.loop-i in
+    record { now_is = no_minuses l.out _ _ l.i (search rules) l.invariant.2; same_long = l.invariant.1 }

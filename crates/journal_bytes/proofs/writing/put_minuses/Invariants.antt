@@ -1,0 +1,18 @@
+-- `journal_bytes::writing::put_minuses` meets its contract: what is left to store, from here, is the whole. Assumes nothing.
+use Prim.Native.Nat.{◌≤◌, ◌+◌, ◌-◌, ◌*◌}
+use mathlib.Core.Path.{◌≡◌, refl}
+use mathlib.Core.List.{[], ◌∷◌}
+use native.Mathlib.Nat.{add-zero}
+use native.Mathlib.Omega.{arith}
+use lib.ListN.{length, replicate, length-set}
+use lib.Seq.{sets}
+use Rattle.journal_line.specs.Steps.{comma_fields}
+use Rattle.journal_bytes.proofs.Stores.{minus_turn, no_minuses}
+use borrow.Author.Rules.{rules}
+use Rattle.journal_bytes.proofs.writing.put_minuses.Given as goal
+
+abbrev pub invariant-loop-i : goal.invariant-loop-i
+invariant-loop-i l = (l.i ≤ 8) × (length l.out ≡ length l.initial.out) × (sets l.out (l.at + 2 * l.i) (comma_fields (replicate (8 - l.i) (45 ∷ []))) ≡ sets l.initial.out l.at (comma_fields (replicate 8 (45 ∷ []))))
+
+abbrev pub decreases-loop-i : goal.decreases-loop-i
+decreases-loop-i l = 8 - l.i

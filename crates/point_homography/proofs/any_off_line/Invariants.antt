@@ -1,0 +1,15 @@
+-- `point_homography::any_off_line` meets its contract. The loop's invariant: the search from here finds what the whole search finds. Assumes nothing.
+use borrow.Author.Rules.{rules}
+use mathlib.Core.Path.{◌≡◌, refl, sym, ◌∙◌}
+use mathlib.Core.Bool.{true, false}
+use Prim.Native.Nat.{◌≤◌, ◌-◌}
+use lib.ListN.{length, drop}
+use Rattle.point_homography.specs.Line.{off_line, any_off}
+use Rattle.point_normalise.specs.Walk.{find_here, find_next, find_end}
+use Rattle.point_homography.proofs.any_off_line.Given as goal
+
+abbrev pub invariant-loop-k : goal.invariant-loop-k
+invariant-loop-k l = (l.k ≤ length l.points) × (any_off l.p0 l.p1 (drop l.k l.points) ≡ any_off l.p0 l.p1 l.points)
+
+abbrev pub decreases-loop-k : goal.decreases-loop-k
+decreases-loop-k l = length l.points - l.k

@@ -1,0 +1,28 @@
+-- `point_homography::collinear` meets its contract: its tests are the definition's. Assumes nothing.
+use borrow.Author.Rules.{rules}
+use borrow.Author.Tests.{lt-ltb, le-ltb}
+use mathlib.Core.Path.{sym, ◌∙◌}
+use lib.ListN.{length}
+use Rattle.point_homography.specs.Line.{along, collinear_of}
+use Rattle.point_homography.proofs.collinear.Goals as goal
+
+pub returns-then-points-lt6 : goal.returns-then-points-lt6
+unfolding collinear_of
+returns-then-points-lt6 c = simp (lt-ltb (length c.args.points.now) 6 c.if-points-lt6.true)
+
+pub returns-in_default : goal.returns-in_default
+unfolding along collinear_of
+returns-in_default c =
+    let s = c.args.points.now in
+    simp (le-ltb (length s) 6 c.if-points-lt6.false, rw c.point_at-p0.ensures at (sym c.first_distinct.ensures ∙ c.in_default.is))
+
+pub returns : goal.returns
+unfolding along collinear_of
+returns c =
+    let s = c.args.points.now in
+    simp (
+      le-ltb (length s) 6 c.if-points-lt6.false,
+      rw c.point_at-p0.ensures at (sym c.first_distinct.ensures ∙ c.in-Point.is),
+      c.any_off_line.ensures,
+      c.point_at-p0.ensures,
+    )

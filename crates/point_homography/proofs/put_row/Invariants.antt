@@ -1,0 +1,16 @@
+-- `point_homography::put_row` meets its contract. The loop's invariant: what is left of the row, written from here, gives what the whole gives. Assumes nothing.
+use borrow.Author.Rules.{rules}
+use mathlib.Core.Path.{◌≡◌, refl, ◌∙◌}
+use Prim.Native.Nat.{◌+◌, ◌-◌, ◌≤◌}
+use native.Mathlib.Nat.{add-zero}
+use native.Mathlib.Omega.{arith}
+use lib.ListN.{length, drop, length-set}
+use lib.Seq.{sets, drop-length}
+use Rattle.point_normalise.specs.Walk.{sets_one}
+use Rattle.point_homography.proofs.put_row.Given as goal
+
+abbrev pub invariant-loop-j : goal.invariant-loop-j
+invariant-loop-j l = (l.j ≤ 9) × (length l.a ≡ length l.initial.a) × (sets l.a (l.at + l.j) (drop l.j l.row) ≡ sets l.initial.a l.at l.row)
+
+abbrev pub decreases-loop-j : goal.decreases-loop-j
+decreases-loop-j l = 9 - l.j

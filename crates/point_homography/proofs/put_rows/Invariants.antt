@@ -1,0 +1,17 @@
+-- `point_homography::put_rows` meets its contract. The loop's invariant: the rows that are left, written from here, give what the whole gives. Assumes nothing.
+use borrow.Author.Rules.{rules}
+use mathlib.Core.Path.{◌≡◌, refl, sym, ap, ◌∙◌}
+use Prim.Native.Nat.{◌-◌, ◌*◌, ◌≤◌}
+use lib.ListN.{length, drop}
+use lib.Seq.{sets, length-sets}
+use Rattle.point_normalise.specs.Points.{point_at}
+use Rattle.point_homography.specs.Rows.{pair_rows, moved_rows, design_rows}
+use Rattle.point_normalise.specs.Walk.{pair_end}
+use Rattle.point_homography.specs.RowsLaws.{rows_next}
+use Rattle.point_homography.proofs.put_rows.Given as goal
+
+abbrev pub invariant-loop-i : goal.invariant-loop-i
+invariant-loop-i l = (l.i ≤ length l.src) × (length l.a ≡ length l.initial.a) × (sets l.a (9 * l.i) (design_rows l.ts l.td (drop l.i l.src) (drop l.i l.dst)) ≡ sets l.initial.a 0 (design_rows l.ts l.td l.src l.dst))
+
+abbrev pub decreases-loop-i : goal.decreases-loop-i
+decreases-loop-i l = length l.src - l.i

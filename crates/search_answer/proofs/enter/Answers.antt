@@ -1,0 +1,29 @@
+-- `search_answer::enter` meets its contract: the round goes on, or its end is closed. Assumes nothing.
+use mathlib.Core.Path.{sym, ap, ◌∙◌}
+use native.Mathlib.Nat.{lt_of_lt_of_le, le_trans}
+use borrow.Author.Rules.{rules}
+use Rattle.search_answer.specs.Answer.{Left}
+use Rattle.search_record.specs.Laws.{bounds, waiting_at}
+use Rattle.search_answer.specs.AnswerLaws.{enter_goes_on, enter_closes, entered_rounds}
+use Rattle.search_answer.proofs.enter.Goals as goal
+
+pub entered-run-requires : goal.entered-run-requires
+entered-run-requires c =
+    let b = bounds _ c.requires.run_value in
+    record { at_bound = (lt_of_lt_of_le (waiting_at _ b c.requires.is_waiting_value) b.len_max, b.number_max); counts_bound = rw b.counts_sum b.number_max }
+
+pub close_round-run-requires : goal.close_round-run-requires
+close_round-run-requires c =
+    let b = bounds _ c.requires.run_value in
+    let k = entered_rounds _ _ _ c.entered-run.ensures in
+    record { round_bound = (rw (k.0, k.1) b.round_max, rw k.0 b.rounds_max); in_bounds = le_trans b.demand_min c.requires.demand_in_bounds }
+
+pub returns-then-run : goal.returns-then-run
+returns-then-run c =
+    let e = enter_closes _ _ _ _ c.entered-run.ensures c.if-run.true in
+    record { value = c.close_round-run.ensures.value ∙ sym (ap (λ (x : Left). x.run) e); list_after = c.close_round-run.ensures.list_after ∙ sym (ap (λ (x : Left). x.list) e) }
+
+pub returns-else-run : goal.returns-else-run
+returns-else-run c =
+    let e = enter_goes_on _ _ _ _ c.entered-run.ensures c.if-run.false in
+    record { value = sym (ap (λ (x : Left). x.run) e); list_after = sym (ap (λ (x : Left). x.list) e) }

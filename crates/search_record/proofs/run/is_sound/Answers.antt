@@ -1,0 +1,13 @@
+-- `search_record::run::is_sound` meets its contract. Assumes nothing.
+use borrow.Author.Rules.{rules}
+use borrow.Author.Tests.{le-leb, lt-leb}
+use Rattle.search_record.specs.Record.{sound}
+use Rattle.search_record.proofs.run.is_sound.Goals as goal
+
+pub returns-then-run-gt512 : goal.returns-then-run-gt512
+unfolding sound
+returns-then-run-gt512 c = simp (lt-leb _ _ c.if-run-gt512.true)
+
+pub returns : goal.returns
+unfolding sound
+returns c = simp (c.has_place.ensures, c.add_up.ensures, le-leb _ _ c.if-run-gt512.false)

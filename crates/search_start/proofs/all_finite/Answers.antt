@@ -1,0 +1,28 @@
+-- `search_start::all_finite` meets its contract. The loop's invariant: the test from place i on is the whole test. Assumes nothing.
+use mathlib.Core.Path.{◌≡◌, sym, ◌∙◌}
+use Prim.Native.Nat.{suc, ◌≤◌, ◌-◌}
+use native.Mathlib.Numerals.{add-one}
+use borrow.Author.Rules.{rules}
+use borrow.Author.Tests.{not-true, not-false}
+use lib.ListN.{length, get_or, drop}
+use lib.Seq.{drop-cons}
+use lib.Ieee.{nan}
+use Rattle.common.specs.All.{every_here, every_next, every_end}
+use Rattle.common.specs.Each.{every}
+use Rattle.float.specs.Float.{is_finite}
+use Rattle.search_start.proofs.all_finite.Goals as goal
+
+pub returns-then-not-is_finite : goal.returns-then-not-is_finite
+returns-then-not-is_finite c =
+    let l = c.args.numbers.now in
+    let i = c.loop-i.i in
+    sym (every_here is_finite l i (get_or l i nan) (drop (suc i) l) (drop-cons l i nan (search rules)) (sym c.is_finite.ensures ∙ c.if-not-is_finite.true)) ∙ c.loop-i.invariant.1
+
+pub loop-i-preserved : goal.loop-i-preserved
+loop-i-preserved c =
+    let l = c.args.numbers.now in
+    let i = c.loop-i.i in
+    (search rules, rw (add-one i) (sym (every_next is_finite l i (get_or l i nan) (drop (suc i) l) (drop-cons l i nan (search rules)) (sym c.is_finite.ensures ∙ c.if-not-is_finite.false)) ∙ c.loop-i.invariant.1))
+
+pub returns : goal.returns
+returns c = sym (every_end is_finite c.args.numbers.now c.loop-i.i (search rules)) ∙ c.loop-i.invariant.1
