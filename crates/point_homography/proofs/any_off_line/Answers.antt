@@ -1,9 +1,5 @@
--- `point_homography::any_off_line` meets its contract. The loop's invariant: the search from here finds what the whole search finds. Assumes nothing.
-use borrow.Author.Rules.{rules}
-use mathlib.Core.Path.{◌≡◌, refl, sym, ◌∙◌}
-use mathlib.Core.Bool.{true, false}
-use Prim.Native.Nat.{◌≤◌, ◌-◌}
-use lib.ListN.{length, drop}
+-- `point_homography::any_off_line` meets its contract. Assumes nothing.
+use Rattle.std.proofs.Common.{rules, ◌≡◌, refl, sym, ◌∙◌, true, false, ◌≤◌, ◌-◌, length, drop}
 use Rattle.point_homography.specs.Line.{off_line, any_off}
 use Rattle.point_normalise.specs.Walk.{find_here, find_next, find_end}
 use Rattle.point_homography.proofs.any_off_line.Goals as goal

@@ -1,5 +1,4 @@
--- `score_rows::add_rows` meets its contract. The loop's invariant: the sum and count have the first j of the rows.
--- The measure is what is left of them. Assumes nothing.
+-- `score_rows::add_rows` meets its contract. Assumes nothing.
 use Rattle.std.proofs.Common.{◌≡◌, ◌+◌, ◌-◌, ◌≤◌, refl, ap, ◌∙◌, add-one, arith, rules}
 use Rattle.score_rows.specs.Steps.{add_row, add_rows}
 use Rattle.score_rows.specs.declared.ErrorSum.{ErrorSum}

@@ -1,13 +1,6 @@
--- `search_start::all_untilted_seeds` meets its contract. The loop's invariant: the test from place i on is the whole test. Assumes nothing.
-use mathlib.Core.Path.{◌≡◌, refl, sym, ap, ◌∙◌}
-use mathlib.Core.Bool.{true, false}
-use Prim.Native.Nat.{suc, ◌*◌, ◌/◌, ◌≤◌, ◌-◌}
-use native.Mathlib.Nat.{div-mul-le_self}
-use native.Mathlib.Numerals.{add-one}
-use native.Mathlib.Omega.{arith}
-use borrow.Author.Rules.{rules}
+-- `search_start::all_untilted_seeds` meets its contract. Assumes nothing.
+use Rattle.std.proofs.Common.{◌≡◌, refl, sym, ap, ◌∙◌, true, false, suc, ◌*◌, ◌/◌, ◌≤◌, ◌-◌, div-mul-le_self, add-one, arith, rules, length, drop}
 use borrow.Author.Tests.{not-true, not-false}
-use lib.ListN.{length, drop}
 use Rattle.common.specs.All.{every_here, every_next, every_end}
 use Rattle.common.specs.Each.{every}
 use Rattle.seed_rules.specs.Layout.{seed_at, seeds_of}

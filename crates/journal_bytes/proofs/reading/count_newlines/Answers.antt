@@ -1,11 +1,7 @@
 -- `journal_bytes::reading::count_newlines` meets its contract: those counted and those left are all. Assumes nothing.
-use Prim.Native.Nat.{ℕ, ◌≤◌, ◌+◌, ◌-◌}
-use mathlib.Core.Path.{◌≡◌, ap, ◌∙◌}
-use native.Mathlib.Omega.{arith}
-use lib.ListN.{length, drop}
+use Rattle.std.proofs.Common.{ℕ, ◌≤◌, ◌+◌, ◌-◌, ◌≡◌, ap, ◌∙◌, arith, length, drop, rules}
 use Rattle.journal_line.specs.Reading.{newlines}
 use Rattle.journal_bytes.proofs.Bytes.{newline_here, newline_not, newlines_all}
-use borrow.Author.Rules.{rules}
 use Rattle.journal_bytes.proofs.reading.count_newlines.Goals as goal
 use Rattle.journal_bytes.proofs.reading.count_newlines.Goals.{then-s-i-eq10, else-s-i-eq10}
 

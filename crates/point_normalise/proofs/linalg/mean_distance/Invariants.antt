@@ -1,8 +1,5 @@
--- `point_normalise::linalg::mean_distance` meets its contract. The loop's invariant: the sum from here is the whole sum. Assumes nothing.
-use borrow.Author.Rules.{rules}
-use mathlib.Core.Path.{◌≡◌, refl, sym, ◌∙◌}
-use Prim.Native.Nat.{◌≤◌, ◌-◌}
-use lib.ListN.{length, drop}
+-- `point_normalise::linalg::mean_distance`: the loop's invariant: the sum from here is the whole sum.
+use Rattle.std.proofs.Common.{rules, ◌≡◌, refl, sym, ◌∙◌, ◌≤◌, ◌-◌, length, drop}
 use Rattle.float.specs.Literals.{plus_zero}
 use Rattle.point_normalise.specs.Points.{fold_points}
 use Rattle.point_normalise.specs.Linalg.{add_distance, mean_distance}

@@ -1,5 +1,5 @@
 -- `search_record::run::nobody` meets its contract. Assumes nothing.
-use borrow.Author.Rules.{rules}
+use Rattle.std.proofs.Common.{rules}
 use Rattle.search_record.proofs.run.nobody.Goals as goal
 
 pub returns : goal.returns
