@@ -1,6 +1,6 @@
 -- Going by cases on a value, with the case as an equation. Assumes nothing.
-use Rattle.std.proofs.Common.{ℕ, ◌≡◌, refl, List, [], ◌∷◌, Option}
-use mathlib.Core.Option.{none, some}
+use Rattle.std.proofs.Common.{ℕ, ◌≡◌, refl, List, [], ◌∷◌}
+use mathlib.Core.Option.{Option, none, some}
 use Rattle.seed_rules.specs.declared.CandidateSeed.{CandidateSeed}
 use Rattle.score_outcome.specs.declared.Scoring.{Scoring}
 use Rattle.score_outcome.specs.declared.Outcome.{Outcome}

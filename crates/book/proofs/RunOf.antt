@@ -1,6 +1,6 @@
 -- The run's record as a function of the book, and that it is sound. Assumes nothing.
-use Rattle.std.proofs.Common.{◌+◌, ◌*◌, ◌≤◌, arith, ◌≡◌, refl, Bool, true, false, not, List, Option, lt-ltb, le-leb, length, length-append, Float}
-use mathlib.Core.Option.{none, some}
+use Rattle.std.proofs.Common.{◌+◌, ◌*◌, ◌≤◌, arith, ◌≡◌, refl, Bool, true, false, not, List, lt-ltb, le-leb, length, length-append, Float}
+use mathlib.Core.Option.{Option, none, some}
 use Rattle.common.specs.Tests.{case}
 use Rattle.seed_rules.specs.declared.CandidateSeed.{CandidateSeed}
 use Rattle.score_best.specs.Best.{Chosen, nothing, chosen, no_best, held}

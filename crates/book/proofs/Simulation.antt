@@ -1,6 +1,6 @@
 -- Each call replies as the book does and keeps the run a function of the book. Assumes nothing.
-use Rattle.std.proofs.Common.{ℕ, zero, suc, ◌+◌, ◌-◌, ◌*◌, ◌≤◌, ◌<◌, add-one, arith, ◌≡◌, refl, sym, ap, ◌∙◌, true, false, cond, List, [], ◌∷◌, ◌++◌, append_assoc, append-nil, Option, ltb-true, ltb-false, le-leb, ne_eqb, ltb, eqb, length, take, drop, length-append, take-append-drop, drop-cons, Float}
-use mathlib.Core.Option.{none, some}
+use Rattle.std.proofs.Common.{ℕ, zero, suc, ◌+◌, ◌-◌, ◌*◌, ◌≤◌, ◌<◌, add-one, arith, ◌≡◌, refl, sym, ap, ◌∙◌, true, false, cond, List, [], ◌∷◌, ◌++◌, append_assoc, append-nil, ltb-true, ltb-false, le-leb, ne_eqb, ltb, eqb, length, take, drop, length-append, take-append-drop, drop-cons, Float}
+use mathlib.Core.Option.{Option, none, some}
 use borrow.Author.Tests.{lt-leb}
 use lib.Dec.{eqb-suc-zero}
 use Rattle.common.specs.Tests.{case}

@@ -44,13 +44,11 @@ newlines_step : (s : List ℕ) (i : ℕ) → i < length s → newlines (drop i s
 unfolding newlines
 newlines_step s i h = rw (add-one, drop-cons s i 0 h)
 
-pub newline_here : (s : List ℕ) (i n : ℕ) → i < length s → get_or s i 0 ≡ 10 → n + newlines (drop i s) ≡ newlines s → n + 1 + newlines (drop (i + 1) s) ≡ newlines s
-newline_here s i n h e f =
-    let g : newlines (drop i s) ≡ 1 + newlines (drop (i + 1) s) = newlines_step s i h ∙ simp (eq-eqb (get_or s i 0) 10 e) in
-    omega arith
+pub newline_here : (s : List ℕ) (i : ℕ) → i < length s → get_or s i 0 ≡ 10 → newlines (drop i s) ≡ 1 + newlines (drop (i + 1) s)
+newline_here s i h e = newlines_step s i h ∙ simp (eq-eqb (get_or s i 0) 10 e)
 
-pub newline_not : (s : List ℕ) (i n : ℕ) → i < length s → (get_or s i 0 ≡ 10 → ⊥) → n + newlines (drop i s) ≡ newlines s → n + newlines (drop (i + 1) s) ≡ newlines s
-newline_not s i n h e f =
+pub newline_not : (s : List ℕ) (i : ℕ) → i < length s → (get_or s i 0 ≡ 10 → ⊥) → newlines (drop i s) ≡ newlines (drop (i + 1) s)
+newline_not s i h e =
     let g : newlines (drop i s) ≡ 0 + newlines (drop (i + 1) s) = newlines_step s i h ∙ simp (ne_eqb (get_or s i 0) 10 e) in
     omega arith
 

@@ -1,5 +1,5 @@
 -- `point_homography::all_finite` meets its contract. Assumes nothing.
-use Rattle.std.proofs.Common.{rules, ◌≡◌, refl, sym, ◌∙◌, ◌&&◌, List, ℕ, ◌+◌, ◌-◌, ◌≤◌, ◌<◌, add-one, arith, length, get_or, drop, drop-cons, Float, ap, not}
+use Rattle.std.proofs.Common.{rules, ◌≡◌, refl, sym, ◌∙◌, ◌&&◌, List, ℕ, ◌+◌, ◌<◌, add-one, arith, length, get_or, drop, drop-cons, Float, ap, not}
 use Rattle.std.specs.Float.{nan}
 use borrow.Author.Tests.{not-true, not-false}
 use lib.Seq.{drop-length}

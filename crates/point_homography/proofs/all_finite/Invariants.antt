@@ -1,10 +1,5 @@
 -- `point_homography::all_finite`: the loop's invariant: the test of what is left is the test of all.
-use Rattle.std.proofs.Common.{rules, ◌≡◌, refl, sym, ◌∙◌, ◌&&◌, List, ℕ, ◌+◌, ◌-◌, ◌≤◌, ◌<◌, add-one, arith, length, get_or, drop, drop-cons, Float}
-use Rattle.std.specs.Float.{nan}
-use borrow.Author.Tests.{not-true, not-false}
-use lib.Seq.{drop-length}
-use Rattle.float.specs.Float.{is_finite}
-use Rattle.common.specs.Each.{every}
+use Rattle.std.proofs.Common.{◌≡◌, ◌-◌, ◌≤◌, length, drop}
 use Rattle.point_homography.specs.Rows.{all_finite}
 use Rattle.point_homography.proofs.all_finite.Given as goal
 

@@ -1,6 +1,6 @@
 -- `point_homography::any_off_line` meets its contract. Assumes nothing.
-use Rattle.std.proofs.Common.{rules, ◌≡◌, refl, sym, ◌∙◌, true, false, ◌≤◌, ◌-◌, length, drop}
-use Rattle.point_homography.specs.Line.{off_line, any_off}
+use Rattle.std.proofs.Common.{rules, refl, sym, ◌∙◌, true, false}
+use Rattle.point_homography.specs.Line.{off_line}
 use Rattle.point_normalise.specs.Walk.{find_here, find_next, find_end}
 use Rattle.point_homography.proofs.any_off_line.Goals as goal
 

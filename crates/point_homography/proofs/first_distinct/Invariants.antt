@@ -1,9 +1,8 @@
 -- `point_homography::first_distinct`: the loop's invariant: the search from here finds what the whole search finds.
-use Rattle.std.proofs.Common.{rules, ◌≡◌, refl, sym, ◌∙◌, ◌≤◌, ◌-◌, length, drop}
+use Rattle.std.proofs.Common.{◌≡◌, ◌≤◌, ◌-◌, length, drop}
 use Rattle.point_homography.specs.declared.Distinct.TheVariants.{Point, Nothing}
 use Rattle.point_normalise.specs.Points.{find_point}
 use Rattle.point_homography.specs.Line.{far_from, first_distinct}
-use Rattle.point_normalise.specs.Walk.{find_here, find_next, find_end}
 use Rattle.point_homography.proofs.first_distinct.Given as goal
 
 abbrev pub invariant-loop-i : goal.invariant-loop-i

@@ -1,5 +1,5 @@
 -- `point_homography::put_pair` meets its contract: its two rows, one after the other. Assumes nothing.
-use Rattle.std.proofs.Common.{rules, List, sym, ap, ◌∙◌, ◌+◌, Float}
+use Rattle.std.proofs.Common.{List, sym, ap, ◌∙◌, ◌+◌, Float}
 use lib.Seq.{sets}
 use Rattle.point_homography.specs.Rows.{first_row, second_row, pair_rows}
 use Rattle.point_normalise.specs.Walk.{sets_append}

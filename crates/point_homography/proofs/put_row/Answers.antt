@@ -1,6 +1,6 @@
 -- `point_homography::put_row` meets its contract. Assumes nothing.
-use Rattle.std.proofs.Common.{rules, ◌≡◌, refl, ◌∙◌, ◌+◌, ◌-◌, ◌≤◌, add-zero, arith, length, drop, length-set}
-use lib.Seq.{sets, drop-length}
+use Rattle.std.proofs.Common.{rules, ◌≡◌, refl, ◌∙◌, add-zero, arith, length, length-set}
+use lib.Seq.{drop-length}
 use Rattle.point_normalise.specs.Walk.{sets_one}
 use Rattle.point_homography.proofs.put_row.Goals as goal
 

@@ -1,5 +1,5 @@
 -- `point_homography::rows_refusal` meets its contract: `pastK` says that with its first K design_conditions passed the answer is that of the rest. Assumes nothing.
-use Rattle.std.proofs.Common.{rules, lt-ltb, le-ltb, not, ◌≡◌, sym, ap, ◌∙◌, ℕ, ◌*◌, length, drop}
+use Rattle.std.proofs.Common.{lt-ltb, le-ltb, not, ◌≡◌, sym, ap, ◌∙◌, ℕ, ◌*◌, length, drop}
 use Rattle.point_homography.specs.Rows.{design_conditions}
 use Rattle.common.specs.Refusal.{first_refusal}
 use Rattle.common.specs.RefusalLaws.{refuses, passes}

@@ -1,5 +1,5 @@
 -- `root_code::rounded` meets its contract. Assumes nothing.
-use Rattle.std.proofs.Common.{◌+◌, ◌-◌, ◌*◌, ◌^◌, arith, rules}
+use Rattle.std.proofs.Common.{◌+◌, ◌-◌, ◌*◌, ◌^◌, arith}
 use Rattle.root_code.proofs.Rounds.{Answer, answer}
 use Rattle.root_code.specs.Bits.{no_nan}
 use Rattle.root_code.proofs.rounded.Goals as goal

@@ -1,5 +1,5 @@
 -- `score_best::improved` meets its contract. Assumes nothing.
-use Rattle.std.proofs.Common.{sym, ◌∙◌, rules}
+use Rattle.std.proofs.Common.{sym, ◌∙◌}
 use Rattle.score_best.specs.Best.{improved}
 use Rattle.score_best.proofs.improved.Goals as goal
 

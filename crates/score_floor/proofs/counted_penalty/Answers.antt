@@ -1,5 +1,5 @@
 -- `score_floor::counted_penalty` meets its contract: `!=` tells a NaN from itself. Assumes nothing.
-use Rattle.std.proofs.Common.{◌≡◌, sym, ap, ◌∙◌, true, false, rules, Float}
+use Rattle.std.proofs.Common.{◌≡◌, sym, ap, ◌∙◌, true, false, Float}
 use Rattle.std.specs.Float.Ieee.{is_nan, ne}
 use Rattle.float.specs.Literals.{infinity}
 use Rattle.float.specs.Order.{ne_self}

@@ -1,5 +1,5 @@
 -- `score_outcome::any_above_one` meets its contract. Assumes nothing.
-use Rattle.std.proofs.Common.{◌≤◌, ◌<◌, ◌-◌, ◌≡◌, arith, add-one, rules, lt-ltb, le-ltb, length, drop, drop-cons}
+use Rattle.std.proofs.Common.{◌<◌, ◌≡◌, arith, add-one, lt-ltb, le-ltb, length, drop-cons}
 use lib.Seq.{drop-length}
 use Rattle.score_outcome.specs.Evaluation.{any_above_one}
 use Rattle.score_outcome.proofs.any_above_one.Goals as goal

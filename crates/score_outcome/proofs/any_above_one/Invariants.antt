@@ -1,6 +1,5 @@
 -- `score_outcome::any_above_one`: the loop's invariant: what the flags from i on say is what all of them say. The measure is what is left of the flags.
-use Rattle.std.proofs.Common.{◌≤◌, ◌<◌, ◌-◌, ◌≡◌, arith, add-one, rules, lt-ltb, le-ltb, length, drop, drop-cons}
-use lib.Seq.{drop-length}
+use Rattle.std.proofs.Common.{◌≤◌, ◌-◌, ◌≡◌, length, drop}
 use Rattle.score_outcome.specs.Evaluation.{any_above_one}
 use Rattle.score_outcome.proofs.any_above_one.Given as goal
 

@@ -1,5 +1,5 @@
 -- `score_outcome::scored_outcome` meets its contract. Assumes nothing.
-use Rattle.std.proofs.Common.{sym, ap, ◌∙◌, rules}
+use Rattle.std.proofs.Common.{sym, ap, ◌∙◌}
 use Rattle.std.specs.Float.Ieee.{is_nan}
 use Rattle.float.specs.Order.{ne_self}
 use Rattle.score_outcome.specs.Evaluation.{scored_as}

@@ -1,5 +1,5 @@
 -- `search_answer::answer_refusal` meets its contract: what is left after the run's own refusals is the finding's. Assumes nothing.
-use Rattle.std.proofs.Common.{sym, ◌∙◌, rules, lt-ltb, le-ltb, ap, not}
+use Rattle.std.proofs.Common.{sym, ◌∙◌, lt-ltb, le-ltb, ap, not}
 use Rattle.search_answer.specs.AnswerLaws.{unless_zero}
 use Rattle.search_answer.proofs.answer_refusal.Goals as goal
 

@@ -1,5 +1,5 @@
 -- `search_answer::close_round` meets its contract. Assumes nothing.
-use Rattle.std.proofs.Common.{◌≡◌, refl, sym, ap, ◌∙◌, ◌-◌, ◌≤◌, arith, rules, length}
+use Rattle.std.proofs.Common.{◌≡◌, refl, sym, ap, ◌∙◌, ◌-◌, arith}
 use borrow.Author.Tests.{not-true, not-false}
 use Rattle.search_record.specs.Record.{ended}
 use Rattle.search_answer.specs.Answer.{Left, left, close_round}

@@ -1,9 +1,6 @@
 -- `search_answer::close_round`: the loop's invariant: closing the round from here is closing it from the start.
-use Rattle.std.proofs.Common.{◌≡◌, refl, sym, ap, ◌∙◌, ⊎_elim, ◌-◌, ◌≤◌, arith, rules, length}
-use borrow.Author.Tests.{not-true, not-false}
-use Rattle.search_record.specs.Record.{ended}
-use Rattle.search_answer.specs.Answer.{Left, left, close_round}
-use Rattle.search_answer.specs.AnswerLaws.{close_last, close_none, close_open, close_empty, opened_rounds, next_seeds_are}
+use Rattle.std.proofs.Common.{◌≡◌, ◌-◌, ◌≤◌, length}
+use Rattle.search_answer.specs.Answer.{close_round}
 use Rattle.search_answer.proofs.close_round.Given as goal
 
 abbrev pub invariant-loop-run : goal.invariant-loop-run

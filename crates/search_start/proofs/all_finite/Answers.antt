@@ -1,9 +1,7 @@
 -- `search_start::all_finite` meets its contract. Assumes nothing.
-use Rattle.std.proofs.Common.{◌≡◌, sym, ◌∙◌, suc, ◌≤◌, ◌-◌, add-one, rules, length, get_or, drop, drop-cons}
+use Rattle.std.proofs.Common.{sym, ◌∙◌, suc, add-one, rules, get_or, drop, drop-cons}
 use Rattle.std.specs.Float.{nan}
-use borrow.Author.Tests.{not-true, not-false}
 use Rattle.common.specs.All.{every_here, every_next, every_end}
-use Rattle.common.specs.Each.{every}
 use Rattle.float.specs.Float.{is_finite}
 use Rattle.search_start.proofs.all_finite.Goals as goal
 

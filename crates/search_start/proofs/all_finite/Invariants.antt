@@ -1,8 +1,5 @@
 -- `search_start::all_finite`: the loop's invariant: the test from place i on is the whole test.
-use Rattle.std.proofs.Common.{◌≡◌, sym, ◌∙◌, suc, ◌≤◌, ◌-◌, add-one, rules, length, get_or, drop, drop-cons}
-use Rattle.std.specs.Float.{nan}
-use borrow.Author.Tests.{not-true, not-false}
-use Rattle.common.specs.All.{every_here, every_next, every_end}
+use Rattle.std.proofs.Common.{◌≡◌, ◌≤◌, ◌-◌, length, drop}
 use Rattle.common.specs.Each.{every}
 use Rattle.float.specs.Float.{is_finite}
 use Rattle.search_start.proofs.all_finite.Given as goal

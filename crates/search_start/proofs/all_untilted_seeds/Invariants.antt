@@ -1,10 +1,7 @@
 -- `search_start::all_untilted_seeds`: the loop's invariant: the test from place i on is the whole test.
-use Rattle.std.proofs.Common.{◌≡◌, refl, sym, ap, ◌∙◌, true, false, suc, ◌*◌, ◌/◌, ◌≤◌, ◌-◌, div-mul-le_self, add-one, arith, rules, length, drop}
-use borrow.Author.Tests.{not-true, not-false}
-use Rattle.common.specs.All.{every_here, every_next, every_end}
+use Rattle.std.proofs.Common.{◌≡◌, ◌*◌, ◌/◌, ◌≤◌, ◌-◌, length, drop}
 use Rattle.common.specs.Each.{every}
-use Rattle.seed_rules.specs.Layout.{seed_at, seeds_of}
-use Rattle.seed_rules.specs.LayoutLaws.{read_length, seeds_drop}
+use Rattle.seed_rules.specs.Layout.{seeds_of}
 use Rattle.search_start.specs.Start.{untilted_seed}
 use Rattle.search_start.proofs.all_untilted_seeds.Given as goal
 

@@ -1,5 +1,4 @@
 -- `search_start::opening` meets its contract. Assumes nothing.
-use Rattle.std.proofs.Common.{rules}
 use Rattle.search_start.specs.Start.{opening_of}
 use Rattle.search_start.proofs.opening.Goals as goal
 

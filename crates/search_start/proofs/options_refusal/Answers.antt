@@ -1,6 +1,5 @@
 -- `search_start::options_refusal` meets its contract: each answer goes with the tests that led to it. Assumes nothing.
-use Rattle.std.proofs.Common.{sym, ◌∙◌, rules, lt-ltb, le-ltb}
-use borrow.Author.Tests.{not-true, not-false}
+use Rattle.std.proofs.Common.{sym, ◌∙◌, lt-ltb, le-ltb}
 use Rattle.search_start.proofs.options_refusal.Goals as goal
 
 pub returns-then-views-lt3 : goal.returns-then-views-lt3

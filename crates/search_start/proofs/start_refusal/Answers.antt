@@ -1,6 +1,5 @@
 -- `search_start::start_refusal` meets its contract: the refusals of the options, then each answer with the tests that led to it, then the further refusals. Assumes nothing.
-use Rattle.std.proofs.Common.{sym, ◌∙◌, rules, lt-ltb, le-ltb, ap, not}
-use borrow.Author.Tests.{not-true, not-false}
+use Rattle.std.proofs.Common.{sym, ◌∙◌, lt-ltb, le-ltb, ap, not}
 use Rattle.search_start.specs.StartLaws.{options_refused, options_passed, sizes_fit}
 use Rattle.search_start.proofs.start_refusal.Goals as goal
 

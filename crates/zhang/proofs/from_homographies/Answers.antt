@@ -1,5 +1,5 @@
 -- `zhang::from_homographies` meets its contract: each test of the code is the definition's. Assumes nothing.
-use Rattle.std.proofs.Common.{◌≡◌, refl, true, false, not, rules, Float, ap}
+use Rattle.std.proofs.Common.{◌≡◌, refl, true, false, not, Float, ap}
 use Rattle.std.specs.Float.Ieee.{lt, le}
 use borrow.Author.Tests.{not-true, not-false}
 use Rattle.float.specs.Binary64.{◌/₆₄◌}

@@ -1,5 +1,5 @@
 -- `capi_records::camera::estimate_reply` meets its contract. Assumes nothing.
-use Rattle.std.proofs.Common.{ap, sym, rules}
+use Rattle.std.proofs.Common.{ap, sym}
 use Rattle.capi_records.specs.Camera.{flat_estimate}
 use Rattle.capi_records.proofs.camera.estimate_reply.Goals as goal
 

@@ -1,5 +1,5 @@
 -- `capi_records::camera::sum_reply` meets its contract. Assumes nothing.
-use Rattle.std.proofs.Common.{ap, sym, rules}
+use Rattle.std.proofs.Common.{ap, sym}
 use Rattle.capi_records.specs.Camera.{flat_sum}
 use Rattle.capi_records.proofs.camera.sum_reply.Goals as goal
 

@@ -1,5 +1,5 @@
 -- `capi_records::journal::line_record` meets its contract: the numbers of a scored line, zeros for a skipped one. Assumes nothing.
-use Rattle.std.proofs.Common.{sym, ap, rules}
+use Rattle.std.proofs.Common.{sym, ap}
 use Rattle.capi_records.specs.Journal.{flat_fields}
 use Rattle.capi_records.proofs.journal.line_record.Goals as goal
 

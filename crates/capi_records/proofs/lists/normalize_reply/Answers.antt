@@ -1,5 +1,5 @@
 -- `capi_records::lists::normalize_reply` meets its contract. Assumes nothing.
-use Rattle.std.proofs.Common.{ap, sym, rules}
+use Rattle.std.proofs.Common.{ap, sym}
 use Rattle.capi_records.specs.Lists.{flat_normalized}
 use Rattle.capi_records.proofs.lists.normalize_reply.Goals as goal
 

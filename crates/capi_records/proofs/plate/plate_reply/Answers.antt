@@ -1,5 +1,5 @@
 -- `capi_records::plate::plate_reply` meets its contract. Assumes nothing.
-use Rattle.std.proofs.Common.{ap, sym, rules}
+use Rattle.std.proofs.Common.{ap, sym}
 use Rattle.capi_records.specs.Plate.{flat_plate}
 use Rattle.capi_records.proofs.plate.plate_reply.Goals as goal
 

@@ -1,5 +1,5 @@
 -- `capi_records::replay::no_seed` meets its contract, by that of `no_line`. Assumes nothing.
-use Rattle.std.proofs.Common.{ap, rules}
+use Rattle.std.proofs.Common.{ap}
 use Rattle.capi_records.specs.declared.journal.LineRecord.{LineRecord}
 use Rattle.capi_records.proofs.replay.no_seed.Goals as goal
 

@@ -1,5 +1,5 @@
 -- `capi_records::replay::replay_flat` meets its contract, by that of `no_seed`. Assumes nothing.
-use Rattle.std.proofs.Common.{sym, ap, rules}
+use Rattle.std.proofs.Common.{sym, ap}
 use Rattle.capi_records.specs.Replay.{flat_replayed}
 use Rattle.capi_records.proofs.replay.replay_flat.Goals as goal
 

@@ -1,5 +1,5 @@
 -- `capi_records::run::copy` meets its contract. Assumes nothing.
-use Rattle.std.proofs.Common.{rules, ◌≡◌, refl, ◌∙◌, List, ℕ, ◌+◌, ◌-◌, ◌<◌, ◌≤◌, add-one, arith, Float, length, drop, set, get_or, length-set, drop-cons}
+use Rattle.std.proofs.Common.{rules, ◌≡◌, refl, ◌∙◌, List, ℕ, ◌+◌, ◌<◌, add-one, arith, Float, length, drop, set, get_or, length-set, drop-cons}
 use Rattle.std.specs.Float.{nan}
 use lib.Seq.{sets, drop-length}
 use Rattle.capi_records.proofs.run.copy.Goals as goal

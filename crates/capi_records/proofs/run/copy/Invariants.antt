@@ -1,7 +1,6 @@
 -- `capi_records::run::copy`: the loop's invariant: what is yet to be copied, written from here, gives what the whole gives.
-use Rattle.std.proofs.Common.{rules, ◌≡◌, refl, ◌∙◌, List, ℕ, ◌+◌, ◌-◌, ◌<◌, ◌≤◌, add-one, arith, Float, length, drop, set, get_or, length-set, drop-cons}
-use Rattle.std.specs.Float.{nan}
-use lib.Seq.{sets, drop-length}
+use Rattle.std.proofs.Common.{◌≡◌, ◌-◌, ◌≤◌, length, drop}
+use lib.Seq.{sets}
 use Rattle.capi_records.proofs.run.copy.Given as goal
 
 abbrev pub invariant-loop-i : goal.invariant-loop-i

@@ -1,5 +1,5 @@
 -- `capi_records::run::outlook_flat` meets its contract, by that of `flag`. Assumes nothing.
-use Rattle.std.proofs.Common.{refl, rules}
+use Rattle.std.proofs.Common.{refl}
 use Rattle.capi_records.proofs.run.outlook_flat.Goals as goal
 
 pub returns : goal.returns

@@ -1,6 +1,5 @@
 -- `journal_bytes::reading::begins_with` meets its contract: the bytes so far are the same or not, and the rest is still to be compared. Assumes nothing.
-use Rattle.std.proofs.Common.{◌≤◌, ◌-◌, ◌&&◌, ◌≡◌, sym, length, drop, rules}
-use Rattle.journal_line.specs.Reading.{begins}
+use Rattle.std.proofs.Common.{sym, rules}
 use Rattle.journal_bytes.proofs.Bytes.{begins_turn, begins_short, begins_all}
 use Rattle.journal_bytes.proofs.reading.begins_with.Goals as goal
 

@@ -1,7 +1,6 @@
 -- `journal_bytes::reading::begins_with`: the loop's invariant and its measure.
-use Rattle.std.proofs.Common.{◌≤◌, ◌-◌, ◌&&◌, ◌≡◌, sym, length, drop, rules}
+use Rattle.std.proofs.Common.{◌≤◌, ◌-◌, ◌&&◌, ◌≡◌, length, drop}
 use Rattle.journal_line.specs.Reading.{begins}
-use Rattle.journal_bytes.proofs.Bytes.{begins_turn, begins_short, begins_all}
 use Rattle.journal_bytes.proofs.reading.begins_with.Given as goal
 
 abbrev pub invariant-loop-i : goal.invariant-loop-i

@@ -1,5 +1,5 @@
 -- `journal_bytes::reading::byte_at` meets its contract. Assumes nothing.
-use Rattle.std.proofs.Common.{sym, rules}
+use Rattle.std.proofs.Common.{sym}
 use lib.ListN.{get_or-eq_default}
 use Rattle.journal_bytes.proofs.reading.byte_at.Goals as goal
 

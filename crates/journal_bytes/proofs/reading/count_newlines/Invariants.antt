@@ -1,7 +1,6 @@
 -- `journal_bytes::reading::count_newlines`: the loop's invariant and its measure.
-use Rattle.std.proofs.Common.{ℕ, ◌≤◌, ◌+◌, ◌-◌, ◌≡◌, ap, ◌∙◌, ⊎_elim, arith, length, drop, rules}
+use Rattle.std.proofs.Common.{◌≤◌, ◌+◌, ◌-◌, ◌≡◌, length, drop}
 use Rattle.journal_line.specs.Reading.{newlines}
-use Rattle.journal_bytes.proofs.Bytes.{newline_here, newline_not, newlines_all}
 use Rattle.journal_bytes.proofs.reading.count_newlines.Given as goal
 
 abbrev pub invariant-loop-i : goal.invariant-loop-i

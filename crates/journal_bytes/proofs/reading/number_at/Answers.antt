@@ -1,5 +1,5 @@
 -- `journal_bytes::reading::number_at` meets its contract: the number so far is that of the bytes passed. Assumes nothing.
-use Rattle.std.proofs.Common.{ℕ, ◌≤◌, ◌-◌, ◌≡◌, refl, ap, ◌∙◌, arith, drop, rules}
+use Rattle.std.proofs.Common.{ℕ, ◌≡◌, refl, ap, ◌∙◌, arith, drop, rules}
 use Rattle.journal_line.specs.Reading.{number_at}
 use Rattle.journal_line.specs.DigitLaws.{digit_below}
 use Rattle.journal_bytes.proofs.Bytes.{number_room, number_turn}

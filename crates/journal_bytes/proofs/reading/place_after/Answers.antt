@@ -1,5 +1,5 @@
 -- `journal_bytes::reading::place_after` meets its contract. Assumes nothing.
-use Rattle.std.proofs.Common.{sym, ap, rules}
+use Rattle.std.proofs.Common.{sym, ap}
 use Rattle.journal_line.specs.declared.Read.{Read}
 use Rattle.journal_line.specs.Reading.{place_after}
 use Rattle.journal_bytes.proofs.reading.place_after.Goals as goal

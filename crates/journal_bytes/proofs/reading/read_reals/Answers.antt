@@ -1,7 +1,6 @@
 -- `journal_bytes::reading::read_reals` meets its contract: the first i are read, and the rest, from here, is the whole. Assumes nothing.
-use Rattle.std.proofs.Common.{◌≤◌, ◌+◌, ◌-◌, ◌*◌, ◌≡◌, refl, ◌++◌, add-zero, arith, length, take, drop, length-set, rules}
+use Rattle.std.proofs.Common.{refl, add-zero, arith, length, length-set, rules}
 use native.Mathlib.Nat.{sub-zero}
-use Rattle.journal_line.specs.Reading.{reals}
 use Rattle.journal_bytes.proofs.Bytes.{reals_next, reals_all}
 use Rattle.journal_bytes.proofs.reading.read_reals.Goals as goal
 

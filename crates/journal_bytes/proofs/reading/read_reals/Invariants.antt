@@ -1,8 +1,6 @@
 -- `journal_bytes::reading::read_reals`: the loop's invariant and its measure.
-use Rattle.std.proofs.Common.{◌≤◌, ◌+◌, ◌-◌, ◌*◌, ◌≡◌, refl, ◌++◌, add-zero, arith, length, take, drop, length-set, rules}
-use native.Mathlib.Nat.{sub-zero}
+use Rattle.std.proofs.Common.{◌≤◌, ◌+◌, ◌-◌, ◌*◌, ◌≡◌, ◌++◌, length, take, drop}
 use Rattle.journal_line.specs.Reading.{reals}
-use Rattle.journal_bytes.proofs.Bytes.{reals_next, reals_all}
 use Rattle.journal_bytes.proofs.reading.read_reals.Given as goal
 
 abbrev pub invariant-loop-i : goal.invariant-loop-i

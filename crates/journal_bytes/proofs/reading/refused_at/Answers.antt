@@ -1,5 +1,5 @@
 -- `journal_bytes::reading::refused_at` meets its contract. Assumes nothing.
-use Rattle.std.proofs.Common.{ℕ, ◌+◌, ap, sym, arith, length-take-le, rules}
+use Rattle.std.proofs.Common.{ℕ, ◌+◌, ap, sym, arith, length-take-le}
 use Rattle.journal_line.specs.declared.Read.TheVariants.{Refused}
 use Rattle.journal_bytes.proofs.reading.refused_at.Goals as goal
 

@@ -1,5 +1,5 @@
 -- `journal_bytes::reading::scored_at` meets its contract. Assumes nothing.
-use Rattle.std.proofs.Common.{ap, rules}
+use Rattle.std.proofs.Common.{ap}
 use Rattle.journal_line.specs.Reading.{scored_at}
 use Rattle.journal_bytes.proofs.reading.scored_at.Goals as goal
 

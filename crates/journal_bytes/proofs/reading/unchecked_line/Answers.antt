@@ -1,6 +1,5 @@
 -- `journal_bytes::reading::unchecked_line` meets its contract. Assumes nothing.
 use Rattle.journal_bytes.proofs.Found.{parts_are}
-use Rattle.std.proofs.Common.{rules}
 use Rattle.journal_bytes.proofs.reading.unchecked_line.Goals as goal
 
 pub returns : goal.returns

@@ -1,8 +1,5 @@
 -- `journal_bytes::report::put_decimals` meets its contract: what is left to store, from here, is the whole. Assumes nothing.
-use Rattle.std.proofs.Common.{◌≤◌, ◌+◌, ◌-◌, ◌*◌, ◌≡◌, refl, ◌∙◌, map, arith, length, drop, length-set, rules}
-use lib.Seq.{sets}
-use Rattle.journal_line.specs.Line.{decimal}
-use Rattle.journal_line.specs.Steps.{comma_fields}
+use Rattle.std.proofs.Common.{refl, ◌∙◌, arith, length-set, rules}
 use Rattle.journal_bytes.proofs.Stores.{decimals_turn, decimals_end, no_decimals, at_decimals_end}
 use Rattle.journal_bytes.proofs.report.put_decimals.Goals as goal
 

@@ -1,7 +1,5 @@
 -- `journal_bytes::writing::put_digits` meets its contract: what is left to store, from here, is the whole. Assumes nothing.
-use Rattle.std.proofs.Common.{◌≤◌, ◌≡◌, refl, mod-lt, arith, length, length-set, rules}
-use lib.Seq.{sets}
-use Rattle.journal_line.specs.Line.{digits}
+use Rattle.std.proofs.Common.{refl, mod-lt, arith, length-set, rules}
 use Rattle.journal_bytes.proofs.Stores.{digits_turn, no_digits}
 use Rattle.journal_bytes.proofs.writing.put_digits.Goals as goal
 

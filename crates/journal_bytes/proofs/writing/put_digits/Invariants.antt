@@ -1,8 +1,7 @@
 -- `journal_bytes::writing::put_digits`: the loop's invariant and its measure.
-use Rattle.std.proofs.Common.{◌≤◌, ◌≡◌, refl, mod-lt, arith, length, length-set, rules}
+use Rattle.std.proofs.Common.{◌≤◌, ◌≡◌, length}
 use lib.Seq.{sets}
 use Rattle.journal_line.specs.Line.{digits}
-use Rattle.journal_bytes.proofs.Stores.{digits_turn, no_digits}
 use Rattle.journal_bytes.proofs.writing.put_digits.Given as goal
 
 abbrev pub invariant-loop-i : goal.invariant-loop-i

@@ -1,7 +1,5 @@
 -- `journal_bytes::writing::put_minuses` meets its contract: what is left to store, from here, is the whole. Assumes nothing.
-use Rattle.std.proofs.Common.{◌≤◌, ◌+◌, ◌-◌, ◌*◌, ◌≡◌, refl, [], ◌∷◌, add-zero, arith, length, replicate, length-set, rules}
-use lib.Seq.{sets}
-use Rattle.journal_line.specs.Steps.{comma_fields}
+use Rattle.std.proofs.Common.{refl, add-zero, arith, length-set, rules}
 use Rattle.journal_bytes.proofs.Stores.{minus_turn, no_minuses}
 use Rattle.journal_bytes.proofs.writing.put_minuses.Goals as goal
 

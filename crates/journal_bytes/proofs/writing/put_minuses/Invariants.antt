@@ -1,8 +1,7 @@
 -- `journal_bytes::writing::put_minuses`: the loop's invariant and its measure.
-use Rattle.std.proofs.Common.{◌≤◌, ◌+◌, ◌-◌, ◌*◌, ◌≡◌, refl, [], ◌∷◌, add-zero, arith, length, replicate, length-set, rules}
+use Rattle.std.proofs.Common.{◌≤◌, ◌+◌, ◌-◌, ◌*◌, ◌≡◌, [], ◌∷◌, length, replicate}
 use lib.Seq.{sets}
 use Rattle.journal_line.specs.Steps.{comma_fields}
-use Rattle.journal_bytes.proofs.Stores.{minus_turn, no_minuses}
 use Rattle.journal_bytes.proofs.writing.put_minuses.Given as goal
 
 abbrev pub invariant-loop-i : goal.invariant-loop-i

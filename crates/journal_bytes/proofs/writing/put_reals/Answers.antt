@@ -1,8 +1,5 @@
 -- `journal_bytes::writing::put_reals` meets its contract: what is left to store, from here, is the whole. Assumes nothing.
-use Rattle.std.proofs.Common.{◌≤◌, ◌+◌, ◌-◌, ◌*◌, ◌≡◌, refl, ◌∙◌, map, add-zero, arith, length, drop, length-set, rules}
-use lib.Seq.{sets}
-use Rattle.journal_line.specs.Line.{real}
-use Rattle.journal_line.specs.Steps.{comma_fields}
+use Rattle.std.proofs.Common.{refl, ◌∙◌, add-zero, arith, length-set, rules}
 use Rattle.journal_bytes.proofs.Stores.{reals_turn, no_reals}
 use Rattle.journal_bytes.proofs.writing.put_reals.Goals as goal
 

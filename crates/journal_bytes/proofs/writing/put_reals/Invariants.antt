@@ -1,9 +1,8 @@
 -- `journal_bytes::writing::put_reals`: the loop's invariant and its measure.
-use Rattle.std.proofs.Common.{◌≤◌, ◌+◌, ◌-◌, ◌*◌, ◌≡◌, refl, ◌∙◌, map, add-zero, arith, length, drop, length-set, rules}
+use Rattle.std.proofs.Common.{◌≤◌, ◌+◌, ◌-◌, ◌*◌, ◌≡◌, map, length, drop}
 use lib.Seq.{sets}
 use Rattle.journal_line.specs.Line.{real}
 use Rattle.journal_line.specs.Steps.{comma_fields}
-use Rattle.journal_bytes.proofs.Stores.{reals_turn, no_reals}
 use Rattle.journal_bytes.proofs.writing.put_reals.Given as goal
 
 abbrev pub invariant-loop-i : goal.invariant-loop-i

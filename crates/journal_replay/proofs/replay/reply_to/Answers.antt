@@ -1,5 +1,5 @@
 -- `journal_replay::replay::reply_to` meets its contract. Assumes nothing.
-use Rattle.std.proofs.Common.{suc, ◌+◌, ◌≡◌, sym, ap, ◌∙◌, arith, rules}
+use Rattle.std.proofs.Common.{suc, ◌+◌, ◌≡◌, sym, ap, ◌∙◌, arith}
 use Rattle.journal_replay.specs.declared.Stop.{Stop}
 use Rattle.journal_replay.specs.declared.Replayed.TheVariants.{RefusedAt}
 use Rattle.journal_replay.specs.Replay.{reply_by, standing_of}

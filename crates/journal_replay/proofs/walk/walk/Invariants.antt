@@ -1,9 +1,7 @@
 -- `journal_replay::walk::walk`: the loop's invariant: the walk from here on is the whole walk.
-use Rattle.std.proofs.Common.{suc, ◌*◌, ◌-◌, ◌≤◌, ◌<◌, ◌≡◌, refl, sym, ◌∙◌, arith, rules, length}
-use borrow.Author.Tests.{not-true, not-false}
-use Rattle.journal_replay.specs.declared.Stop.TheVariants.{AllTaken, NotOfForm, NotTheRun}
+use Rattle.std.proofs.Common.{suc, ◌*◌, ◌-◌, ◌≤◌, ◌<◌, ◌≡◌, length}
 use Rattle.journal_replay.specs.Walk.{walk_of}
-use Rattle.journal_replay.specs.WalkLaws.{walk_at, walk_starts, walk_ends, walk_refused, walk_stops, walk_turns, line_within, list_stays, walk_given}
+use Rattle.journal_replay.specs.WalkLaws.{walk_at}
 use Rattle.journal_replay.proofs.walk.walk.Given as goal
 
 abbrev pub invariant-loop-line : goal.invariant-loop-line

@@ -1,6 +1,5 @@
 -- `point_maps::centre::extent_of` meets its contract. Assumes nothing.
-use Rattle.std.proofs.Common.{rules, ◌≡◌, refl, sym, ◌∙◌, ◌≤◌, ◌-◌, length, drop}
-use Rattle.point_normalise.specs.Points.{fold_points}
+use Rattle.std.proofs.Common.{rules, refl, sym, ◌∙◌}
 use Rattle.point_maps.specs.Centre.{widen, extent_of}
 use Rattle.point_normalise.specs.Walk.{fold_next, fold_end}
 use Rattle.point_maps.proofs.centre.extent_of.Goals as goal

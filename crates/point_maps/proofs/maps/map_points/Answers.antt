@@ -1,7 +1,6 @@
 -- `point_maps::maps::map_points` meets its contract. Assumes nothing.
-use Rattle.std.proofs.Common.{◌≡◌, refl, sym, ◌∙◌, ◌-◌, ◌%◌, ◌≤◌, arith, rules, length, length-set}
-use Rattle.point_maps.specs.Maps.{mapped_point}
-use Rattle.point_maps.proofs.Written.{front, front_none, front_next, front_all}
+use Rattle.std.proofs.Common.{refl, sym, ◌∙◌, arith, rules, length-set}
+use Rattle.point_maps.proofs.Written.{front_none, front_next, front_all}
 use Rattle.point_maps.proofs.maps.map_points.Goals as goal
 
 pub loop-i-init : goal.loop-i-init

@@ -1,5 +1,5 @@
 -- `point_normalise::linalg::hartley` meets its contract: its tests are the definition's. Assumes nothing.
-use Rattle.std.proofs.Common.{rules, eq-eqb, ne_eqb, length}
+use Rattle.std.proofs.Common.{eq-eqb, ne_eqb, length}
 use Rattle.point_normalise.specs.Linalg.{degenerate, similarity_of, hartley_of}
 use Rattle.point_normalise.proofs.linalg.hartley.Goals as goal
 

@@ -1,5 +1,5 @@
 -- `point_normalise::linalg::normalize_points_2d` meets its contract: the refusals in their order, and the moved points. Assumes nothing.
-use Rattle.std.proofs.Common.{rules, lt-ltb, le-ltb, ne_eqb, false, List, ◌++◌, ◌≡◌, sym, ◌∙◌, ℕ, arith, ltb, length, drop, Float}
+use Rattle.std.proofs.Common.{lt-ltb, le-ltb, ne_eqb, false, List, ◌++◌, ◌≡◌, sym, ◌∙◌, ℕ, arith, ltb, length, drop, Float}
 use Rattle.common.specs.RefusalLaws.{refuses, passes}
 use Rattle.point_normalise.specs.declared.linalg.Normalized.TheVariants.{Refused}
 use Rattle.point_normalise.specs.Points.{bad_length}

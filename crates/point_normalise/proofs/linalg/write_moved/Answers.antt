@@ -1,5 +1,5 @@
 -- `point_normalise::linalg::write_moved` meets its contract. Assumes nothing.
-use Rattle.std.proofs.Common.{rules, ◌≡◌, refl, sym, ap, ◌∙◌, ◌+◌, ◌-◌, ◌*◌, ◌/◌, ◌≤◌, arith, length, drop, length-set, lt-length-set}
+use Rattle.std.proofs.Common.{rules, ◌≡◌, refl, sym, ap, ◌∙◌, ◌+◌, ◌*◌, ◌/◌, arith, length, drop, length-set, lt-length-set}
 use lib.Seq.{sets}
 use Rattle.point_normalise.specs.Points.{point_at}
 use Rattle.point_normalise.specs.Linalg.{move_by, move_xy, move_points}

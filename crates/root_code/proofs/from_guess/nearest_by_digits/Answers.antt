@@ -1,5 +1,5 @@
 -- `root_code::from_guess::nearest_by_digits` meets its contract. Assumes nothing.
-use Rattle.std.proofs.Common.{◌≡◌, ℕ, ◌+◌, ◌*◌, ◌^◌, ap, ◌∙◌, arith, rules}
+use Rattle.std.proofs.Common.{◌≡◌, ℕ, ◌+◌, ◌*◌, ◌^◌, ap, ◌∙◌, arith}
 use Rattle.root_code.proofs.Steps.{root_27, nearest_of}
 use Rattle.root.specs.IntegerRoot.{square_lt_back}
 use Rattle.root_code.proofs.from_guess.nearest_by_digits.Goals as goal

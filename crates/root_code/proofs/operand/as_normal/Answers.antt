@@ -1,5 +1,5 @@
 -- `root_code::operand::as_normal` meets its contract. Assumes nothing.
-use Rattle.std.proofs.Common.{◌≡◌, ℕ, zero, suc, ◌+◌, ◌*◌, ◌/◌, ◌%◌, ◌^◌, ◌<◌, ◌≤◌, sym, ap, ◌∙◌, lt_of_le_of_lt, arith, rules}
+use Rattle.std.proofs.Common.{◌≡◌, ℕ, zero, suc, ◌+◌, ◌*◌, ◌/◌, ◌%◌, ◌^◌, ◌<◌, ◌≤◌, sym, ap, ◌∙◌, lt_of_le_of_lt, arith}
 use Rattle.std.specs.Float.{binary64}
 use Rattle.root.specs.Root.{root_of}
 use Rattle.root_code.proofs.Exponents.{shift_lo, shift_hi, halved}

@@ -1,5 +1,5 @@
 -- `root_code::operand::decompose` meets its contract. Assumes nothing.
-use Rattle.std.proofs.Common.{◌≡◌, true, T, sym, ap, ◌∙◌, subst, arith, rules, Float}
+use Rattle.std.proofs.Common.{◌≡◌, true, T, sym, ap, ◌∙◌, subst, arith, Float}
 use Rattle.std.specs.Float.{binary64}
 use Rattle.std.specs.Float.Ieee.{fits, of_bits, to_bits}
 use lib.Ieee.Bits.{of_bits-to_bits, to_bits-lt}

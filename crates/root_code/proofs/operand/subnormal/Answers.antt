@@ -1,5 +1,5 @@
 -- `root_code::operand::subnormal` meets its contract. Assumes nothing.
-use Rattle.std.proofs.Common.{◌≡◌, ℕ, ◌+◌, ◌-◌, ◌*◌, ◌%◌, ◌^◌, ◌≤◌, ap, ◌∙◌, arith, w64, to_z, of_z, rules}
+use Rattle.std.proofs.Common.{◌≡◌, ℕ, ◌+◌, ◌-◌, ◌*◌, ◌%◌, ◌^◌, ◌≤◌, ap, ◌∙◌, arith, w64, to_z, of_z}
 use Rattle.std.specs.Float.{binary64}
 use lib.Count.{count_leading_zeros}
 use Rattle.root.specs.Root.{root_of}

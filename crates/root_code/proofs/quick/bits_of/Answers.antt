@@ -1,5 +1,5 @@
 -- `root_code::quick::bits_of` meets its contract. Assumes nothing.
-use Rattle.std.proofs.Common.{◌≡◌, ◌<◌, Bool, true, false, cond, T, sym, refl, ap, ◌∙◌, subst, arith, rules, Float}
+use Rattle.std.proofs.Common.{◌≡◌, ◌<◌, Bool, true, false, cond, T, sym, refl, ap, ◌∙◌, subst, arith, Float}
 use Rattle.std.specs.Float.{binary64}
 use Rattle.std.specs.Float.Ieee.{of_bits, to_bits, lt, fits}
 use lib.Ieee.Bits.{of_bits-to_bits}

@@ -1,5 +1,5 @@
 -- `score_rows::blocks::add_all` meets its contract. Assumes nothing.
-use Rattle.std.proofs.Common.{◌≡◌, ◌-◌, ◌≤◌, true, get_or, refl, ap, ◌∙◌, add-one, arith, rules}
+use Rattle.std.proofs.Common.{◌≡◌, true, get_or, refl, ap, ◌∙◌, add-one, arith}
 use Rattle.std.specs.Float.{binary64}
 use Rattle.std.specs.Float.Ieee.{of_bits}
 use Rattle.root_code.specs.Bits.{no_nan}

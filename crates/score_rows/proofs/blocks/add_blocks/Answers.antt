@@ -1,5 +1,5 @@
 -- `score_rows::blocks::add_blocks` meets its contract. Assumes nothing.
-use Rattle.std.proofs.Common.{◌≡◌, ℕ, ◌+◌, ◌-◌, ◌<◌, ◌≤◌, Bool, true, false, not, T, ltb, List, sym, refl, ap, ◌∙◌, subst, ⊎_elim, arith, ltb→lt, nltb→le, rules, Float}
+use Rattle.std.proofs.Common.{◌≡◌, ℕ, ◌+◌, ◌-◌, ◌<◌, ◌≤◌, Bool, true, false, not, T, ltb, List, sym, refl, ap, ◌∙◌, subst, arith, ltb→lt, nltb→le, rules, Float}
 use Rattle.camera_tilt.specs.Matrix.{Matrix}
 use Rattle.score_camera.specs.declared.pinhole.PinholeCamera.{PinholeCamera}
 use Rattle.score_rows.specs.Steps.{add_rows, rows_more}

@@ -1,8 +1,8 @@
 -- `score_rows::blocks::square_errors` meets its contract. Assumes nothing.
-use Rattle.std.proofs.Common.{◌≡◌, ◌+◌, ◌-◌, ◌≤◌, length, ◌∙◌, arith, length-set, rules}
+use Rattle.std.proofs.Common.{◌≡◌, ◌+◌, ◌∙◌, arith, length-set}
 use Rattle.std.specs.Float.{nan}
 use Rattle.score_rows.proofs.Filled.{one_more}
-use Rattle.score_rows.specs.Steps.{Squares, square_at}
+use Rattle.score_rows.specs.Steps.{square_at}
 use Rattle.score_rows.proofs.blocks.square_errors.Goals as goal
 
 pub loop-j-init : goal.loop-j-init

@@ -1,6 +1,5 @@
 -- `search_calls::counts::counts` meets its contract. Assumes nothing.
-use Rattle.std.proofs.Common.{sym, ◌∙◌, rules}
-use borrow.Author.Tests.{not-true, not-false}
+use Rattle.std.proofs.Common.{sym, ◌∙◌}
 use Rattle.search_calls.specs.Counts.{counts_def}
 use Rattle.search_calls.proofs.counts.counts.Goals as goal
 

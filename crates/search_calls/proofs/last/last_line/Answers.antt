@@ -1,6 +1,5 @@
 -- `search_calls::last::last_line` meets its contract. Assumes nothing.
-use Rattle.std.proofs.Common.{sym, ◌∙◌, rules}
-use borrow.Author.Tests.{not-true, not-false}
+use Rattle.std.proofs.Common.{sym, ◌∙◌}
 use Rattle.search_calls.specs.Last.{last_def}
 use Rattle.search_calls.proofs.last.last_line.Goals as goal
 

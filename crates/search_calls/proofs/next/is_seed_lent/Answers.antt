@@ -1,5 +1,4 @@
 -- `search_calls::next::is_seed_lent` meets its contract. Assumes nothing.
-use Rattle.std.proofs.Common.{rules}
 use Rattle.search_calls.specs.Next.{seed_lent}
 use Rattle.search_calls.proofs.next.is_seed_lent.Goals as goal
 

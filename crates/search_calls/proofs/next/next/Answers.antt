@@ -1,5 +1,5 @@
 -- `search_calls::next::next` meets its contract: the list is long enough where no refusal holds. Assumes nothing.
-use Rattle.std.proofs.Common.{sym, ◌∙◌, rules, eqb-true}
+use Rattle.std.proofs.Common.{sym, ◌∙◌, eqb-true}
 use borrow.Author.Tests.{not-true}
 use Rattle.common.specs.Tests.{both_true}
 use Rattle.search_calls.specs.NextLaws.{next_in_list, next_hands, next_keeps}

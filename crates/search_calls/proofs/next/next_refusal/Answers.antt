@@ -1,5 +1,5 @@
 -- `search_calls::next::next_refusal` meets its contract. Assumes nothing.
-use Rattle.std.proofs.Common.{sym, rules, lt-ltb, le-ltb, ap, not}
+use Rattle.std.proofs.Common.{sym, lt-ltb, le-ltb, ap, not}
 use Rattle.search_calls.proofs.next.next_refusal.Goals as goal
 
 pub returns-then-not-is_sound : goal.returns-then-not-is_sound

@@ -1,6 +1,5 @@
 -- `search_calls::next::seed` meets its contract: the part lies within the list, since a seed waits. Assumes nothing.
 use Rattle.std.proofs.Common.{ℕ, ◌+◌, ◌*◌, ◌-◌, ◌≤◌, ◌<◌, ◌≡◌, sym, ◌∙◌, arith, rules, length}
-use borrow.Author.Tests.{not-true, not-false}
 use Rattle.search_calls.specs.Next.{seed_part}
 use Rattle.search_calls.specs.NextLaws.{seed_in_list}
 use Rattle.search_calls.proofs.next.seed.Goals as goal

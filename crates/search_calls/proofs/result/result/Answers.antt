@@ -1,5 +1,5 @@
 -- `search_calls::result::result` meets its contract. Assumes nothing.
-use Rattle.std.proofs.Common.{sym, rules, ne_eqb}
+use Rattle.std.proofs.Common.{sym, ne_eqb}
 use Rattle.search_calls.specs.Result.{result_def}
 use Rattle.search_calls.proofs.result.result.Goals as goal
 

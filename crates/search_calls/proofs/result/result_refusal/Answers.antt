@@ -1,5 +1,5 @@
 -- `search_calls::result::result_refusal` meets its contract. Assumes nothing.
-use Rattle.std.proofs.Common.{sym, rules, ap, not}
+use Rattle.std.proofs.Common.{sym, ap, not}
 use Rattle.search_calls.proofs.result.result_refusal.Goals as goal
 
 pub returns-then-not-is_sound : goal.returns-then-not-is_sound

@@ -1,5 +1,5 @@
 -- `search_calls::stop::best_so_far` meets its contract. Assumes nothing.
-use Rattle.std.proofs.Common.{◌≡◌, ◌∙◌, true, false, rules}
+use Rattle.std.proofs.Common.{◌≡◌, ◌∙◌, true, false}
 use borrow.Author.Tests.{not-true, not-false}
 use Rattle.score_best.specs.Best.{no_best}
 use Rattle.search_record.specs.declared.run.Run.{Run}

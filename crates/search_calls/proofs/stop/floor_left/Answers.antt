@@ -1,5 +1,5 @@
 -- `search_calls::stop::floor_left` meets its contract: the waiting seed first, or the list's seeds alone. Assumes nothing.
-use Rattle.std.proofs.Common.{◌+◌, ◌≡◌, ◌∙◌, true, false, List, rules, Float}
+use Rattle.std.proofs.Common.{◌+◌, ◌≡◌, ◌∙◌, true, false, List, Float}
 use borrow.Author.Tests.{not-true, not-false}
 use Rattle.float.specs.Float.{min_of}
 use Rattle.score_floor.specs.Floor.{counted_penalty, floor_of, seeds_between}

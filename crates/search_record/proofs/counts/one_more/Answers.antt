@@ -1,5 +1,5 @@
 -- `search_record::counts::one_more` meets its contract. Assumes nothing.
-use Rattle.std.proofs.Common.{arith, rules, eq-eqb, ne_eqb}
+use Rattle.std.proofs.Common.{arith, eq-eqb, ne_eqb}
 use Rattle.search_record.proofs.counts.one_more.Goals as goal
 
 pub returns-then-kind-k : goal.returns-then-kind-k

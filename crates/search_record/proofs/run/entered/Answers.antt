@@ -1,5 +1,5 @@
 -- `search_record::run::entered` meets its contract. Assumes nothing.
-use Rattle.std.proofs.Common.{arith, rules}
+use Rattle.std.proofs.Common.{arith}
 use Rattle.search_record.specs.Record.{entered}
 use Rattle.search_record.proofs.run.entered.Goals as goal
 

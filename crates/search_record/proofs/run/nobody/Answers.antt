@@ -1,5 +1,4 @@
 -- `search_record::run::nobody` meets its contract. Assumes nothing.
-use Rattle.std.proofs.Common.{rules}
 use Rattle.search_record.proofs.run.nobody.Goals as goal
 
 pub returns : goal.returns
