@@ -5,13 +5,13 @@ use borrow.Author.Tests.{not-true}
 use Rattle.common.specs.Tests.{case, both_true}
 use Rattle.seed_rules.specs.declared.CandidateSeed.{CandidateSeed}
 use Rattle.seed_rules.specs.Layout.{seed_at}
-use Rattle.seed_rules.specs.AnyOffsets.{most_nine, round_few}
+use Rattle.seed_rules.proofs.AnyOffsets.{most_nine, round_few}
 use Rattle.score_outcome.specs.declared.Finding.{Finding}
 use Rattle.score_outcome.specs.declared.Outcome.{Outcome}
 use Rattle.score_outcome.specs.Evaluation.{outcome_of, finding_refusal}
 use Rattle.score_best.specs.declared.Candidate.{Candidate}
 use Rattle.journal_line.specs.Counts.{kind_of}
-use Rattle.journal_line.specs.CountLaws.{total_with}
+use Rattle.journal_line.proofs.CountLaws.{total_with}
 use Rattle.journal_line.specs.Outcome.{recorded_as}
 use Rattle.journal_line.specs.Report.{total}
 use Rattle.search_record.specs.declared.run.Options.{Options}

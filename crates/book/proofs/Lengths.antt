@@ -4,7 +4,7 @@ use Rattle.std.specs.Float.Ieee.{lt, le}
 use Rattle.float.specs.Literals.{half₆₄}
 use Rattle.score_best.specs.declared.Candidate.{Candidate}
 use Rattle.seed_counts.specs.Admissible.{seed_count, least_step, most_step}
-use Rattle.seed_counts.specs.Exact.{round_length}
+use Rattle.seed_counts.proofs.Exact.{round_length}
 use Rattle.book.specs.Book.{Inputs, Book, entries, step_of, offsets_x, offsets_y, list_around}
 use Rattle.book.specs.Rounds.{LaterRound}
 use Rattle.book.proofs.Made.{around}

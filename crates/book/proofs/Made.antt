@@ -4,7 +4,7 @@ use borrow.Author.Tests.{lt-leb}
 use Rattle.common.specs.Each.{All}
 use Rattle.common.specs.All.{all_append, all_map}
 use Rattle.seed_rules.specs.declared.CandidateSeed.{CandidateSeed}
-use Rattle.seed_rules.specs.MergeLaws.{keep_append, keep_none, keep_whole}
+use Rattle.seed_rules.proofs.MergeLaws.{keep_append, keep_none, keep_whole}
 use Rattle.score_outcome.specs.declared.Outcome.{Outcome}
 use Rattle.score_best.specs.declared.Candidate.{Candidate}
 use Rattle.score_best.specs.Best.{chosen}

@@ -11,10 +11,10 @@ use Rattle.float.specs.Literals.{plus_zero}
 use Rattle.seed_rules.specs.declared.CandidateSeed.{CandidateSeed}
 use Rattle.seed_rules.specs.Merge.{keep}
 use Rattle.seed_rules.specs.Rules.{in_bound, untilted_y}
-use Rattle.seed_rules.specs.RulesLaws.{initial_length}
+use Rattle.seed_rules.proofs.RulesLaws.{initial_length}
 use Rattle.seed_rules.specs.Layout.{all_seeds, seed_at, written}
 use Rattle.seed_rules.specs.LayoutLaws.{read_length}
-use Rattle.seed_rules.specs.Facts.{initial_all}
+use Rattle.seed_rules.proofs.Facts.{initial_all}
 use Rattle.score_best.specs.Best.{best_of, first_unbeaten}
 use Rattle.search_record.specs.declared.run.Run.{Run}
 use Rattle.search_start.specs.declared.Started.TheVariants.{Accepted}

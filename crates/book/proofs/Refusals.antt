@@ -9,7 +9,7 @@ use Rattle.float.specs.Float.{is_finite}
 use Rattle.float.specs.Literals.{plus_zero, half₆₄}
 use Rattle.seed_rules.specs.declared.CandidateSeed.{CandidateSeed}
 use Rattle.seed_rules.specs.Rules.{within, in_bound, untilted_y}
-use Rattle.seed_rules.specs.Bound.{within_order}
+use Rattle.seed_rules.proofs.Bound.{within_order}
 use Rattle.seed_rules.specs.Layout.{all_seeds}
 use Rattle.search_start.specs.Start.{positive, good_seed, only_zero, untilted_seed, too_many, demand_of, start_checks}
 use Rattle.book.specs.Book.{Inputs, demand}

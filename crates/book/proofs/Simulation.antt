@@ -16,7 +16,7 @@ use Rattle.score_outcome.specs.Evaluation.{finding_refusal}
 use Rattle.score_best.specs.declared.Candidate.{Candidate}
 use Rattle.score_best.specs.declared.Best.{Best}
 use Rattle.score_best.specs.Best.{Chosen, nothing, chosen, best_of, first_unbeaten, no_best, held, candidate_of}
-use Rattle.score_best.specs.Order.{best_snoc}
+use Rattle.score_best.proofs.Order.{best_snoc}
 use Rattle.search_record.specs.declared.run.Run.{Run}
 use Rattle.journal_line.specs.declared.Counts.{Counts}
 use Rattle.journal_line.specs.Counts.{with_count}

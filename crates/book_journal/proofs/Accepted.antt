@@ -7,7 +7,7 @@ use Rattle.score_best.specs.declared.Candidate.{Candidate}
 use Rattle.score_best.specs.Best.{chosen}
 use Rattle.journal_line.specs.Line.{journal_bytes}
 use Rattle.journal_line.specs.Reading.{ended, refused, Lines, read_journal}
-use Rattle.journal_line.specs.Whole.{whole_lines}
+use Rattle.journal_line.proofs.Whole.{whole_lines}
 use Rattle.journal_replay.specs.declared.Stop.{Stop}
 use Rattle.journal_replay.specs.declared.Stop.TheVariants.{AllTaken, NotOfForm, NotTheRun}
 use Rattle.journal_replay.specs.declared.Replayed.TheVariants.{Winner, Unfinished, Refused, RefusedAt}

@@ -7,7 +7,7 @@ use Rattle.score_outcome.specs.declared.Outcome.{Outcome}
 use Rattle.score_outcome.specs.declared.Outcome.TheVariants.{Skipped, Scored}
 use Rattle.journal_line.specs.declared.Line.{Line}
 use Rattle.journal_line.specs.Line.{recordable, writable, Writable, LineFits}
-use Rattle.journal_line.specs.Whole.{whole_reading}
+use Rattle.journal_line.proofs.Whole.{whole_reading}
 use Rattle.journal_line.specs.Outcome.{recorded_as}
 use Rattle.journal_replay.specs.declared.Stop.{Stop}
 use Rattle.journal_replay.specs.declared.Stop.TheVariants.{AllTaken}

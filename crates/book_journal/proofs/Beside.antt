@@ -11,9 +11,9 @@ use Rattle.score_outcome.specs.declared.Outcome.{Outcome}
 use Rattle.journal_line.specs.declared.Line.{Line}
 use Rattle.journal_line.specs.Line.{LineFits, Writable}
 use Rattle.journal_line.specs.Reading.{Ending, ended, refused, unread, Lines, read_journal}
-use Rattle.journal_line.specs.Numbers.{whole_numbered}
-use Rattle.journal_line.specs.Whole.{whole_stops}
-use Rattle.journal_line.specs.Fronts.{whole_front}
+use Rattle.journal_line.proofs.Numbers.{whole_numbered}
+use Rattle.journal_line.proofs.Whole.{whole_stops}
+use Rattle.journal_line.proofs.Fronts.{whole_front}
 use Rattle.journal_line.specs.Outcome.{outcome_in}
 use Rattle.journal_replay.specs.declared.Stop.{Stop}
 use Rattle.journal_replay.specs.declared.Stop.TheVariants.{AllTaken, NotOfForm, NotTheRun}

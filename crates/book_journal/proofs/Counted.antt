@@ -8,7 +8,7 @@ use Rattle.score_outcome.specs.declared.Outcome.{Outcome}
 use Rattle.score_outcome.specs.declared.Outcome.TheVariants.{Skipped, Scored}
 use Rattle.score_outcome.specs.Evaluation.{finding_refusal, outcome_of}
 use Rattle.journal_line.specs.Counts.{kind_of, one, count_in, counts_in}
-use Rattle.journal_line.specs.CountLaws.{count_snoc}
+use Rattle.journal_line.proofs.CountLaws.{count_snoc}
 use Rattle.journal_line.specs.Reading.{Lines}
 use Rattle.journal_line.specs.Outcome.{recorded_as}
 use Rattle.journal_line.specs.Report.{total}

@@ -11,9 +11,9 @@ use Rattle.seed_rules.specs.Layout.{written}
 use Rattle.journal_line.specs.declared.Line.{Line}
 use Rattle.journal_line.specs.Line.{line_bytes, LineFits, Writable, journal_bytes}
 use Rattle.journal_line.specs.Reading.{newlines, Lines, read_journal}
-use Rattle.journal_line.specs.Numbers.{newlines_append}
-use Rattle.journal_line.specs.Whole.{whole_lines}
-use Rattle.journal_line.specs.Fronts.{NoLine, whole_front, whole_rest, front_read, front_ended, cut_no_line, Cut, cut_journal_lem, journal_append}
+use Rattle.journal_line.proofs.Numbers.{newlines_append}
+use Rattle.journal_line.proofs.Whole.{whole_lines}
+use Rattle.journal_line.proofs.Fronts.{NoLine, whole_front, whole_rest, front_read, front_ended, cut_no_line, Cut, cut_journal_lem, journal_append}
 use Rattle.journal_replay.specs.declared.Stop.{Stop}
 use Rattle.journal_replay.specs.declared.Stop.TheVariants.{AllTaken, NotOfForm, NotTheRun}
 use Rattle.journal_replay.specs.declared.EndedBy.TheVariants as by

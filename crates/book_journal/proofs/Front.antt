@@ -7,9 +7,9 @@ use Rattle.seed_rules.specs.Layout.{written}
 use Rattle.journal_line.specs.declared.Line.{Line}
 use Rattle.journal_line.specs.Line.{line_bytes, journal_bytes}
 use Rattle.journal_line.specs.Reading.{line_number_of, ended, read_journal}
-use Rattle.journal_line.specs.Whole.{whole_reading, whole_lines}
-use Rattle.journal_line.specs.Fronts.{whole_front, front_read_first, journal_append}
-use Rattle.journal_line.specs.Numbers.{line_numbers}
+use Rattle.journal_line.proofs.Whole.{whole_reading, whole_lines}
+use Rattle.journal_line.proofs.Fronts.{whole_front, front_read_first, journal_append}
+use Rattle.journal_line.proofs.Numbers.{line_numbers}
 use Rattle.journal_line.specs.Outcome.{outcome_in}
 use Rattle.journal_replay.specs.declared.Stop.{Stop}
 use Rattle.journal_replay.specs.declared.Stop.TheVariants.{AllTaken}

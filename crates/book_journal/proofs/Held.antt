@@ -18,7 +18,7 @@ use Rattle.camera_tilt.specs.declared.sensor.ScheimpflugParams.{ScheimpflugParam
 use Rattle.seed_rules.specs.declared.CandidateSeed.{CandidateSeed}
 use Rattle.seed_rules.specs.Rules.{tilts, seed_with}
 use Rattle.seed_rules.specs.Layout.{read_from, six, seed_at, all_seeds}
-use Rattle.seed_rules.specs.Facts.{initial_all, next_all}
+use Rattle.seed_rules.proofs.Facts.{initial_all, next_all}
 use Rattle.score_camera.specs.declared.pinhole.PinholeCamera.{PinholeCamera}
 use Rattle.score_camera.specs.Camera.{tangential_bound, damped, damped_camera}
 use Rattle.score_rows.specs.declared.ErrorSum.{ErrorSum}
@@ -33,7 +33,7 @@ use Rattle.score_outcome.specs.Evaluation.{solved_at, mean_with, scoring_of, eva
 use Rattle.score_outcome.specs.Outcomes.{scored_passed}
 use Rattle.score_best.specs.declared.Candidate.{Candidate}
 use Rattle.score_best.specs.Best.{Chosen, nothing, chosen, best_of}
-use Rattle.score_best.specs.Order.{found_leads}
+use Rattle.score_best.proofs.Order.{found_leads}
 use Rattle.journal_line.specs.declared.Line.{Line}
 use Rattle.journal_line.specs.Line.{Fits, recorded_numbers, LineFits}
 use Rattle.journal_line.specs.Outcome.{recorded_as, outcome_in}

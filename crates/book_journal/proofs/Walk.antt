@@ -6,7 +6,7 @@ use Rattle.seed_rules.specs.Layout.{written}
 use Rattle.journal_line.specs.declared.Line.{Line}
 use Rattle.journal_line.specs.Line.{LineFits, Writable}
 use Rattle.journal_line.specs.Reading.{read_journal}
-use Rattle.journal_line.specs.Fronts.{whole_front}
+use Rattle.journal_line.proofs.Fronts.{whole_front}
 use Rattle.journal_line.specs.Outcome.{outcome_in}
 use Rattle.journal_replay.specs.declared.Stop.{Stop}
 use Rattle.journal_replay.specs.declared.Stop.TheVariants.{NotTheRun}

@@ -8,7 +8,7 @@ use Rattle.journal_line.specs.declared.Line.{Line}
 use Rattle.journal_line.specs.declared.Written.TheVariants as written
 use Rattle.journal_line.specs.Line.{line_bytes, Writable, journal_bytes}
 use Rattle.journal_line.specs.Writing.{refuses_line, write_reply, write_into}
-use Rattle.journal_line.specs.Fronts.{journal_append}
+use Rattle.journal_line.proofs.Fronts.{journal_append}
 use Rattle.search_record.specs.declared.run.Run.{Run}
 use Rattle.search_calls.specs.Last.{last_def}
 use Rattle.book.specs.Calls.{Call}

@@ -4,7 +4,7 @@ use mathlib.Core.Bool.{and-true, and-false, and_assoc}
 use native.Mathlib.Nat.{pow-le-pow_right}
 use lib.Seq.{append_snoc}
 use Rattle.journal_line.specs.Reading.{digit_of, number_at, real_at, reals, begins, newlines}
-use Rattle.journal_line.specs.DigitLaws.{number_below}
+use Rattle.journal_line.proofs.DigitLaws.{number_below}
 
 -- ---- numbers
 -- what is read so far leaves room for a digit more

@@ -12,7 +12,7 @@ use Rattle.journal_line.specs.declared.Written.TheVariants as W
 use Rattle.journal_line.specs.declared.Read.TheVariants.{Got, End, Refused}
 use Rattle.journal_line.specs.Line.{line_bytes, writable}
 use Rattle.journal_line.specs.Reading.{number_at, decimal_width_at, reals, scored_at, reason_of, outcome_at, from_round, from_seed, unchecked_line, begins, of_form, line_number_of, read_line}
-use Rattle.journal_line.specs.Unique.{begins_is}
+use Rattle.journal_line.proofs.Unique.{begins_is}
 use Rattle.journal_line.specs.Writing.{refuses_line, write_reply, write_into}
 
 -- ---- what the writer's reply tells

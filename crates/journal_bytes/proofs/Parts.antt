@@ -11,9 +11,9 @@ use Rattle.journal_line.specs.declared.Line.{Line}
 use Rattle.journal_line.specs.declared.Written.TheVariants.{Length}
 use Rattle.journal_line.specs.Line.{decimal_width, decimal, real, reason_letter, eight, outcome_fields, rest_of_line, line_bytes, writable, Writable}
 use Rattle.journal_line.specs.Steps.{comma_fields, Stored}
-use Rattle.journal_line.specs.DigitLaws.{decimal_length}
-use Rattle.journal_line.specs.FieldLaws.{real_length, rest_of_commas, rest_length}
-use Rattle.journal_line.specs.Unique.{line_length, line_bounds}
+use Rattle.journal_line.proofs.DigitLaws.{decimal_length}
+use Rattle.journal_line.proofs.FieldLaws.{real_length, rest_of_commas, rest_length}
+use Rattle.journal_line.proofs.Unique.{line_length, line_bounds}
 use Rattle.journal_line.specs.Writing.{refuses_line, write_reply, write_into}
 use Rattle.journal_bytes.proofs.Stores.{stored_then, stored_as, stored_front}
 

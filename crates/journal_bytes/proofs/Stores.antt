@@ -4,8 +4,8 @@ use lib.Seq.{sets, sets-eq, set_comm}
 use Rattle.float.specs.Float.{bits_of}
 use Rattle.journal_line.specs.Line.{digit_byte, digits, decimal_width, decimal, real}
 use Rattle.journal_line.specs.Steps.{comma_fields, Stored}
-use Rattle.journal_line.specs.DigitLaws.{digits_length, decimal_length}
-use Rattle.journal_line.specs.FieldLaws.{real_length}
+use Rattle.journal_line.proofs.DigitLaws.{digits_length, decimal_length}
+use Rattle.journal_line.proofs.FieldLaws.{real_length}
 
 -- ---- one after the other
 -- one run behind another

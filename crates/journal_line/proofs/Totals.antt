@@ -4,7 +4,7 @@ use Rattle.common.specs.Each.{All}
 use Rattle.common.specs.Tests.{both_false, case}
 use Rattle.journal_line.specs.declared.Counts.{Counts}
 use Rattle.journal_line.specs.Report.{five, total}
-use Rattle.journal_line.specs.ReportLaws.{Small, all_small}
+use Rattle.journal_line.proofs.ReportLaws.{Small, all_small}
 
 abbrev pub some_large : Counts → Bool
 some_large c = ltb 656 c.scored || ltb 656 c.host_failed || ltb 656 c.bad_camera || ltb 656 c.no_mean || ltb 656 c.no_number

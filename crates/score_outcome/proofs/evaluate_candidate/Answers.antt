@@ -5,7 +5,7 @@ use Rattle.camera_tilt.specs.Matrix.{Matrix}
 use Rattle.score_camera.specs.declared.pinhole.PinholeCamera.{PinholeCamera}
 use Rattle.score_camera.specs.Camera.{damped_camera, valid_camera}
 use Rattle.score_rows.specs.Rows.{rows_of, tilt_matrix, error_sum, mean_of}
-use Rattle.score_rows.specs.Counted.{counted_most}
+use Rattle.score_rows.proofs.Counted.{counted_most}
 use Rattle.score_rows.specs.declared.ErrorSum.{ErrorSum}
 use Rattle.score_outcome.specs.Evaluation.{errors_with, mean_with, enough, enough_with, scored_as}
 use Rattle.score_outcome.specs.Outcomes.{invalid_skips, few_skips, infinite_skips, passed_scored, scoring_is}

@@ -7,8 +7,8 @@ use Rattle.seed_rules.specs.Layout.{read_from}
 use Rattle.seed_rules.specs.LayoutLaws.{seeds_layout}
 use Rattle.seed_rules.specs.Merge.{keep}
 use Rattle.seed_rules.specs.Rules.{near, tilts, pairs, moved, seeds_within, next_list}
-use Rattle.seed_rules.specs.RulesLaws.{within_length, local_grid_more}
-use Rattle.seed_rules.specs.Steps.{merging_start, merging_more}
+use Rattle.seed_rules.proofs.RulesLaws.{within_length, local_grid_more}
+use Rattle.seed_rules.proofs.Steps.{merging_start, merging_more}
 use Rattle.seed_grids.proofs.local_seed_grid.Goals as goal
 
 pub loop-i-init : goal.loop-i-init

@@ -2,7 +2,7 @@
 use Rattle.std.proofs.Common.{[], ◌*◌, ◌≤◌, ◌-◌, length, take}
 use Rattle.seed_rules.specs.Layout.{six}
 use Rattle.seed_rules.specs.Rules.{near, pairs, moved, seeds_within}
-use Rattle.seed_rules.specs.Steps.{Merging}
+use Rattle.seed_rules.proofs.Steps.{Merging}
 use Rattle.seed_grids.proofs.local_seed_grid.Given as goal
 
 abbrev pub invariant-loop-i : goal.invariant-loop-i

@@ -6,8 +6,8 @@ use Rattle.seed_rules.specs.Layout.{seeds_of}
 use Rattle.seed_rules.specs.LayoutLaws.{seeds_layout}
 use Rattle.seed_rules.specs.Merge.{keep}
 use Rattle.seed_rules.specs.Rules.{near, tilts, moved, seeds_within}
-use Rattle.seed_rules.specs.RulesLaws.{within_length, local_row_more}
-use Rattle.seed_rules.specs.Steps.{merging_start, merging_more}
+use Rattle.seed_rules.proofs.RulesLaws.{within_length, local_row_more}
+use Rattle.seed_rules.proofs.Steps.{merging_start, merging_more}
 use Rattle.seed_grids.proofs.local_seed_row.Goals as goal
 
 pub loop-j-init : goal.loop-j-init

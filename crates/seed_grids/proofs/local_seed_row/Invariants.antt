@@ -2,7 +2,7 @@
 use Rattle.std.proofs.Common.{map, ◌+◌, ◌≤◌, ◌-◌, length, take}
 use Rattle.seed_rules.specs.Layout.{six, seeds_of}
 use Rattle.seed_rules.specs.Rules.{near, tilts, moved, seeds_within}
-use Rattle.seed_rules.specs.Steps.{Merging}
+use Rattle.seed_rules.proofs.Steps.{Merging}
 use Rattle.seed_grids.proofs.local_seed_row.Given as goal
 
 abbrev pub invariant-loop-j : goal.invariant-loop-j

@@ -5,7 +5,7 @@ use Rattle.seed_rules.specs.Layout.{seeds_of, all_seeds, read_from}
 use Rattle.seed_rules.specs.LayoutLaws.{seeds_layout, seeds_take, read_length}
 use Rattle.seed_rules.specs.Merge.{merged_into}
 use Rattle.seed_rules.specs.Rules.{near}
-use Rattle.seed_rules.specs.Steps.{merging_start, merging_more}
+use Rattle.seed_rules.proofs.Steps.{merging_start, merging_more}
 use Rattle.seed_grids.proofs.push_decomposition.Goals as goal
 
 pub loop-i-init : goal.loop-i-init

@@ -2,7 +2,7 @@
 use Rattle.std.proofs.Common.{[], ◌≤◌, ◌-◌, take}
 use Rattle.seed_rules.specs.Layout.{six, seeds_of}
 use Rattle.seed_rules.specs.Rules.{near}
-use Rattle.seed_rules.specs.Steps.{Merging}
+use Rattle.seed_rules.proofs.Steps.{Merging}
 use Rattle.seed_grids.proofs.push_decomposition.Given as goal
 
 abbrev pub invariant-loop-i : goal.invariant-loop-i

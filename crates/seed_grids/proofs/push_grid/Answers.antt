@@ -6,7 +6,7 @@ use Rattle.seed_rules.specs.Layout.{seeds_of, tilts_at, tilts_of}
 use Rattle.seed_rules.specs.LayoutLaws.{seeds_layout, tilts_take, read_length}
 use Rattle.seed_rules.specs.Merge.{merged_into}
 use Rattle.seed_rules.specs.Rules.{near, seed_with}
-use Rattle.seed_rules.specs.Steps.{merging_start, merging_more}
+use Rattle.seed_rules.proofs.Steps.{merging_start, merging_more}
 use Rattle.seed_grids.proofs.push_grid.Goals as goal
 
 pub loop-i-init : goal.loop-i-init

@@ -2,7 +2,7 @@
 use Rattle.std.proofs.Common.{map, ◌+◌, ◌≤◌, ◌-◌, take}
 use Rattle.seed_rules.specs.Layout.{six, seeds_of, tilts_of}
 use Rattle.seed_rules.specs.Rules.{near, seed_with}
-use Rattle.seed_rules.specs.Steps.{Merging}
+use Rattle.seed_rules.proofs.Steps.{Merging}
 use Rattle.seed_grids.proofs.push_grid.Given as goal
 
 abbrev pub invariant-loop-i : goal.invariant-loop-i

@@ -5,10 +5,10 @@ use lib.ListN.{length-map}
 use Rattle.seed_rules.specs.Layout.{read_from}
 use Rattle.seed_rules.specs.LayoutLaws.{tilts_layout}
 use Rattle.seed_rules.specs.Merge.{keep}
-use Rattle.seed_rules.specs.MergeLaws.{keep_length}
+use Rattle.seed_rules.proofs.MergeLaws.{keep_length}
 use Rattle.seed_rules.specs.Rules.{tilt_near, in_bound, tilts, pairs, seed_grid}
-use Rattle.seed_rules.specs.RulesLaws.{grid_more}
-use Rattle.seed_rules.specs.Steps.{merging_start, merging_more}
+use Rattle.seed_rules.proofs.RulesLaws.{grid_more}
+use Rattle.seed_rules.proofs.Steps.{merging_start, merging_more}
 use Rattle.seed_grids.proofs.seed_grid.Goals as goal
 
 pub loop-i-init : goal.loop-i-init

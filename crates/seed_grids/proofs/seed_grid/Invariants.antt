@@ -3,7 +3,7 @@ use Rattle.std.proofs.Common.{[], ◌*◌, ◌≤◌, ◌-◌, length, take}
 use Rattle.seed_rules.specs.Layout.{two}
 use Rattle.seed_rules.specs.Merge.{keep}
 use Rattle.seed_rules.specs.Rules.{tilt_near, in_bound, pairs}
-use Rattle.seed_rules.specs.Steps.{Merging}
+use Rattle.seed_rules.proofs.Steps.{Merging}
 use Rattle.seed_grids.proofs.seed_grid.Given as goal
 
 abbrev pub invariant-loop-i : goal.invariant-loop-i

@@ -4,10 +4,10 @@ use Rattle.std.specs.Float.{nan}
 use Rattle.seed_rules.specs.Layout.{tilts_of}
 use Rattle.seed_rules.specs.LayoutLaws.{tilts_layout}
 use Rattle.seed_rules.specs.Merge.{keep}
-use Rattle.seed_rules.specs.MergeLaws.{keep_length}
+use Rattle.seed_rules.proofs.MergeLaws.{keep_length}
 use Rattle.seed_rules.specs.Rules.{tilt_near, in_bound, tilts}
-use Rattle.seed_rules.specs.RulesLaws.{row_more}
-use Rattle.seed_rules.specs.Steps.{merging_start, merging_more}
+use Rattle.seed_rules.proofs.RulesLaws.{row_more}
+use Rattle.seed_rules.proofs.Steps.{merging_start, merging_more}
 use Rattle.seed_grids.proofs.seed_row.Goals as goal
 
 pub loop-j-init : goal.loop-j-init

@@ -3,7 +3,7 @@ use Rattle.std.proofs.Common.{map, ◌+◌, ◌≤◌, ◌-◌, length, take}
 use Rattle.seed_rules.specs.Layout.{two, tilts_of}
 use Rattle.seed_rules.specs.Merge.{keep}
 use Rattle.seed_rules.specs.Rules.{tilt_near, in_bound, tilts}
-use Rattle.seed_rules.specs.Steps.{Merging}
+use Rattle.seed_rules.proofs.Steps.{Merging}
 use Rattle.seed_grids.proofs.seed_row.Given as goal
 
 abbrev pub invariant-loop-j : goal.invariant-loop-j

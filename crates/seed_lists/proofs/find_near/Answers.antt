@@ -5,7 +5,7 @@ use Rattle.seed_rules.specs.Layout.{seed_at, seeds_of}
 use Rattle.seed_rules.specs.LayoutLaws.{read_length, seeds_take}
 use Rattle.seed_rules.specs.Merge.{newest_near}
 use Rattle.seed_rules.specs.Rules.{near}
-use Rattle.seed_rules.specs.Steps.{found_here, found_before, found_none}
+use Rattle.seed_rules.proofs.Steps.{found_here, found_before, found_none}
 use Rattle.seed_lists.proofs.find_near.Goals as goal
 
 pub loop-seeds_left-init : goal.loop-seeds_left-init

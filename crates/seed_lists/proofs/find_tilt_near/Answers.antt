@@ -5,7 +5,7 @@ use Rattle.seed_rules.specs.Layout.{tilts_at, tilts_of}
 use Rattle.seed_rules.specs.LayoutLaws.{read_length, tilts_take}
 use Rattle.seed_rules.specs.Merge.{newest_near}
 use Rattle.seed_rules.specs.Rules.{tilt_near}
-use Rattle.seed_rules.specs.Steps.{found_here, found_before, found_none}
+use Rattle.seed_rules.proofs.Steps.{found_here, found_before, found_none}
 use Rattle.seed_lists.proofs.find_tilt_near.Goals as goal
 
 pub loop-tilts_left-init : goal.loop-tilts_left-init

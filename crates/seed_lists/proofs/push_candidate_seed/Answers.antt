@@ -3,7 +3,7 @@ use Rattle.std.proofs.Common.{sym, ap, ◌∙◌, rules}
 use Rattle.seed_rules.specs.LayoutLaws.{seeds_layout}
 use Rattle.seed_rules.specs.Merge.{is_found}
 use Rattle.seed_rules.specs.Rules.{near}
-use Rattle.seed_rules.specs.Steps.{push_drops, push_stores}
+use Rattle.seed_rules.proofs.Steps.{push_drops, push_stores}
 use Rattle.seed_lists.proofs.push_candidate_seed.Goals as goal
 
 pub returns-in_default : goal.returns-in_default

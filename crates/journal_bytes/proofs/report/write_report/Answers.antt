@@ -3,7 +3,7 @@
 use Rattle.std.proofs.Common.{ℕ, ◌≤◌, Bool, true, false, ◌||◌, ◌≡◌, sym, ◌∙◌, List, ltb, length, rules}
 use Rattle.journal_line.specs.declared.Counts.{Counts}
 use Rattle.journal_line.specs.Report.{total, refuses_report}
-use Rattle.journal_line.specs.Refused.{report_refused}
+use Rattle.journal_line.proofs.Refused.{report_refused}
 use Rattle.journal_bytes.proofs.Reported.{refuses_so, taken_so, sum_is, report_stored}
 use Rattle.journal_bytes.proofs.report.write_report.Goals as goal
 

@@ -5,7 +5,7 @@ use Rattle.journal_line.specs.declared.Line.{Line}
 use Rattle.journal_line.specs.Line.{writable}
 use Rattle.journal_line.specs.Writing.{refuses_line}
 use Rattle.journal_bytes.proofs.Fits.{line_fits}
-use Rattle.journal_line.specs.Refused.{line_refused}
+use Rattle.journal_line.proofs.Refused.{line_refused}
 use Rattle.journal_bytes.proofs.Parts.{refuses_so, taken_so, line_stored}
 use Rattle.journal_bytes.proofs.writing.write_line.Goals as goal
 

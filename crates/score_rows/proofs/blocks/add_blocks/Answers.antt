@@ -2,7 +2,8 @@
 use Rattle.std.proofs.Common.{◌≡◌, ℕ, ◌+◌, ◌-◌, ◌<◌, ◌≤◌, Bool, true, false, not, T, ltb, List, sym, refl, ap, ◌∙◌, subst, arith, ltb→lt, nltb→le, rules, Float}
 use Rattle.camera_tilt.specs.Matrix.{Matrix}
 use Rattle.score_camera.specs.declared.pinhole.PinholeCamera.{PinholeCamera}
-use Rattle.score_rows.specs.Steps.{add_rows, rows_more}
+use Rattle.score_rows.specs.Steps.{add_rows}
+use Rattle.score_rows.proofs.Steps.{rows_more}
 use Rattle.score_rows.specs.declared.ErrorSum.{ErrorSum}
 use Rattle.score_rows.specs.declared.blocks.Part.{Part}
 use Rattle.score_rows.proofs.blocks.add_blocks.Goals as goal

@@ -3,7 +3,7 @@ use Rattle.std.proofs.Common.{arith, refl, sym, ap, ◌∙◌}
 use Rattle.search_record.specs.Laws.{bounds}
 use Rattle.search_calls.specs.declared.stop.Stopped.TheVariants.{Standing}
 use Rattle.search_calls.specs.Stop.{nothing_left}
-use Rattle.search_calls.specs.StopLaws.{stop_unsound, stop_short, stop_none, stop_some}
+use Rattle.search_calls.proofs.StopLaws.{stop_unsound, stop_short, stop_none, stop_some}
 use Rattle.search_calls.proofs.stop.stop.Goals as goal
 
 pub returns-then-not-is_sound : goal.returns-then-not-is_sound
