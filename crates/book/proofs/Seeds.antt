@@ -1,11 +1,6 @@
 -- What the seeds of a book are in their round, and that those of the list around a chosen candidate are. Assumes nothing.
-use Prim.Native.Nat.{ℕ, ◌≤◌, ◌<◌}
-use native.Mathlib.Omega.{arith}
-use mathlib.Core.Path.{◌≡◌}
-use mathlib.Core.Bool.{true}
-use mathlib.Core.List.{List, ◌∷◌}
-use lib.ListN.{length}
-use lib.Ieee.{of_bits, eq}
+use Rattle.std.proofs.Common.{ℕ, ◌≤◌, ◌<◌, arith, ◌≡◌, true, List, ◌∷◌, length}
+use Rattle.std.specs.Float.Ieee.{of_bits, eq}
 use Rattle.common.specs.All.{all_right, all_map}
 use Rattle.common.specs.Each.{All}
 use Rattle.float.specs.Literals.{plus_zero}

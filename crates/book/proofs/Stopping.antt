@@ -1,15 +1,9 @@
 -- 02, E9: where the floor of a book's seeds left isn't below its best's score, none of them beats that best, so its round gains nothing, whatever calls follow.
 -- Assumes nothing.
-use Prim.Native.Nat.{ℕ, zero, suc, ◌≤◌, ◌<◌}
-use native.Mathlib.Omega.{arith}
-use mathlib.Core.Path.{◌≡◌, refl, sym, ap, subst, ◌∙◌}
-use mathlib.Core.Logic.{◌⊎◌, inl, inr, ⊎_elim}
-use mathlib.Core.Bool.{false}
-use mathlib.Core.List.{List, [], ◌∷◌, ◌++◌, append_assoc, append-nil, Memᴰ}
-use borrow.Author.Tests.{le-leb, lt-leb}
-use lib.Dec.{leb}
-use lib.ListN.{length, get_or, drop, length-append}
-use lib.Ieee.{lt}
+use Rattle.std.proofs.Common.{ℕ, zero, suc, ◌≤◌, ◌<◌, arith, ◌≡◌, refl, sym, ap, subst, ◌∙◌, ◌⊎◌, inl, inr, ⊎_elim, false, List, [], ◌∷◌, ◌++◌, append_assoc, append-nil, le-leb, leb, length, get_or, drop, length-append}
+use Rattle.std.specs.Float.Ieee.{lt}
+use mathlib.Core.List.{Memᴰ}
+use borrow.Author.Tests.{lt-leb}
 use Rattle.common.specs.Each.{All}
 use Rattle.common.specs.All.{all_append}
 use Rattle.float_laws.specs.NotBelow.{not_below_trans}

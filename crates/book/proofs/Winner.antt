@@ -1,12 +1,8 @@
 -- The run's best is the earliest of the lowest scores, with the properties of a scored finding. Assumes nothing.
-use Prim.Native.Nat.{ℕ, suc, ◌≤◌, ◌<◌}
-use native.Mathlib.Omega.{arith}
-use mathlib.Core.Path.{◌≡◌, refl, sym, ◌∙◌}
-use mathlib.Core.Logic.{◌⊎◌, inl, inr}
-use mathlib.Core.Bool.{true, false, true≢false}
+use Rattle.std.proofs.Common.{ℕ, suc, ◌≤◌, ◌<◌, arith, ◌≡◌, refl, sym, ◌∙◌, ◌⊎◌, inl, inr, true, false, true≢false, List, [], ◌∷◌, ◌++◌, Float}
+use Rattle.std.specs.Float.Ieee.{neg, lt, le, eq}
 use mathlib.Core.List.Memᴰ
-use mathlib.Core.List.{List, [], ◌∷◌, ◌++◌, Memᴰ}
-use lib.Ieee.{Float, neg, lt, le, eq}
+use mathlib.Core.List.{Memᴰ}
 use Rattle.common.specs.Tests.{both_true}
 use Rattle.common.specs.All.{all_append, all_left, all_right, all_map}
 use Rattle.common.specs.Each.{All}

@@ -1,15 +1,9 @@
 -- What Resume reports of any bytes; a run's journal, cut after any byte, loses only the line that the cut fell in, and the run goes on from the kept lines as if
 -- it had not stopped. Assumes nothing.
-use Prim.Native.Nat.{ℕ, zero, suc, ◌+◌, ◌≤◌}
-use native.Mathlib.Omega.{arith}
-use mathlib.Core.Path.{◌≡◌, refl, sym, ap, ◌∙◌}
-use mathlib.Core.Bool.{Bool, true, false, cond, true≢false}
-use mathlib.Core.List.{List, [], ◌∷◌, ◌++◌, map, append_assoc, append-nil}
-use borrow.Author.Tests.{eqb-true, eqb-false, eq-eqb, ne_eqb}
-use lib.Dec.{eqb}
-use lib.ListN.{length, take, drop, length-append, length-take, length-map}
+use Rattle.std.proofs.Common.{ℕ, zero, suc, ◌+◌, ◌≤◌, arith, ◌≡◌, refl, sym, ap, ◌∙◌, Bool, true, false, cond, true≢false, List, [], ◌∷◌, ◌++◌, map, append_assoc, append-nil, eqb-true, eq-eqb, ne_eqb, eqb, length, take, drop, length-append, length-take, Float}
+use borrow.Author.Tests.{eqb-false}
+use lib.ListN.{length-map}
 use lib.Seq.{take-append_seam, drop-append_seam}
-use lib.Ieee.{Float}
 use Rattle.common.specs.Tests.{case}
 use Rattle.common.specs.All.{all_right}
 use Rattle.common.specs.Each.{All}

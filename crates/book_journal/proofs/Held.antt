@@ -1,15 +1,9 @@
 -- The numbers in a run's book fit binary64, its seeds' and its outcomes', where Start's inputs and the host's findings do. Assumes nothing.
-use Prim.Native.Nat.{ℕ, zero, suc, ◌-◌, ◌/◌}
-use native.Mathlib.Omega.{arith}
-use mathlib.Core.Path.{◌≡◌, refl, ap, subst}
-use mathlib.Core.Logic.{⊎_elim}
-use mathlib.Core.Bool.{false, not, ◌&&◌, cond}
+use Rattle.std.proofs.Common.{ℕ, zero, suc, ◌-◌, ◌/◌, arith, ◌≡◌, refl, ap, subst, ⊎_elim, false, not, ◌&&◌, cond, List, [], ◌∷◌, ◌++◌, append-nil, ltb, eqb, pos, length, get_or, drop, Float}
+use Rattle.std.specs.Float.{nan, binary64}
+use Rattle.std.specs.Float.Ieee.{of_bits, lt, neg, of_int}
 use mathlib.Core.List.Memᴰ
-use mathlib.Core.List.{List, [], ◌∷◌, ◌++◌, append-nil, Memᴰ}
-use lib.Dec.{ltb, eqb}
-use lib.IntN.{pos}
-use lib.ListN.{length, get_or, drop}
-use lib.Ieee.{Float, nan, binary64, of_bits, lt, neg, of_int}
+use mathlib.Core.List.{Memᴰ}
 use lib.Ieee.Bits.{of_bits-fits}
 use lib.Ieee.Fits.{add-fits, div-fits, neg-fits, nan-fits, cond-fits}
 use Rattle.common.specs.Tests.{case}

@@ -1,13 +1,6 @@
 -- The parts of a line, stored one after the other. Assumes nothing.
-use Prim.Native.Nat.{ℕ, ◌+◌, ◌*◌, ◌≤◌}
-use mathlib.Core.Path.{◌≡◌, refl, sym, ap, ◌∙◌}
-use mathlib.Core.Bool.{Bool, false, not, ◌||◌}
-use mathlib.Core.List.{List, [], ◌∷◌, ◌++◌, map, append_assoc}
-use native.Mathlib.Omega.{arith}
-use borrow.Author.Tests.{ltb-false, not-false}
-use lib.Dec.{ltb}
-use lib.Ieee.{Float}
-use lib.ListN.{length, replicate, length-append}
+use Rattle.std.proofs.Common.{ℕ, ◌+◌, ◌*◌, ◌≤◌, ◌≡◌, refl, sym, ap, ◌∙◌, Bool, false, not, ◌||◌, List, [], ◌∷◌, ◌++◌, map, append_assoc, arith, ltb-false, ltb, Float, length, replicate, length-append}
+use borrow.Author.Tests.{not-false}
 use lib.Seq.{append_snoc}
 use Rattle.common.specs.Tests.{both_false}
 use Rattle.seed_rules.specs.Layout.{six}

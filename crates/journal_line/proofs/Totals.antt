@@ -1,9 +1,5 @@
 -- The test of the five counts, each alone, beside their total. Assumes nothing.
-use Prim.Native.Nat.{◌≤◌}
-use mathlib.Core.Path.{◌≡◌, sym, ◌∙◌}
-use mathlib.Core.Bool.{Bool, true, false, ◌||◌, true≢false}
-use borrow.Author.Tests.{le-ltb, ltb-false}
-use lib.Dec.{ltb}
+use Rattle.std.proofs.Common.{◌≤◌, ◌≡◌, sym, ◌∙◌, Bool, true, false, ◌||◌, true≢false, le-ltb, ltb-false, ltb}
 use Rattle.common.specs.Each.{All}
 use Rattle.common.specs.Tests.{both_false, case}
 use Rattle.journal_line.specs.declared.Counts.{Counts}

@@ -1,10 +1,6 @@
--- `search_answer::close_round` meets its contract. The loop's invariant: closing the round from here is closing it from the start. Assumes nothing.
-use mathlib.Core.Path.{◌≡◌, refl, sym, ap, ◌∙◌}
-use Prim.Native.Nat.{◌-◌, ◌≤◌}
-use native.Mathlib.Omega.{arith}
-use borrow.Author.Rules.{rules}
+-- `search_answer::close_round` meets its contract. Assumes nothing.
+use Rattle.std.proofs.Common.{◌≡◌, refl, sym, ap, ◌∙◌, ◌-◌, arith}
 use borrow.Author.Tests.{not-true, not-false}
-use lib.ListN.{length}
 use Rattle.search_record.specs.Record.{ended}
 use Rattle.search_answer.specs.Answer.{Left, left, close_round}
 use Rattle.search_answer.specs.AnswerLaws.{close_last, close_none, close_open, close_empty, opened_rounds, next_seeds_are}
@@ -48,11 +44,11 @@ shape_of-list c = c.loop-run.invariant.1.1.1
 pub returns : goal.returns
 returns c =
     let ends : close_round (c.loop-run.run.options.refine_rounds - c.loop-run.run.place.round) c.loop-run.run c.loop-run.list ≡ left (ended c.loop-run.run) c.loop-run.list =
-        elim c.loop-run-test.branch [
-          | else-loop-run-test w ↦ close_last _ c.loop-run.run c.loop-run.list (omega (arith, w.loop-run-test.false))
-          | then-loop-run-test+then-not-best w ↦
-              close_none _ c.loop-run.run c.loop-run.list _ (omega (arith, w.loop-run-test.true)) w.or_else-best.ensures (not-true _ w.if-not-best.true)
-        ]
+    elim c.loop-run-test.branch [
+      | else-loop-run-test w ↦ close_last _ c.loop-run.run c.loop-run.list (omega (arith, w.loop-run-test.false))
+      | then-loop-run-test+then-not-best w ↦
+          close_none _ c.loop-run.run c.loop-run.list _ (omega (arith, w.loop-run-test.true)) w.or_else-best.ensures (not-true _ w.if-not-best.true)
+    ]
     in
     let e = sym c.loop-run.invariant.0 ∙ ends in
     record { value = c.ended.ensures ∙ sym (ap (λ (x : Left). x.run) e); list_after = sym (ap (λ (x : Left). x.list) e) }

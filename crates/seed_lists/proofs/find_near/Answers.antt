@@ -1,10 +1,5 @@
--- `seed_lists::find_near` meets its contract. The loop's invariant: among the first `left` seeds the search finds what it finds among all. Assumes nothing.
-use mathlib.Core.Path.{◌≡◌, sym, ap, ◌∙◌}
-use mathlib.Core.List.{List}
-use Prim.Native.Nat.{◌≤◌, ◌-◌}
-use borrow.Author.Rules.{rules}
-use lib.ListN.{take}
-use lib.Seq.{take_all}
+-- `seed_lists::find_near` meets its contract. Assumes nothing.
+use Rattle.std.proofs.Common.{sym, ap, ◌∙◌, List, ◌-◌, rules, take_all}
 use Rattle.seed_rules.specs.declared.CandidateSeed.{CandidateSeed}
 use Rattle.seed_rules.specs.Layout.{seed_at, seeds_of}
 use Rattle.seed_rules.specs.LayoutLaws.{read_length, seeds_take}

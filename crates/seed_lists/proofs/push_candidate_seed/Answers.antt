@@ -1,6 +1,5 @@
 -- `seed_lists::push_candidate_seed` meets its contract: a seed with a near one among the kept is dropped, any other is stored behind them. Assumes nothing.
-use mathlib.Core.Path.{sym, ap, ◌∙◌}
-use borrow.Author.Rules.{rules}
+use Rattle.std.proofs.Common.{sym, ap, ◌∙◌, rules}
 use Rattle.seed_rules.specs.LayoutLaws.{seeds_layout}
 use Rattle.seed_rules.specs.Merge.{is_found}
 use Rattle.seed_rules.specs.Rules.{near}

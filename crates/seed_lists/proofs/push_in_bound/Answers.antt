@@ -1,6 +1,5 @@
 -- `seed_lists::push_in_bound` meets its contract: a seed within the bound is pushed, any other is dropped. Assumes nothing.
-use mathlib.Core.Path.{sym, ◌∙◌}
-use borrow.Author.Rules.{rules}
+use Rattle.std.proofs.Common.{sym, ◌∙◌, rules}
 use Rattle.seed_rules.specs.LayoutLaws.{seeds_layout}
 use Rattle.seed_rules.specs.Merge.{keep, merged_into}
 use Rattle.seed_rules.specs.Rules.{near}

@@ -1,8 +1,5 @@
 -- `seed_lists::push_seed` meets its contract: tilts beyond the bound, or with near ones among the kept, are dropped, any others stored behind them. Assumes nothing.
-use mathlib.Core.Path.{◌≡◌, sym, ap, ◌∙◌}
-use mathlib.Core.Bool.{true, false}
-use borrow.Author.Tests.{not-true, not-false}
-use borrow.Author.Rules.{rules}
+use Rattle.std.proofs.Common.{◌≡◌, sym, ap, ◌∙◌, true, false, rules}
 use Rattle.seed_rules.specs.LayoutLaws.{tilts_layout}
 use Rattle.seed_rules.specs.Merge.{is_found, keep, merged_into}
 use Rattle.seed_rules.specs.Rules.{tilt_near, in_bound}

@@ -1,10 +1,5 @@
--- `point_normalise::linalg::centroid` meets its contract. The loop's invariant: the sum from here is the whole sum. Assumes nothing.
-use borrow.Author.Rules.{rules}
-use mathlib.Core.Path.{◌≡◌, refl, sym, ◌∙◌}
-use Prim.Native.Nat.{◌≤◌, ◌-◌}
-use lib.ListN.{length, drop}
-use Rattle.float.specs.Literals.{plus_zero}
-use Rattle.point_normalise.specs.Points.{fold_points}
+-- `point_normalise::linalg::centroid` meets its contract. Assumes nothing.
+use Rattle.std.proofs.Common.{rules, refl, sym, ◌∙◌}
 use Rattle.point_normalise.specs.Linalg.{add_point, centroid_of}
 use Rattle.point_normalise.specs.Walk.{fold_next, fold_end, count_fits}
 use Rattle.point_normalise.proofs.linalg.centroid.Goals as goal
@@ -13,12 +8,11 @@ pub loop-i-init : goal.loop-i-init
 loop-i-init c = (search rules, refl)
 
 pub loop-i-preserved : goal.loop-i-preserved
-loop-i-preserved c =
-    (
-      search rules,
-      rw c.point_at-p.ensures
-          (sym (fold_next add_point (record { x = c.loop-i.cx; y = c.loop-i.cy }) c.args.points.now c.loop-i.i (search rules)) ∙ c.loop-i.invariant.1),
-    )
+loop-i-preserved c = (
+  search rules,
+  rw c.point_at-p.ensures
+      (sym (fold_next add_point (record { x = c.loop-i.cx; y = c.loop-i.cy }) c.args.points.now c.loop-i.i (search rules)) ∙ c.loop-i.invariant.1),
+)
 
 pub int_to_float-n : goal.int_to_float-n
 int_to_float-n c = count_fits c.args.points.now (search rules)

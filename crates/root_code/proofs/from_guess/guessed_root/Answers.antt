@@ -1,5 +1,5 @@
 -- `root_code::from_guess::guessed_root` meets its contract. Assumes nothing.
-use Rattle.std.proofs.Common.{◌^◌, lt_of_lt_of_le, arith, rules}
+use Rattle.std.proofs.Common.{◌^◌, lt_of_lt_of_le, arith}
 use Rattle.root_code.specs.Or.{both_below}
 use Rattle.root_code.proofs.Steps.{product, near_sum, right}
 use Rattle.root_code.proofs.from_guess.guessed_root.Goals as goal
@@ -41,8 +41,7 @@ returns c =
     let d = c.wrapping_sub_u64-d in
     let l = c.low_digits-l in
     let a = c.wrapping_sub_u64-a in
-    let h = c.high_digits-h in
-    (
+    let h = c.high_digits-h in (
       near_sum h.result l.result v.result h.ensures l.ensures v.type_inv,
       λ wide signs.
           let p = both_below a.result d.result (2 ^ 37) wide in

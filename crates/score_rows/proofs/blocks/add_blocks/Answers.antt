@@ -1,8 +1,5 @@
--- `score_rows::blocks::add_blocks` meets its contract. The loop's invariant: the sum and count have the first rows, as many as are done.
--- The measure is what is left of the rows. Assumes nothing.
--- a turn takes some rows: dense ones, or some of what they leave
-use Rattle.std.proofs.Common.{◌≡◌, ℕ, ◌+◌, ◌-◌, ◌<◌, ◌≤◌, Bool, true, false, not, T, ltb, List, sym, refl, ap, ◌∙◌, subst, ⊎_elim, arith, ltb→lt, nltb→le, rules}
-use lib.Ieee.{Float}
+-- `score_rows::blocks::add_blocks` meets its contract. Assumes nothing.
+use Rattle.std.proofs.Common.{◌≡◌, ℕ, ◌+◌, ◌-◌, ◌<◌, ◌≤◌, Bool, true, false, not, T, ltb, List, sym, refl, ap, ◌∙◌, subst, arith, ltb→lt, nltb→le, rules, Float}
 use Rattle.camera_tilt.specs.Matrix.{Matrix}
 use Rattle.score_camera.specs.declared.pinhole.PinholeCamera.{PinholeCamera}
 use Rattle.score_rows.specs.Steps.{add_rows, rows_more}
@@ -38,7 +35,7 @@ overflow_add-at c =
     let a = c.args in
     let D = Dense a.camera a.h a.rows.now a.flags.now c.loop-done.sum c.loop-done.done a.n in
     let dense : D c.if-first-eq0.part =
-        elim c.if-first-eq0.branch [ then-first-eq0 w ↦ subst D (sym w.part-is) (omega arith, refl) | else-first-eq0 w ↦ subst D (sym w.part-is) w.add_dense-part.ensures ]
+    elim c.if-first-eq0.branch [ then-first-eq0 w ↦ subst D (sym w.part-is) (omega arith, refl) | else-first-eq0 w ↦ subst D (sym w.part-is) w.add_dense-part.ensures ]
     in
     let d = dense.0 in search rules
 
@@ -48,7 +45,7 @@ overflow_sub-n c =
     let a = c.args in
     let D = Dense a.camera a.h a.rows.now a.flags.now c.loop-done.sum c.loop-done.done a.n in
     let dense : D c.if-first-eq0.part =
-        elim c.if-first-eq0.branch [ then-first-eq0 w ↦ subst D (sym w.part-is) (omega arith, refl) | else-first-eq0 w ↦ subst D (sym w.part-is) w.add_dense-part.ensures ]
+    elim c.if-first-eq0.branch [ then-first-eq0 w ↦ subst D (sym w.part-is) (omega arith, refl) | else-first-eq0 w ↦ subst D (sym w.part-is) w.add_dense-part.ensures ]
     in
     let d = dense.0 in search rules
 
@@ -58,7 +55,7 @@ add_sparse-sum-requires c =
     let a = c.args in
     let D = Dense a.camera a.h a.rows.now a.flags.now c.loop-done.sum c.loop-done.done a.n in
     let dense : D c.if-first-eq0.part =
-        elim c.if-first-eq0.branch [ then-first-eq0 w ↦ subst D (sym w.part-is) (omega arith, refl) | else-first-eq0 w ↦ subst D (sym w.part-is) w.add_dense-part.ensures ]
+    elim c.if-first-eq0.branch [ then-first-eq0 w ↦ subst D (sym w.part-is) (omega arith, refl) | else-first-eq0 w ↦ subst D (sym w.part-is) w.add_dense-part.ensures ]
     in
     let d = dense.0 in search rules
 
@@ -68,7 +65,7 @@ overflow_add-done c =
     let a = c.args in
     let D = Dense a.camera a.h a.rows.now a.flags.now c.loop-done.sum c.loop-done.done a.n in
     let dense : D c.if-first-eq0.part =
-        elim c.if-first-eq0.branch [ then-first-eq0 w ↦ subst D (sym w.part-is) (omega arith, refl) | else-first-eq0 w ↦ subst D (sym w.part-is) w.add_dense-part.ensures ]
+    elim c.if-first-eq0.branch [ then-first-eq0 w ↦ subst D (sym w.part-is) (omega arith, refl) | else-first-eq0 w ↦ subst D (sym w.part-is) w.add_dense-part.ensures ]
     in
     let d = dense.0 in search rules
 
@@ -78,7 +75,7 @@ loop-done-smaller c =
     let a = c.args in
     let D = Dense a.camera a.h a.rows.now a.flags.now c.loop-done.sum c.loop-done.done a.n in
     let dense : D c.if-first-eq0.part =
-        elim c.if-first-eq0.branch [ then-first-eq0 w ↦ subst D (sym w.part-is) (omega arith, refl) | else-first-eq0 w ↦ subst D (sym w.part-is) w.add_dense-part.ensures ]
+    elim c.if-first-eq0.branch [ then-first-eq0 w ↦ subst D (sym w.part-is) (omega arith, refl) | else-first-eq0 w ↦ subst D (sym w.part-is) w.add_dense-part.ensures ]
     in
     let d = dense.0 in
     let p = c.if-first-eq0.part in
@@ -93,7 +90,7 @@ loop-done-preserved c =
     let a = c.args in
     let D = Dense a.camera a.h a.rows.now a.flags.now c.loop-done.sum c.loop-done.done a.n in
     let dense : D c.if-first-eq0.part =
-        elim c.if-first-eq0.branch [ then-first-eq0 w ↦ subst D (sym w.part-is) (omega arith, refl) | else-first-eq0 w ↦ subst D (sym w.part-is) w.add_dense-part.ensures ]
+    elim c.if-first-eq0.branch [ then-first-eq0 w ↦ subst D (sym w.part-is) (omega arith, refl) | else-first-eq0 w ↦ subst D (sym w.part-is) w.add_dense-part.ensures ]
     in
     let d = dense in
     let p = c.if-first-eq0.part in

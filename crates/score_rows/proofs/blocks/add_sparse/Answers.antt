@@ -1,5 +1,5 @@
 -- `score_rows::blocks::add_sparse` meets its contract: rows behind the camera leave sum and count as they are. Assumes nothing.
-use Rattle.std.proofs.Common.{sym, ◌∙◌, rules}
+use Rattle.std.proofs.Common.{sym, ◌∙◌}
 use Rattle.score_rows.specs.Steps.{none_counted}
 use Rattle.score_rows.proofs.blocks.add_sparse.Goals as goal
 

@@ -1,8 +1,5 @@
 -- `search_calls::stop::stop` meets its contract, by the four ways that the call goes. Assumes nothing.
-use native.Mathlib.Omega.{arith}
-use mathlib.Core.Path.{refl, sym, ap, ◌∙◌}
-use borrow.Author.Rules.{rules}
-use borrow.Author.Tests.{not-true, not-false}
+use Rattle.std.proofs.Common.{arith, refl, sym, ap, ◌∙◌}
 use Rattle.search_record.specs.Laws.{bounds}
 use Rattle.search_calls.specs.declared.stop.Stopped.TheVariants.{Standing}
 use Rattle.search_calls.specs.Stop.{nothing_left}
