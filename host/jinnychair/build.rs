@@ -1,5 +1,5 @@
 //! Links `libcapi.a`, the static library of the proved crates. It is taken from the folder that `JINNYCHAIR_STATICLIB` names; or
-//! from `../lib`, where a release has it; or else it is proved and built from the repository by `rt staticlib capi`.
+//! from `../lib`, where a release has it; or else it is proved and built from the repository by `rt lib` in `crates/capi`.
 
 use std::env;
 use std::fs;
@@ -39,22 +39,38 @@ fn given(folder: PathBuf) -> PathBuf {
     folder
 }
 
-/// The archive of the repository's own crates. Their sources are watched, and not the archive, which is written here.
+/// The archive of the repository's own crates. Their sources are watched, and neither the archive, which is written here, nor what
+/// `rt` keeps in each crate's `out`.
 fn built(root: &Path) -> PathBuf {
-    let sources = [root.join("crates"), root.join("crates.txt")];
-    if !sources[1].is_file() {
+    let list = root.join("crates.txt");
+    if !list.is_file() {
         fail(
             "there is neither ../lib/libcapi.a nor a repository; set JINNYCHAIR_STATICLIB to the folder of libcapi.a",
         );
     }
+    let sources = match sources(&root.join("crates")) {
+        Ok(folders) => [folders, vec![list]].concat(),
+        Err(error) => fail(&format!("the crates can't be listed: {error}")),
+    };
     for source in &sources {
         println!("cargo::rerun-if-changed={}", source.display());
     }
     let folder = root.join("target/staticlib");
     if !is_newer(&folder.join(ARCHIVE), &sources).unwrap_or(false) {
-        prove(root);
+        prove(&root.join("crates/capi"), &folder);
     }
     folder
+}
+
+/// The folders of each crate that a check reads.
+fn sources(crates: &Path) -> io::Result<Vec<PathBuf>> {
+    let mut found = Vec::new();
+    for entry in fs::read_dir(crates)? {
+        let of_crate = entry?.path();
+        found.extend(["src", "specs", "proofs"].map(|part| of_crate.join(part)));
+    }
+    found.retain(|folder| folder.is_dir());
+    Ok(found)
 }
 
 /// Whether a file is newer than all that the others hold.
@@ -74,12 +90,18 @@ fn is_newer(file: &Path, others: &[PathBuf]) -> io::Result<bool> {
     Ok(made > last)
 }
 
-fn prove(root: &Path) {
-    match Command::new("rt").args(["staticlib", "capi"]).current_dir(root).status() {
+fn prove(capi: &Path, folder: &Path) {
+    match Command::new("rt").arg("lib").current_dir(capi).status() {
         Ok(status) if status.success() => {}
-        Ok(status) => fail(&format!("`rt staticlib capi` failed: {status}")),
+        Ok(status) => fail(&format!("`rt lib` failed in {}: {status}", capi.display())),
         Err(error) => fail(&format!(
             "`rt` can't be run ({error}); set JINNYCHAIR_STATICLIB to the folder of a built libcapi.a"
         )),
+    }
+    let made = capi.join("out").join(ARCHIVE);
+    if let Err(error) =
+        fs::create_dir_all(folder).and_then(|()| fs::copy(&made, folder.join(ARCHIVE)))
+    {
+        fail(&format!("{} can't be copied to {}: {error}", made.display(), folder.display()));
     }
 }

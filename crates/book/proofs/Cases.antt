@@ -1,7 +1,5 @@
 -- Going by cases on a value, with the case as an equation. Assumes nothing.
-use Prim.Native.Nat.{ℕ}
-use mathlib.Core.Path.{◌≡◌, refl}
-use mathlib.Core.List.{List, [], ◌∷◌}
+use Rattle.std.proofs.Common.{ℕ, ◌≡◌, refl, List, [], ◌∷◌}
 use mathlib.Core.Option.{Option, none, some}
 use Rattle.seed_rules.specs.declared.CandidateSeed.{CandidateSeed}
 use Rattle.score_outcome.specs.declared.Scoring.{Scoring}

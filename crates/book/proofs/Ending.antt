@@ -1,24 +1,17 @@
 -- The end of a run, from any book between the calls on: the record that calls leave is sound, an accepted answer takes it on, and a host whose answers are accepted
 -- reaches the end, whatever list each call is lent. Assumes nothing.
-use Prim.Native.Nat.{ℕ, zero, suc, ◌+◌, ◌-◌, ◌*◌, ◌≤◌, ◌<◌}
-use native.Mathlib.Omega.{arith}
-use mathlib.Core.Path.{◌≡◌, refl, sym, ap, subst, ◌∙◌}
-use mathlib.Core.Bool.{true, false, not, ◌&&◌, true≢false}
-use mathlib.Core.List.{List, [], ◌∷◌}
-use borrow.Author.Tests.{not-true, ltb-true, ltb-false, lt-ltb, le-ltb, le-leb, eqb-true, eq-eqb}
-use lib.Dec.{ltb, eqb}
-use lib.ListN.{length, length-append}
-use lib.Ieee.{Float}
+use Rattle.std.proofs.Common.{ℕ, zero, suc, ◌+◌, ◌-◌, ◌*◌, ◌≤◌, ◌<◌, arith, ◌≡◌, refl, sym, ap, subst, ◌∙◌, true, false, not, ◌&&◌, true≢false, List, [], ◌∷◌, ltb-true, ltb-false, lt-ltb, le-ltb, le-leb, eqb-true, eq-eqb, ltb, eqb, length, length-append, Float}
+use borrow.Author.Tests.{not-true}
 use Rattle.common.specs.Tests.{case, both_true}
 use Rattle.seed_rules.specs.declared.CandidateSeed.{CandidateSeed}
 use Rattle.seed_rules.specs.Layout.{seed_at}
-use Rattle.seed_rules.specs.AnyOffsets.{most_nine, round_few}
+use Rattle.seed_rules.proofs.AnyOffsets.{most_nine, round_few}
 use Rattle.score_outcome.specs.declared.Finding.{Finding}
 use Rattle.score_outcome.specs.declared.Outcome.{Outcome}
 use Rattle.score_outcome.specs.Evaluation.{outcome_of, finding_refusal}
 use Rattle.score_best.specs.declared.Candidate.{Candidate}
 use Rattle.journal_line.specs.Counts.{kind_of}
-use Rattle.journal_line.specs.CountLaws.{total_with}
+use Rattle.journal_line.proofs.CountLaws.{total_with}
 use Rattle.journal_line.specs.Outcome.{recorded_as}
 use Rattle.journal_line.specs.Report.{total}
 use Rattle.search_record.specs.declared.run.Options.{Options}

@@ -1,17 +1,12 @@
 -- What each call of the run adds to what was answered and to what was handed out is what the book has. Assumes nothing.
-use mathlib.Core.Path.{◌≡◌, refl, sym, ap, ◌∙◌}
-use mathlib.Core.Bool.{true, false, cond}
-use mathlib.Core.List.{List, [], ◌∷◌, ◌++◌, map, append-nil, map-append}
-use borrow.Author.Tests.{ltb-false, le-leb}
-use lib.Dec.{ltb, eqb}
-use lib.ListN.{length, take}
-use lib.Ieee.{Float}
+use Rattle.std.proofs.Common.{◌≡◌, refl, sym, ap, ◌∙◌, true, false, cond, List, [], ◌∷◌, ◌++◌, map, append-nil, ltb-false, le-leb, ltb, eqb, length, take, Float}
+use mathlib.Core.List.{map-append}
 use Rattle.common.specs.Tests.{case}
 use Rattle.seed_rules.specs.Layout.{six}
 use Rattle.score_outcome.specs.declared.Outcome.{Outcome}
 use Rattle.score_outcome.specs.Evaluation.{finding_refusal}
 use Rattle.search_calls.specs.Next.{next_def, seed_lent, seed_part}
-use Rattle.book.specs.Calls.{Call, next, seed, answer, ask, progress, stop, part, last, counts}
+use Rattle.book.specs.Calls.{Call, next, seed, answer, ask, progress, stop, last, counts}
 use Rattle.book.specs.Book.{Inputs, demand, Book, entries, number, current, run_best_of, with_waiting, book_enter, book_outcome, book_next, book_seed, book_answer, book_result, book_progress, book_stop, book_call, book_last, book_counts}
 use Rattle.book.specs.Trace.{Handing, handed_by, answered_by, handing_of}
 use Rattle.book.proofs.Cases.{case_chosen}

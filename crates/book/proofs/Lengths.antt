@@ -1,13 +1,10 @@
 -- 02, E10: exactly how many seeds a later round's list has. Assumes nothing.
-use Prim.Native.Nat.{ℕ, ◌<◌}
-use mathlib.Core.Path.{◌≡◌, ap, subst, ◌∙◌}
-use mathlib.Core.Bool.{true, false}
-use lib.ListN.{length}
-use lib.Ieee.{lt, le}
+use Rattle.std.proofs.Common.{ℕ, ◌<◌, ◌≡◌, ap, subst, ◌∙◌, true, false, length}
+use Rattle.std.specs.Float.Ieee.{lt, le}
 use Rattle.float.specs.Literals.{half₆₄}
 use Rattle.score_best.specs.declared.Candidate.{Candidate}
 use Rattle.seed_counts.specs.Admissible.{seed_count, least_step, most_step}
-use Rattle.seed_counts.specs.Exact.{round_length}
+use Rattle.seed_counts.proofs.Exact.{round_length}
 use Rattle.book.specs.Book.{Inputs, Book, entries, step_of, offsets_x, offsets_y, list_around}
 use Rattle.book.specs.Rounds.{LaterRound}
 use Rattle.book.proofs.Made.{around}

@@ -1,14 +1,7 @@
 -- The lent list beside the book's: the seeds stand in its front, and a front of it is lent and given back. Assumes nothing.
-use Prim.Native.Nat.{ℕ, zero, suc, ◌+◌, ◌-◌, ◌*◌, ◌≤◌, ◌<◌}
-use native.Mathlib.Omega.{arith}
-use mathlib.Core.Path.{◌≡◌, refl, sym, ap, ◌∙◌}
-use mathlib.Core.Bool.{Bool, true, false}
-use mathlib.Core.List.{List, [], ◌∷◌, ◌++◌, append_assoc}
-use borrow.Author.Tests.{ltb-true, ltb-false, lt-ltb, le-ltb}
-use lib.Dec.{ltb}
-use lib.ListN.{length, get_or, take, drop, length-append, length-take, length-drop}
-use lib.Seq.{get_or-append-add, drop-append-add, take-append-add, drop-cons, drop-length}
-use lib.Ieee.{Float, nan}
+use Rattle.std.proofs.Common.{ℕ, zero, suc, ◌+◌, ◌-◌, ◌*◌, ◌≤◌, ◌<◌, arith, ◌≡◌, refl, sym, ap, ◌∙◌, Bool, true, false, List, [], ◌∷◌, ◌++◌, append_assoc, ltb-true, ltb-false, lt-ltb, le-ltb, ltb, length, get_or, take, drop, length-append, length-take, length-drop, get_or-append-add, drop-cons, Float}
+use Rattle.std.specs.Float.{nan}
+use lib.Seq.{drop-append-add, take-append-add, drop-length}
 use Rattle.seed_rules.specs.declared.CandidateSeed.{CandidateSeed}
 use Rattle.seed_rules.specs.Layout.{laid, six, flat, seed_at, written}
 use Rattle.seed_rules.specs.LayoutLaws.{flat_length}

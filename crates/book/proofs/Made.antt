@@ -1,15 +1,10 @@
 -- Whom the book's list lies around: of a later round, the best of the round before or else of all before. Assumes nothing.
-use Prim.Native.Nat.{ℕ, zero, suc, ◌<◌}
-use native.Mathlib.Omega.{arith}
-use mathlib.Core.Path.{◌≡◌, refl, sym, ◌∙◌}
-use mathlib.Core.Bool.{true, false}
-use mathlib.Core.List.{List, [], ◌++◌, append-nil}
-use borrow.Author.Tests.{eq-eqb, ne_eqb, le-leb, lt-leb}
-use lib.Dec.{leb, eqb}
+use Rattle.std.proofs.Common.{ℕ, zero, suc, ◌<◌, arith, ◌≡◌, refl, sym, ◌∙◌, true, false, List, [], ◌++◌, append-nil, eq-eqb, ne_eqb, le-leb, leb, eqb}
+use borrow.Author.Tests.{lt-leb}
 use Rattle.common.specs.Each.{All}
 use Rattle.common.specs.All.{all_append, all_map}
 use Rattle.seed_rules.specs.declared.CandidateSeed.{CandidateSeed}
-use Rattle.seed_rules.specs.MergeLaws.{keep_append, keep_none, keep_whole}
+use Rattle.seed_rules.proofs.MergeLaws.{keep_append, keep_none, keep_whole}
 use Rattle.score_outcome.specs.declared.Outcome.{Outcome}
 use Rattle.score_best.specs.declared.Candidate.{Candidate}
 use Rattle.score_best.specs.Best.{chosen}

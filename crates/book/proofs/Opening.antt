@@ -1,16 +1,9 @@
 -- An accepted Start opens the book: the run, the list that it wrote, and what holds of them. Assumes nothing.
-use Prim.Native.Nat.{ℕ, ◌+◌, ◌*◌, ◌/◌, ◌≤◌, ◌<◌}
-use native.Mathlib.Nat.{mul-le-mul}
-use native.Mathlib.Omega.{arith}
-use mathlib.Core.Path.{◌≡◌, refl, sym, ◌∙◌}
-use mathlib.Core.Logic.{inl, ⊎_elim}
-use mathlib.Core.Bool.{Bool, true, false, ◌&&◌, cond, true≢false}
+use Rattle.std.proofs.Common.{ℕ, ◌+◌, ◌*◌, ◌/◌, ◌≤◌, ◌<◌, mul-le-mul, arith, ◌≡◌, refl, sym, ◌∙◌, inl, ⊎_elim, Bool, true, false, ◌&&◌, cond, true≢false, List, [], ◌∷◌, ltb-true, ltb-false, ltb, eqb, length, Float}
+use Rattle.std.specs.Float.Ieee.{eq}
 use mathlib.Core.List.Memᴰ
-use mathlib.Core.List.{List, [], ◌∷◌, Memᴰ}
-use borrow.Author.Tests.{ltb-true, ltb-false}
-use lib.Dec.{ltb, eqb, eqb-suc-zero}
-use lib.ListN.{length}
-use lib.Ieee.{Float, eq}
+use mathlib.Core.List.{Memᴰ}
+use lib.Dec.{eqb-suc-zero}
 use Rattle.common.specs.Tests.{case, both_true}
 use Rattle.common.specs.Each.{All, every}
 use Rattle.float.specs.Float.{is_finite}
@@ -18,10 +11,10 @@ use Rattle.float.specs.Literals.{plus_zero}
 use Rattle.seed_rules.specs.declared.CandidateSeed.{CandidateSeed}
 use Rattle.seed_rules.specs.Merge.{keep}
 use Rattle.seed_rules.specs.Rules.{in_bound, untilted_y}
-use Rattle.seed_rules.specs.RulesLaws.{initial_length}
+use Rattle.seed_rules.proofs.RulesLaws.{initial_length}
 use Rattle.seed_rules.specs.Layout.{all_seeds, seed_at, written}
 use Rattle.seed_rules.specs.LayoutLaws.{read_length}
-use Rattle.seed_rules.specs.Facts.{initial_all}
+use Rattle.seed_rules.proofs.Facts.{initial_all}
 use Rattle.score_best.specs.Best.{best_of, first_unbeaten}
 use Rattle.search_record.specs.declared.run.Run.{Run}
 use Rattle.search_start.specs.declared.Started.TheVariants.{Accepted}

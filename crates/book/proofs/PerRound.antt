@@ -1,17 +1,14 @@
 -- How many seeds each later round has handed out: no more than its list has. Assumes nothing.
-use Prim.Native.Nat.{ℕ, suc, ◌≤◌, ◌<◌}
-use native.Mathlib.Omega.{arith}
-use mathlib.Core.Path.{◌≡◌, refl}
-use mathlib.Core.List.{List, [], ◌∷◌, ◌++◌, map, append-nil, map-append}
-use borrow.Author.Tests.{eqb-true, eqb-false, ne_eqb}
-use lib.Dec.{eqb}
-use lib.ListN.{length, length-map}
+use Rattle.std.proofs.Common.{ℕ, suc, ◌≤◌, ◌<◌, arith, ◌≡◌, refl, List, [], ◌∷◌, ◌++◌, map, append-nil, eqb-true, ne_eqb, eqb, length}
+use mathlib.Core.List.{map-append}
+use borrow.Author.Tests.{eqb-false}
+use lib.ListN.{length-map}
 use Rattle.common.specs.Tests.{case}
 use Rattle.common.specs.All.{all_map}
 use Rattle.common.specs.Each.{All}
 use Rattle.seed_rules.specs.declared.CandidateSeed.{CandidateSeed}
 use Rattle.seed_rules.specs.Merge.{keep}
-use Rattle.seed_rules.specs.MergeLaws.{keep_append, keep_length}
+use Rattle.seed_rules.proofs.MergeLaws.{keep_append, keep_length}
 use Rattle.seed_rules.specs.AnyOffsets.{most_seeds}
 use Rattle.book.specs.Book.{Entry, Book, with_round}
 use Rattle.book.specs.Trace.{Handing, handed_in_round, handing_of}

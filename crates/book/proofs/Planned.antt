@@ -1,11 +1,7 @@
 -- The book's lists and entries are those that the rules name, round by round. Assumes nothing.
-use Prim.Native.Nat.{ℕ, zero, suc, ◌+◌, ◌<◌}
-use native.Mathlib.Omega.{arith}
-use mathlib.Core.Path.{◌≡◌, refl, sym, ap, ◌∙◌}
-use mathlib.Core.List.{List, [], ◌∷◌, ◌++◌, map, append-nil, map-append}
-use borrow.Author.Tests.{eq-eqb, ne_eqb}
-use lib.Dec.{eqb}
-use lib.ListN.{length, get_or, length-append, length-map}
+use Rattle.std.proofs.Common.{ℕ, zero, suc, ◌+◌, ◌<◌, arith, ◌≡◌, refl, sym, ap, ◌∙◌, List, [], ◌∷◌, ◌++◌, map, append-nil, eq-eqb, ne_eqb, eqb, length, get_or, length-append}
+use mathlib.Core.List.{map-append}
+use lib.ListN.{length-map}
 use Rattle.common.specs.Tests.{case}
 use Rattle.common.specs.All.{all_append, all_map}
 use Rattle.common.specs.Each.{All}
@@ -14,7 +10,6 @@ use Rattle.seed_rules.specs.Layout.{six}
 use Rattle.score_outcome.specs.declared.Outcome.{Outcome}
 use Rattle.score_best.specs.declared.Candidate.{Candidate}
 use Rattle.score_best.specs.Best.{chosen}
-use Rattle.book.specs.Calls.{seed}
 use Rattle.book.specs.Book.{Inputs, Entry, Book, entries, number, no_seed, round_best_of, run_best_of, or_else, first_list, list_around, opened, with_waiting, with_entry, with_round, with_end}
 use Rattle.book.specs.Trace.{Handing, handing_of}
 use Rattle.book.specs.Named.{outcomes_in, entered_all, following, Plan, plan, handings_of, handings}

@@ -1,21 +1,15 @@
 -- Start refuses just where one of 01's or 02's conditions holds, with the first one's number. Assumes nothing.
-use Prim.Native.Nat.{ℕ, ◌/◌, ◌%◌, ◌<◌}
-use native.Mathlib.Omega.{arith}
-use mathlib.Core.Path.{◌≡◌, refl, sym, ◌∙◌}
-use mathlib.Core.Logic.{◌⊎◌, inl, inr, ⊎_elim}
-use mathlib.Core.Bool.{Bool, true, false, not, ◌&&◌, ◌||◌, true≢false}
-use mathlib.Core.List.{List, [], ◌∷◌}
-use borrow.Author.Tests.{ltb-true, ltb-false, eqb-true, eqb-false, ne_eqb}
-use lib.Dec.{ltb, eqb, eqb-suc-zero}
-use lib.ListN.{length}
-use lib.Ieee.{Float, neg, lt, le, eq}
+use Rattle.std.proofs.Common.{ℕ, ◌/◌, ◌%◌, ◌<◌, arith, ◌≡◌, refl, sym, ◌∙◌, ◌⊎◌, inl, inr, ⊎_elim, Bool, true, false, not, ◌&&◌, ◌||◌, true≢false, List, [], ◌∷◌, ltb-true, ltb-false, eqb-true, ne_eqb, ltb, eqb, length, Float}
+use Rattle.std.specs.Float.Ieee.{neg, lt, le, eq}
+use borrow.Author.Tests.{eqb-false}
+use lib.Dec.{eqb-suc-zero}
 use Rattle.common.specs.Each.{every}
 use Rattle.common.specs.Refusal.{Check, ◌when◌, first_refusal}
 use Rattle.float.specs.Float.{is_finite}
 use Rattle.float.specs.Literals.{plus_zero, half₆₄}
 use Rattle.seed_rules.specs.declared.CandidateSeed.{CandidateSeed}
 use Rattle.seed_rules.specs.Rules.{within, in_bound, untilted_y}
-use Rattle.seed_rules.specs.Bound.{within_order}
+use Rattle.seed_rules.proofs.Bound.{within_order}
 use Rattle.seed_rules.specs.Layout.{all_seeds}
 use Rattle.search_start.specs.Start.{positive, good_seed, only_zero, untilted_seed, too_many, demand_of, start_checks}
 use Rattle.book.specs.Book.{Inputs, demand}

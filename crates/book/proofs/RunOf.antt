@@ -1,13 +1,6 @@
 -- The run's record as a function of the book, and that it is sound. Assumes nothing.
-use Prim.Native.Nat.{◌+◌, ◌*◌, ◌≤◌}
-use native.Mathlib.Omega.{arith}
-use mathlib.Core.Path.{◌≡◌, refl}
-use mathlib.Core.Bool.{Bool, true, false, not}
-use mathlib.Core.List.{List}
+use Rattle.std.proofs.Common.{◌+◌, ◌*◌, ◌≤◌, arith, ◌≡◌, refl, Bool, true, false, not, List, lt-ltb, le-leb, length, length-append, Float}
 use mathlib.Core.Option.{Option, none, some}
-use borrow.Author.Tests.{lt-ltb, le-leb}
-use lib.ListN.{length, length-append}
-use lib.Ieee.{Float}
 use Rattle.common.specs.Tests.{case}
 use Rattle.seed_rules.specs.declared.CandidateSeed.{CandidateSeed}
 use Rattle.score_best.specs.Best.{Chosen, nothing, chosen, no_best, held}

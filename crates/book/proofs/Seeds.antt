@@ -1,21 +1,18 @@
 -- What the seeds of a book are in their round, and that those of the list around a chosen candidate are. Assumes nothing.
-use Prim.Native.Nat.{ℕ, ◌≤◌, ◌<◌}
-use native.Mathlib.Omega.{arith}
-use mathlib.Core.Path.{◌≡◌}
-use mathlib.Core.Bool.{true}
-use mathlib.Core.List.{List, ◌∷◌}
-use lib.ListN.{length}
-use lib.Ieee.{of_bits, eq}
+use Rattle.std.proofs.Common.{ℕ, ◌≤◌, ◌<◌, arith, ◌≡◌, true, List, ◌∷◌, length}
+use Rattle.std.specs.Float.Ieee.{of_bits, eq}
 use Rattle.common.specs.All.{all_right, all_map}
 use Rattle.common.specs.Each.{All}
 use Rattle.float.specs.Literals.{plus_zero}
 use Rattle.camera_tilt.specs.declared.sensor.ScheimpflugParams.{ScheimpflugParams}
 use Rattle.seed_rules.specs.declared.CandidateSeed.{CandidateSeed}
 use Rattle.seed_rules.specs.Rules.{in_bound, untilted_y, offsets, y_offsets}
-use Rattle.seed_rules.specs.AnyOffsets.{AtOffsets, most_seeds, most_nine, round_over, round_few, untilted_around}
+use Rattle.seed_rules.specs.AnyOffsets.{most_seeds}
+use Rattle.seed_rules.proofs.AnyOffsets.{AtOffsets}
+use Rattle.seed_rules.proofs.AnyOffsets.{most_nine, round_over, round_few, untilted_around}
 use Rattle.score_best.specs.declared.Candidate.{Candidate}
 use Rattle.score_best.specs.Best.{chosen, best_of}
-use Rattle.score_best.specs.Order.{found_leads}
+use Rattle.score_best.proofs.Order.{found_leads}
 use Rattle.book.specs.Book.{Inputs, step_of, list_around}
 
 -- within the bound; and in a one-axis run without a tilt about y, which is +0 in later rounds

@@ -1,11 +1,6 @@
 -- 02, E11: whoever was scored after some calls was scored by one of them, and then the mean rests on the share, or stood in the book before. Assumes nothing.
-use Prim.Native.Nat.{ℕ}
-use mathlib.Core.Path.{◌≡◌, refl, ap, ◌∙◌}
-use mathlib.Core.Logic.{◌⊎◌, inl, inr, ⊎_elim}
-use mathlib.Core.Bool.{true}
-use mathlib.Core.List.{List, [], ◌∷◌, Memᴰ}
-use lib.Dec.{ltb, eqb}
-use lib.Ieee.{Float}
+use Rattle.std.proofs.Common.{ℕ, ◌≡◌, refl, ap, ◌∙◌, ◌⊎◌, inl, inr, ⊎_elim, true, List, [], ◌∷◌, ltb, eqb, Float}
+use mathlib.Core.List.{Memᴰ}
 use Rattle.common.specs.Tests.{case}
 use Rattle.score_camera.specs.declared.pinhole.PinholeCamera.{PinholeCamera}
 use Rattle.score_outcome.specs.declared.Finding.{Finding}

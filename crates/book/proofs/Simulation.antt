@@ -1,16 +1,8 @@
 -- Each call replies as the book does and keeps the run a function of the book. Assumes nothing.
-use Prim.Native.Nat.{ℕ, zero, suc, ◌+◌, ◌-◌, ◌*◌, ◌≤◌, ◌<◌}
-use native.Mathlib.Numerals.{add-one}
-use native.Mathlib.Omega.{arith}
-use mathlib.Core.Path.{◌≡◌, refl, sym, ap, ◌∙◌}
-use mathlib.Core.Bool.{true, false, cond}
-use mathlib.Core.List.{List, [], ◌∷◌, ◌++◌, append_assoc, append-nil}
+use Rattle.std.proofs.Common.{ℕ, zero, suc, ◌+◌, ◌-◌, ◌*◌, ◌≤◌, ◌<◌, add-one, arith, ◌≡◌, refl, sym, ap, ◌∙◌, true, false, cond, List, [], ◌∷◌, ◌++◌, append_assoc, append-nil, ltb-true, ltb-false, le-leb, ne_eqb, ltb, eqb, length, take, drop, length-append, take-append-drop, drop-cons, Float}
 use mathlib.Core.Option.{Option, none, some}
-use borrow.Author.Tests.{ltb-true, ltb-false, le-leb, lt-leb, ne_eqb}
-use lib.Dec.{ltb, eqb, eqb-suc-zero}
-use lib.ListN.{length, take, drop, length-append, take-append-drop}
-use lib.Seq.{drop-cons}
-use lib.Ieee.{Float}
+use borrow.Author.Tests.{lt-leb}
+use lib.Dec.{eqb-suc-zero}
 use Rattle.common.specs.Tests.{case}
 use Rattle.common.specs.Each.{All}
 use Rattle.float.specs.Binary64.{◌*₆₄◌}
@@ -24,7 +16,7 @@ use Rattle.score_outcome.specs.Evaluation.{finding_refusal}
 use Rattle.score_best.specs.declared.Candidate.{Candidate}
 use Rattle.score_best.specs.declared.Best.{Best}
 use Rattle.score_best.specs.Best.{Chosen, nothing, chosen, best_of, first_unbeaten, no_best, held, candidate_of}
-use Rattle.score_best.specs.Order.{best_snoc}
+use Rattle.score_best.proofs.Order.{best_snoc}
 use Rattle.search_record.specs.declared.run.Run.{Run}
 use Rattle.journal_line.specs.declared.Counts.{Counts}
 use Rattle.journal_line.specs.Counts.{with_count}

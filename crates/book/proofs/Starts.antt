@@ -1,12 +1,6 @@
 -- What Start replies and writes: where no refusal holds, and where one does. Assumes nothing.
-use Prim.Native.Nat.{ℕ, zero, suc, ◌<◌}
-use native.Mathlib.Omega.{arith}
-use mathlib.Core.Path.{◌≡◌, refl, sym, ap, ◌∙◌}
-use mathlib.Core.List.{List}
-use borrow.Author.Tests.{eqb-true, eqb-false, eq-eqb, ne_eqb}
-use lib.Dec.{eqb}
-use lib.ListN.{length}
-use lib.Ieee.{Float}
+use Rattle.std.proofs.Common.{ℕ, zero, suc, ◌<◌, arith, ◌≡◌, refl, sym, ap, ◌∙◌, List, eqb-true, eq-eqb, ne_eqb, eqb, length, Float}
+use borrow.Author.Tests.{eqb-false}
 use Rattle.common.specs.Tests.{case}
 use Rattle.seed_rules.specs.Layout.{written}
 use Rattle.search_record.specs.declared.run.Run.{Run}

@@ -1,30 +1,24 @@
 -- 02, E9: where the floor of a book's seeds left isn't below its best's score, none of them beats that best, so its round gains nothing, whatever calls follow.
 -- Assumes nothing.
-use Prim.Native.Nat.{ℕ, zero, suc, ◌≤◌, ◌<◌}
-use native.Mathlib.Omega.{arith}
-use mathlib.Core.Path.{◌≡◌, refl, sym, ap, subst, ◌∙◌}
-use mathlib.Core.Logic.{◌⊎◌, inl, inr, ⊎_elim}
-use mathlib.Core.Bool.{false}
-use mathlib.Core.List.{List, [], ◌∷◌, ◌++◌, append_assoc, append-nil, Memᴰ}
-use borrow.Author.Tests.{le-leb, lt-leb}
-use lib.Dec.{leb}
-use lib.ListN.{length, get_or, drop, length-append}
-use lib.Ieee.{lt}
+use Rattle.std.proofs.Common.{ℕ, zero, suc, ◌≤◌, ◌<◌, arith, ◌≡◌, refl, sym, ap, subst, ◌∙◌, ◌⊎◌, inl, inr, ⊎_elim, false, List, [], ◌∷◌, ◌++◌, append_assoc, append-nil, le-leb, leb, length, get_or, drop, length-append}
+use Rattle.std.specs.Float.Ieee.{lt}
+use mathlib.Core.List.{Memᴰ}
+use borrow.Author.Tests.{lt-leb}
 use Rattle.common.specs.Each.{All}
 use Rattle.common.specs.All.{all_append}
 use Rattle.float_laws.specs.NotBelow.{not_below_trans}
 use Rattle.seed_rules.specs.declared.CandidateSeed.{CandidateSeed}
 use Rattle.seed_rules.specs.Merge.{keep}
-use Rattle.seed_rules.specs.MergeLaws.{keep_append}
+use Rattle.seed_rules.proofs.MergeLaws.{keep_append}
 use Rattle.score_outcome.specs.declared.Scoring.{Scoring}
 use Rattle.score_outcome.specs.declared.Outcome.{Outcome}
 use Rattle.score_outcome.specs.declared.Outcome.TheVariants.{Scored}
 use Rattle.score_outcome.specs.Facts.{ScoredFacts}
 use Rattle.score_best.specs.declared.Candidate.{Candidate}
 use Rattle.score_best.specs.Best.{beats, chosen, best_of, candidate_of}
-use Rattle.score_best.specs.Order.{HasNumber, lower_beats, best_leads, lead_on, found_leads}
+use Rattle.score_best.proofs.Order.{HasNumber, lower_beats, best_leads, lead_on, found_leads}
 use Rattle.score_floor.specs.Floor.{floor_of}
-use Rattle.score_floor.specs.FloorLaws.{floor_number, above_floor}
+use Rattle.score_floor.proofs.FloorLaws.{floor_number, above_floor}
 use Rattle.book.specs.Calls.{Call}
 use Rattle.book.specs.Book.{Inputs, Entry, Book, entries, no_seed, current, scored_of, run_best_of, with_waiting, with_entry, with_round, with_end, book_enter, left_in, after}
 use Rattle.book.specs.Rounds.{up_to}

@@ -1,14 +1,7 @@
 -- 02, E9: what the stop call's reply means in a run. Assumes nothing.
-use Prim.Native.Nat.{ℕ, zero, suc, ◌≤◌, ◌<◌}
-use native.Mathlib.Omega.{arith}
-use mathlib.Core.Path.{◌≡◌, refl, sym, ap, ◌∙◌}
-use mathlib.Core.Logic.{◌↔◌}
-use mathlib.Core.Bool.{true, false, cond, true≢false}
-use mathlib.Core.List.{List, [], ◌∷◌, ◌++◌}
+use Rattle.std.proofs.Common.{ℕ, zero, suc, ◌≤◌, ◌<◌, arith, ◌≡◌, refl, sym, ap, ◌∙◌, ◌↔◌, true, false, cond, true≢false, List, [], ◌∷◌, ◌++◌, ltb, length, take, drop, drop_of_length-le, Float}
+use Rattle.std.specs.Float.Ieee.{lt}
 use borrow.Author.Tests.{not-true}
-use lib.Dec.{ltb}
-use lib.ListN.{length, take, drop, drop_of_length-le}
-use lib.Ieee.{Float, lt}
 use Rattle.common.specs.Tests.{case}
 use Rattle.seed_rules.specs.declared.CandidateSeed.{CandidateSeed}
 use Rattle.score_best.specs.declared.Candidate.{Candidate}

@@ -1,11 +1,7 @@
 -- While the list is the run's own, 27 never comes: the waiting seed's tilts lie within the bound, which is at most 0.5. Assumes nothing.
-use Prim.Native.Nat.{ℕ}
-use mathlib.Core.Path.{◌≡◌, refl, sym, ◌∙◌}
-use mathlib.Core.Logic.{◌⊎◌, ⊎_elim}
-use mathlib.Core.Bool.{true, false, ◌||◌, true≢false}
-use mathlib.Core.List.{List, [], ◌∷◌, ◌++◌}
-use native.Mathlib.Omega.{arith}
-use lib.Ieee.{Float, nan, inf, fin, lt, le, eq, is_nan}
+use Rattle.std.proofs.Common.{ℕ, ◌≡◌, refl, sym, ◌∙◌, ◌⊎◌, ⊎_elim, true, false, ◌||◌, true≢false, List, [], ◌∷◌, ◌++◌, arith, Float}
+use Rattle.std.specs.Float.{nan, inf, fin}
+use Rattle.std.specs.Float.Ieee.{lt, le, eq, is_nan}
 use Rattle.common.specs.Tests.{case, both_true}
 use Rattle.common.specs.Refusal.{Check, ◌when◌, first_refusal}
 use Rattle.float.specs.Float.{abs_of}

@@ -1,10 +1,6 @@
 -- The counts of entries: each that can be entered is of one of the five kinds, so together they count them all. Assumes nothing.
-use Prim.Native.Nat.{ℕ, ◌≤◌}
-use native.Mathlib.Omega.{arith}
-use mathlib.Core.Path.{◌≡◌, refl, ap, ◌∙◌}
-use mathlib.Core.List.{List, [], ◌∷◌, ◌++◌, map, map-append}
-use lib.ListN.{length}
-use lib.Ieee.{Float}
+use Rattle.std.proofs.Common.{ℕ, ◌≤◌, arith, ◌≡◌, refl, ap, ◌∙◌, List, [], ◌∷◌, ◌++◌, map, length, Float}
+use mathlib.Core.List.{map-append}
 use Rattle.common.specs.Each.{All}
 use Rattle.camera_models.specs.declared.math.Pt2.{Pt2}
 use Rattle.camera_tilt.specs.declared.sensor.ScheimpflugParams.{ScheimpflugParams}
@@ -14,7 +10,7 @@ use Rattle.score_outcome.specs.declared.Outcome.TheVariants.{Skipped, Scored}
 use Rattle.score_outcome.specs.Evaluation.{outcome_of}
 use Rattle.score_outcome.specs.Facts.{skipped_reason}
 use Rattle.journal_line.specs.Counts.{kind_of, count_in, counts_in, with_count}
-use Rattle.journal_line.specs.CountLaws.{counts_snoc, five_kinds}
+use Rattle.journal_line.proofs.CountLaws.{counts_snoc, five_kinds}
 use Rattle.journal_line.specs.Outcome.{recorded_as}
 use Rattle.journal_line.specs.Report.{total}
 use Rattle.book.specs.Book.{Inputs, Entry, line_of, tally}

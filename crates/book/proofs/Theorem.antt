@@ -1,13 +1,8 @@
 -- The theorem about every list of calls. Assumes nothing.
-use Prim.Native.Nat.{ℕ, suc, ◌≤◌}
-use native.Mathlib.Omega.{arith}
-use mathlib.Core.Path.{◌≡◌, refl, sym, ap, subst, ◌∙◌}
-use mathlib.Core.Logic.{◌⊎◌, ⊎_elim}
-use mathlib.Core.Bool.{true, false}
-use mathlib.Core.List.{List, [], map, ◌++◌, append_assoc, append-nil, map-append}
-use borrow.Author.Tests.{le-ltb}
-use lib.ListN.{length, length-append, length-map}
-use lib.Ieee.{Float, eq}
+use Rattle.std.proofs.Common.{ℕ, suc, ◌≤◌, arith, ◌≡◌, refl, sym, ap, subst, ◌∙◌, ◌⊎◌, ⊎_elim, true, false, List, [], map, ◌++◌, append_assoc, append-nil, le-ltb, length, length-append, Float}
+use Rattle.std.specs.Float.Ieee.{eq}
+use mathlib.Core.List.{map-append}
+use lib.ListN.{length-map}
 use Rattle.common.specs.Tests.{case}
 use Rattle.common.specs.All.{all_append, all_map}
 use Rattle.common.specs.Each.{All}

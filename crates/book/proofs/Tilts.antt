@@ -1,15 +1,12 @@
 -- A run that is over has tried every pair of typed tilts within the bound. Assumes nothing.
-use Prim.Native.Nat.{ℕ, zero, suc}
-use mathlib.Core.Path.{◌≡◌, refl, sym, ap, ◌∙◌}
-use mathlib.Core.Logic.{⊎_elim}
-use mathlib.Core.Bool.{true}
-use mathlib.Core.List.{List, [], ◌∷◌, map, Memᴰ}
-use lib.Ieee.{Float, neg, le}
+use Rattle.std.proofs.Common.{ℕ, zero, suc, ◌≡◌, refl, sym, ap, ◌∙◌, ⊎_elim, true, List, [], ◌∷◌, map, Float}
+use Rattle.std.specs.Float.Ieee.{neg, le}
+use mathlib.Core.List.{Memᴰ}
 use Rattle.float.specs.Float.{is_finite}
 use Rattle.seed_rules.specs.declared.CandidateSeed.{CandidateSeed}
 use Rattle.seed_rules.specs.Rules.{tilts}
 use Rattle.seed_rules.specs.Layout.{six, all_seeds, seed_at}
-use Rattle.seed_rules.specs.Tried.{every_tilt_tried}
+use Rattle.seed_rules.proofs.Tried.{every_tilt_tried}
 use Rattle.score_outcome.specs.declared.Outcome.{Outcome}
 use Rattle.book.specs.Book.{Inputs, Entry, Book, entries, first_list}
 use Rattle.book.specs.Trace.{Handing, handing_of}

@@ -1,21 +1,17 @@
 -- The run's best is the earliest of the lowest scores, with the properties of a scored finding. Assumes nothing.
-use Prim.Native.Nat.{ℕ, suc, ◌≤◌, ◌<◌}
-use native.Mathlib.Omega.{arith}
-use mathlib.Core.Path.{◌≡◌, refl, sym, ◌∙◌}
-use mathlib.Core.Logic.{◌⊎◌, inl, inr}
-use mathlib.Core.Bool.{true, false, true≢false}
+use Rattle.std.proofs.Common.{ℕ, suc, ◌≤◌, ◌<◌, arith, ◌≡◌, refl, sym, ◌∙◌, ◌⊎◌, inl, inr, true, false, true≢false, List, [], ◌∷◌, ◌++◌, Float}
+use Rattle.std.specs.Float.Ieee.{neg, lt, le, eq}
 use mathlib.Core.List.Memᴰ
-use mathlib.Core.List.{List, [], ◌∷◌, ◌++◌, Memᴰ}
-use lib.Ieee.{Float, neg, lt, le, eq}
+use mathlib.Core.List.{Memᴰ}
 use Rattle.common.specs.Tests.{both_true}
 use Rattle.common.specs.All.{all_append, all_left, all_right, all_map}
 use Rattle.common.specs.Each.{All}
 use Rattle.float.specs.Order.{lt_irrefl, lt_not_eq, le_of_not_lt}
 use Rattle.seed_rules.specs.Rules.{within, in_bound, untilted_y}
-use Rattle.seed_rules.specs.Bound.{within_order}
+use Rattle.seed_rules.proofs.Bound.{within_order}
 use Rattle.score_best.specs.declared.Candidate.{Candidate}
 use Rattle.score_best.specs.Best.{beats, chosen, best_of}
-use Rattle.score_best.specs.Order.{HasNumber, lower_beats, beats_number, Leads, found_leads}
+use Rattle.score_best.proofs.Order.{HasNumber, lower_beats, beats_number, Leads, found_leads}
 use Rattle.book.specs.Book.{Inputs, Entry, scored_of}
 use Rattle.book.specs.Theorem.{Wins}
 use Rattle.book.proofs.Cases.{case_outcome}

@@ -10,7 +10,7 @@ use Rattle.camera_tilt.specs.declared.sensor.ScheimpflugParams.{ScheimpflugParam
 use Rattle.seed_rules.specs.Rules.{tilts, seed_grid}
 use Rattle.seed_rules.specs.AnyOffsets.{most_seeds}
 use Rattle.seed_rules.specs.Layout.{six}
-use Rattle.seed_rules.specs.Tried.{Tried}
+use Rattle.seed_rules.proofs.Tried.{Tried}
 use Rattle.score_outcome.specs.declared.Finding.{Finding}
 use Rattle.score_outcome.specs.declared.Finding.TheVariants.{Failed}
 use Rattle.score_outcome.specs.declared.Outcome.{Outcome}

@@ -1,20 +1,13 @@
 -- What replay replies. Whatever journal is accepted: its lines are all read, they are the book's entries, and the winner is of its S lines the earliest with the lowest score, with all
 -- properties of a result. Assumes nothing.
-use Prim.Native.Nat.{ℕ, suc}
-use native.Mathlib.Omega.{arith}
-use mathlib.Core.Path.{◌≡◌, refl, sym, ap, ◌∙◌}
-use mathlib.Core.Logic.{◌⊎◌, inl, inr, ⊎_elim}
-use mathlib.Core.List.{List}
-use borrow.Author.Tests.{eqb-true, ne_eqb}
-use lib.Dec.{eqb}
-use lib.ListN.{length, length-map}
-use lib.Ieee.{Float}
+use Rattle.std.proofs.Common.{ℕ, suc, arith, ◌≡◌, refl, sym, ap, ◌∙◌, ◌⊎◌, inl, inr, ⊎_elim, List, eqb-true, ne_eqb, eqb, length, Float}
+use lib.ListN.{length-map}
 use Rattle.common.specs.Tests.{case}
 use Rattle.score_best.specs.declared.Candidate.{Candidate}
 use Rattle.score_best.specs.Best.{chosen}
 use Rattle.journal_line.specs.Line.{journal_bytes}
 use Rattle.journal_line.specs.Reading.{ended, refused, Lines, read_journal}
-use Rattle.journal_line.specs.Whole.{whole_lines}
+use Rattle.journal_line.proofs.Whole.{whole_lines}
 use Rattle.journal_replay.specs.declared.Stop.{Stop}
 use Rattle.journal_replay.specs.declared.Stop.TheVariants.{AllTaken, NotOfForm, NotTheRun}
 use Rattle.journal_replay.specs.declared.Replayed.TheVariants.{Winner, Unfinished, Refused, RefusedAt}

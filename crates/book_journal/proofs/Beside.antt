@@ -1,13 +1,8 @@
 -- What the walk says of a journal is what the reader says of it: all lines are read, or the reader refuses the next one with the same number, or the next one is
 -- read and can't follow. Assumes nothing.
-use Prim.Native.Nat.{ℕ, suc}
-use native.Mathlib.Omega.{arith}
-use mathlib.Core.Path.{◌≡◌, refl, sym, ap, ◌∙◌}
-use mathlib.Core.Logic.{◌⊎◌, inl, inr, ⊎_elim}
-use mathlib.Core.Bool.{true, false}
-use mathlib.Core.List.{List, [], ◌∷◌, ◌++◌, map, map-append, append_assoc, append-nil}
-use lib.ListN.{length, length-append, length-map}
-use lib.Ieee.{Float}
+use Rattle.std.proofs.Common.{ℕ, suc, arith, ◌≡◌, refl, sym, ap, ◌∙◌, ◌⊎◌, inl, inr, ⊎_elim, true, false, List, [], ◌∷◌, ◌++◌, map, append_assoc, append-nil, length, length-append, Float}
+use mathlib.Core.List.{map-append}
+use lib.ListN.{length-map}
 use Rattle.common.specs.Tests.{case}
 use Rattle.common.specs.All.{all_map}
 use Rattle.common.specs.Each.{All}
@@ -16,9 +11,9 @@ use Rattle.score_outcome.specs.declared.Outcome.{Outcome}
 use Rattle.journal_line.specs.declared.Line.{Line}
 use Rattle.journal_line.specs.Line.{LineFits, Writable}
 use Rattle.journal_line.specs.Reading.{Ending, ended, refused, unread, Lines, read_journal}
-use Rattle.journal_line.specs.Numbers.{whole_numbered}
-use Rattle.journal_line.specs.Whole.{whole_stops}
-use Rattle.journal_line.specs.Fronts.{whole_front}
+use Rattle.journal_line.proofs.Numbers.{whole_numbered}
+use Rattle.journal_line.proofs.Whole.{whole_stops}
+use Rattle.journal_line.proofs.Fronts.{whole_front}
 use Rattle.journal_line.specs.Outcome.{outcome_in}
 use Rattle.journal_replay.specs.declared.Stop.{Stop}
 use Rattle.journal_replay.specs.declared.Stop.TheVariants.{AllTaken, NotOfForm, NotTheRun}

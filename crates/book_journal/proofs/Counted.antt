@@ -1,19 +1,14 @@
 -- The five counts are those of the replies and of the journal's lines; they add up to the answers, the seeds handed out are that sum and the waiting one, and a
 -- refused call counts nowhere. Assumes nothing.
-use Prim.Native.Nat.{ℕ, ◌+◌, ◌≤◌}
-use native.Mathlib.Omega.{arith}
-use mathlib.Core.Path.{◌≡◌, refl, sym, ap, ◌∙◌}
-use mathlib.Core.Bool.{true, false, cond}
-use mathlib.Core.List.{List, [], ◌∷◌, ◌++◌, map, map-append}
-use lib.Dec.{ltb, eqb}
-use lib.ListN.{length-append}
+use Rattle.std.proofs.Common.{ℕ, ◌+◌, ◌≤◌, arith, ◌≡◌, refl, sym, ap, ◌∙◌, true, false, cond, List, [], ◌∷◌, ◌++◌, map, ltb, eqb, length-append}
+use mathlib.Core.List.{map-append}
 use Rattle.common.specs.Tests.{case}
 use Rattle.common.specs.Each.{All}
 use Rattle.score_outcome.specs.declared.Outcome.{Outcome}
 use Rattle.score_outcome.specs.declared.Outcome.TheVariants.{Skipped, Scored}
 use Rattle.score_outcome.specs.Evaluation.{finding_refusal, outcome_of}
 use Rattle.journal_line.specs.Counts.{kind_of, one, count_in, counts_in}
-use Rattle.journal_line.specs.CountLaws.{count_snoc}
+use Rattle.journal_line.proofs.CountLaws.{count_snoc}
 use Rattle.journal_line.specs.Reading.{Lines}
 use Rattle.journal_line.specs.Outcome.{recorded_as}
 use Rattle.journal_line.specs.Report.{total}

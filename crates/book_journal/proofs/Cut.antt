@@ -1,15 +1,9 @@
 -- What Resume reports of any bytes; a run's journal, cut after any byte, loses only the line that the cut fell in, and the run goes on from the kept lines as if
 -- it had not stopped. Assumes nothing.
-use Prim.Native.Nat.{ℕ, zero, suc, ◌+◌, ◌≤◌}
-use native.Mathlib.Omega.{arith}
-use mathlib.Core.Path.{◌≡◌, refl, sym, ap, ◌∙◌}
-use mathlib.Core.Bool.{Bool, true, false, cond, true≢false}
-use mathlib.Core.List.{List, [], ◌∷◌, ◌++◌, map, append_assoc, append-nil}
-use borrow.Author.Tests.{eqb-true, eqb-false, eq-eqb, ne_eqb}
-use lib.Dec.{eqb}
-use lib.ListN.{length, take, drop, length-append, length-take, length-map}
+use Rattle.std.proofs.Common.{ℕ, zero, suc, ◌+◌, ◌≤◌, arith, ◌≡◌, refl, sym, ap, ◌∙◌, Bool, true, false, cond, true≢false, List, [], ◌∷◌, ◌++◌, map, append_assoc, append-nil, eqb-true, eq-eqb, ne_eqb, eqb, length, take, drop, length-append, length-take, Float}
+use borrow.Author.Tests.{eqb-false}
+use lib.ListN.{length-map}
 use lib.Seq.{take-append_seam, drop-append_seam}
-use lib.Ieee.{Float}
 use Rattle.common.specs.Tests.{case}
 use Rattle.common.specs.All.{all_right}
 use Rattle.common.specs.Each.{All}
@@ -17,9 +11,9 @@ use Rattle.seed_rules.specs.Layout.{written}
 use Rattle.journal_line.specs.declared.Line.{Line}
 use Rattle.journal_line.specs.Line.{line_bytes, LineFits, Writable, journal_bytes}
 use Rattle.journal_line.specs.Reading.{newlines, Lines, read_journal}
-use Rattle.journal_line.specs.Numbers.{newlines_append}
-use Rattle.journal_line.specs.Whole.{whole_lines}
-use Rattle.journal_line.specs.Fronts.{NoLine, whole_front, whole_rest, front_read, front_ended, cut_no_line, Cut, cut_journal_lem, journal_append}
+use Rattle.journal_line.proofs.Numbers.{newlines_append}
+use Rattle.journal_line.proofs.Whole.{whole_lines}
+use Rattle.journal_line.proofs.Fronts.{NoLine, whole_front, whole_rest, front_read, front_ended, cut_no_line, Cut, cut_journal_lem, journal_append}
 use Rattle.journal_replay.specs.declared.Stop.{Stop}
 use Rattle.journal_replay.specs.declared.Stop.TheVariants.{AllTaken, NotOfForm, NotTheRun}
 use Rattle.journal_replay.specs.declared.EndedBy.TheVariants as by

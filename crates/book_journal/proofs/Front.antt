@@ -1,21 +1,15 @@
 -- What the walk keeps of a journal is walked alone, to the same book and buffer, and is the longest such front. Assumes nothing.
-use Prim.Native.Nat.{ℕ, zero, suc, ◌+◌, ◌≤◌}
-use native.Mathlib.Omega.{arith}
-use mathlib.Core.Path.{◌≡◌, sym, ap, ◌∙◌}
-use mathlib.Core.Bool.{true, false}
-use mathlib.Core.List.{List, [], ◌∷◌, ◌++◌, append_assoc}
-use lib.ListN.{length, take, drop, length-append, length-take, take-append-drop}
+use Rattle.std.proofs.Common.{ℕ, zero, suc, ◌+◌, ◌≤◌, arith, ◌≡◌, sym, ap, ◌∙◌, true, false, List, [], ◌∷◌, ◌++◌, append_assoc, length, take, drop, length-append, length-take, take-append-drop, Float}
 use lib.Seq.{take-append_seam}
-use lib.Ieee.{Float}
 use Rattle.common.specs.Tests.{case}
 use Rattle.common.specs.Each.{All}
 use Rattle.seed_rules.specs.Layout.{written}
 use Rattle.journal_line.specs.declared.Line.{Line}
 use Rattle.journal_line.specs.Line.{line_bytes, journal_bytes}
 use Rattle.journal_line.specs.Reading.{line_number_of, ended, read_journal}
-use Rattle.journal_line.specs.Whole.{whole_reading, whole_lines}
-use Rattle.journal_line.specs.Fronts.{whole_front, front_read_first, journal_append}
-use Rattle.journal_line.specs.Numbers.{line_numbers}
+use Rattle.journal_line.proofs.Whole.{whole_reading, whole_lines}
+use Rattle.journal_line.proofs.Fronts.{whole_front, front_read_first, journal_append}
+use Rattle.journal_line.proofs.Numbers.{line_numbers}
 use Rattle.journal_line.specs.Outcome.{outcome_in}
 use Rattle.journal_replay.specs.declared.Stop.{Stop}
 use Rattle.journal_replay.specs.declared.Stop.TheVariants.{AllTaken}

@@ -1,18 +1,13 @@
 -- A run whose journal was cut goes on from the kept lines as if it had not stopped, and its lines come behind them. Assumes nothing.
-use Prim.Native.Nat.{ℕ, suc, ◌≤◌}
-use native.Mathlib.Omega.{arith}
-use mathlib.Core.Path.{◌≡◌, refl, sym, ap, ◌∙◌}
-use mathlib.Core.Bool.{Bool, true, false}
-use mathlib.Core.List.{List, [], ◌∷◌, ◌++◌, map, map-append}
-use borrow.Author.Tests.{le-ltb, eqb-true, eqb-false}
-use lib.Dec.{eqb}
-use lib.ListN.{length, take, drop, length-append, length-take, length-map, take-append-drop}
-use lib.Seq.{take_at, drop_at}
+use Rattle.std.proofs.Common.{ℕ, suc, ◌≤◌, arith, ◌≡◌, refl, sym, ap, ◌∙◌, Bool, true, false, List, [], ◌∷◌, ◌++◌, map, le-ltb, eqb-true, eqb, length, take, drop, length-append, length-take, take-append-drop, take_at, drop_at}
+use mathlib.Core.List.{map-append}
+use borrow.Author.Tests.{eqb-false}
+use lib.ListN.{length-map}
 use Rattle.common.specs.Tests.{case}
 use Rattle.common.specs.Each.{All}
 use Rattle.journal_line.specs.declared.Line.{Line}
 use Rattle.journal_line.specs.Line.{journal_bytes}
-use Rattle.journal_line.specs.Fronts.{journal_append}
+use Rattle.journal_line.proofs.Fronts.{journal_append}
 use Rattle.book.specs.Calls.{Call, next}
 use Rattle.book.specs.Book.{Inputs, demand, Entry, Book, entries, number, opened, with_waiting, book_enter, Kept as Answer, book_next, book_call, replies, after, line_of}
 use Rattle.book.proofs.Moves.{entered_by, Moves, stays, hands, enters, moves, grows, after_by}

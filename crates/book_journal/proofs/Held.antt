@@ -1,15 +1,9 @@
 -- The numbers in a run's book fit binary64, its seeds' and its outcomes', where Start's inputs and the host's findings do. Assumes nothing.
-use Prim.Native.Nat.{ℕ, zero, suc, ◌-◌, ◌/◌}
-use native.Mathlib.Omega.{arith}
-use mathlib.Core.Path.{◌≡◌, refl, ap, subst}
-use mathlib.Core.Logic.{⊎_elim}
-use mathlib.Core.Bool.{false, not, ◌&&◌, cond}
+use Rattle.std.proofs.Common.{ℕ, zero, suc, ◌-◌, ◌/◌, arith, ◌≡◌, refl, ap, subst, ⊎_elim, false, not, ◌&&◌, cond, List, [], ◌∷◌, ◌++◌, append-nil, ltb, eqb, pos, length, get_or, drop, Float}
+use Rattle.std.specs.Float.{nan, binary64}
+use Rattle.std.specs.Float.Ieee.{of_bits, lt, neg, of_int}
 use mathlib.Core.List.Memᴰ
-use mathlib.Core.List.{List, [], ◌∷◌, ◌++◌, append-nil, Memᴰ}
-use lib.Dec.{ltb, eqb}
-use lib.IntN.{pos}
-use lib.ListN.{length, get_or, drop}
-use lib.Ieee.{Float, nan, binary64, of_bits, lt, neg, of_int}
+use mathlib.Core.List.{Memᴰ}
 use lib.Ieee.Bits.{of_bits-fits}
 use lib.Ieee.Fits.{add-fits, div-fits, neg-fits, nan-fits, cond-fits}
 use Rattle.common.specs.Tests.{case}
@@ -24,7 +18,7 @@ use Rattle.camera_tilt.specs.declared.sensor.ScheimpflugParams.{ScheimpflugParam
 use Rattle.seed_rules.specs.declared.CandidateSeed.{CandidateSeed}
 use Rattle.seed_rules.specs.Rules.{tilts, seed_with}
 use Rattle.seed_rules.specs.Layout.{read_from, six, seed_at, all_seeds}
-use Rattle.seed_rules.specs.Facts.{initial_all, next_all}
+use Rattle.seed_rules.proofs.Facts.{initial_all, next_all}
 use Rattle.score_camera.specs.declared.pinhole.PinholeCamera.{PinholeCamera}
 use Rattle.score_camera.specs.Camera.{tangential_bound, damped, damped_camera}
 use Rattle.score_rows.specs.declared.ErrorSum.{ErrorSum}
@@ -39,7 +33,7 @@ use Rattle.score_outcome.specs.Evaluation.{solved_at, mean_with, scoring_of, eva
 use Rattle.score_outcome.specs.Outcomes.{scored_passed}
 use Rattle.score_best.specs.declared.Candidate.{Candidate}
 use Rattle.score_best.specs.Best.{Chosen, nothing, chosen, best_of}
-use Rattle.score_best.specs.Order.{found_leads}
+use Rattle.score_best.proofs.Order.{found_leads}
 use Rattle.journal_line.specs.declared.Line.{Line}
 use Rattle.journal_line.specs.Line.{Fits, recorded_numbers, LineFits}
 use Rattle.journal_line.specs.Outcome.{recorded_as, outcome_in}

@@ -1,16 +1,8 @@
 -- The buffer that a live run leaves is the plain one, call by call; and a run that goes with a walked journal's book answers every list of calls as that book.
 -- Assumes nothing.
-use Prim.Native.Nat.{ℕ, zero, suc, ◌-◌, ◌*◌, ◌≤◌}
-use native.Mathlib.Omega.{arith}
-use mathlib.Core.Path.{◌≡◌, refl, sym, ap, ◌∙◌}
-use mathlib.Core.Logic.{◌⊎◌, inl, inr, ⊎_elim}
-use mathlib.Core.Bool.{true, false, cond}
-use mathlib.Core.List.{List, [], ◌∷◌, ◌++◌, append_assoc}
-use borrow.Author.Tests.{ltb-false, ne_eqb, eqb-false}
-use lib.Dec.{ltb, eqb}
-use lib.ListN.{length, take, drop, length-take, take-append-drop}
+use Rattle.std.proofs.Common.{ℕ, zero, suc, ◌-◌, ◌*◌, ◌≤◌, arith, ◌≡◌, refl, sym, ap, ◌∙◌, ◌⊎◌, inl, inr, ⊎_elim, true, false, cond, List, [], ◌∷◌, ◌++◌, append_assoc, ltb-false, ne_eqb, ltb, eqb, length, take, drop, length-take, take-append-drop, Float}
+use borrow.Author.Tests.{eqb-false}
 use lib.Seq.{drop-append-le}
-use lib.Ieee.{Float}
 use Rattle.common.specs.Tests.{case}
 use Rattle.common.specs.Each.{All}
 use Rattle.seed_rules.specs.declared.CandidateSeed.{CandidateSeed}

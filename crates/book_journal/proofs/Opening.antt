@@ -1,11 +1,6 @@
 -- Start's own refusals by number, and what an accepted Start's book has. Assumes nothing.
-use Prim.Native.Nat.{ℕ, suc, ◌≤◌}
-use native.Mathlib.Omega.{arith}
-use mathlib.Core.Path.{◌≡◌}
-use mathlib.Core.List.{List}
-use borrow.Author.Tests.{ltb-true, ltb-false}
-use lib.Dec.{ltb}
-use lib.ListN.{length, replicate, length-replicate}
+use Rattle.std.proofs.Common.{ℕ, suc, ◌≤◌, arith, ◌≡◌, List, ltb-true, ltb-false, ltb, length, replicate}
+use lib.ListN.{length-replicate}
 use Rattle.common.specs.Tests.{case}
 use Rattle.common.specs.Refusal.{Check}
 use Rattle.float.specs.Literals.{plus_zero}

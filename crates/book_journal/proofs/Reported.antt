@@ -1,15 +1,8 @@
 -- The counts that the run's record keeps after any calls, and the report of them, are those of the lines in its journal, whether Start or Resume opened the run.
 -- Assumes nothing.
-use Prim.Native.Nat.{ℕ, ◌≤◌}
-use native.Mathlib.Omega.{arith}
-use mathlib.Core.Path.{◌≡◌, refl, sym, ap, ◌∙◌}
-use mathlib.Core.Bool.{false}
-use mathlib.Core.List.{List, [], ◌++◌}
-use borrow.Author.Tests.{le-ltb}
-use lib.Dec.{ltb}
-use lib.ListN.{length, take, drop, length-replicate}
+use Rattle.std.proofs.Common.{ℕ, ◌≤◌, arith, ◌≡◌, refl, sym, ap, ◌∙◌, false, List, [], ◌++◌, le-ltb, ltb, length, take, drop, Float}
+use lib.ListN.{length-replicate}
 use lib.Seq.{take-append_seam}
-use lib.Ieee.{Float}
 use Rattle.common.specs.Each.{All}
 use Rattle.journal_line.specs.declared.Counts.{Counts}
 use Rattle.journal_line.specs.declared.Written.TheVariants as written

@@ -1,11 +1,9 @@
 -- An outcome that may be entered can stand as a recorded line, and its line gives it back; a line that is read and follows a book is that of the entry which it
 -- makes. Assumes nothing.
-use mathlib.Core.Path.{◌≡◌, refl, sym, ap, ◌∙◌}
-use mathlib.Core.Bool.{Bool, true, false, not, ◌&&◌, true≢false}
-use mathlib.Core.List.{List, [], ◌∷◌}
-use borrow.Author.Tests.{eqb-true, eq-eqb, leb-true, not-true}
-use lib.Dec.{eqb, leb}
-use lib.Ieee.{Float, binary64, of_bits, lt, is_nan}
+use Rattle.std.proofs.Common.{◌≡◌, refl, sym, ap, ◌∙◌, Bool, true, false, not, ◌&&◌, true≢false, List, [], ◌∷◌, eqb-true, eq-eqb, leb-true, eqb, leb, Float}
+use Rattle.std.specs.Float.{binary64}
+use Rattle.std.specs.Float.Ieee.{of_bits, lt, is_nan}
+use borrow.Author.Tests.{not-true}
 use lib.Ieee.Fits.{add-fits}
 use Rattle.common.specs.Tests.{both_true}
 use Rattle.float.specs.Binary64.{◌+₆₄◌}

@@ -1,13 +1,13 @@
 -- The winner of the stretches' winners is the run's, however its answers or its journal's lines are cut and grouped. Assumes nothing.
-use mathlib.Core.Path.{◌≡◌, refl, sym, ap, ◌∙◌}
-use mathlib.Core.List.{List, [], ◌∷◌, ◌++◌, map, flat_map}
+use Rattle.std.proofs.Common.{◌≡◌, refl, sym, ap, ◌∙◌, List, [], ◌∷◌, ◌++◌, map}
+use mathlib.Core.List.{flat_map}
 use Rattle.common.specs.Each.{All}
 use Rattle.score_outcome.specs.declared.Scoring.{Scoring}
 use Rattle.score_outcome.specs.Outcomes.{scored_same}
 use Rattle.score_best.specs.declared.Candidate.{Candidate}
 use Rattle.score_best.specs.Best.{Chosen, best_of, candidate_of}
 use Rattle.score_best.specs.Winners.{winner_of, joined}
-use Rattle.score_best.specs.WinnerLaws as law
+use Rattle.score_best.proofs.WinnerLaws as law
 use Rattle.journal_line.specs.declared.Recorded.{Recorded}
 use Rattle.journal_line.specs.declared.Recorded.TheVariants as line
 use Rattle.journal_line.specs.declared.Line.{Line}

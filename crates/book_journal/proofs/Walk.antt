@@ -1,16 +1,12 @@
 -- The walk of a journal's lines, one at a time: where it goes on, what it keeps, and that the seed buffer decides nothing. Assumes nothing.
-use Prim.Native.Nat.{ℕ, suc}
-use mathlib.Core.Path.{◌≡◌, refl}
-use mathlib.Core.Bool.{true, false}
-use mathlib.Core.List.{List, [], ◌∷◌}
-use lib.Ieee.{Float}
+use Rattle.std.proofs.Common.{ℕ, suc, ◌≡◌, refl, true, false, List, [], ◌∷◌, Float}
 use Rattle.common.specs.Tests.{case}
 use Rattle.common.specs.Each.{All}
 use Rattle.seed_rules.specs.Layout.{written}
 use Rattle.journal_line.specs.declared.Line.{Line}
 use Rattle.journal_line.specs.Line.{LineFits, Writable}
 use Rattle.journal_line.specs.Reading.{read_journal}
-use Rattle.journal_line.specs.Fronts.{whole_front}
+use Rattle.journal_line.proofs.Fronts.{whole_front}
 use Rattle.journal_line.specs.Outcome.{outcome_in}
 use Rattle.journal_replay.specs.declared.Stop.{Stop}
 use Rattle.journal_replay.specs.declared.Stop.TheVariants.{NotTheRun}

@@ -1,21 +1,14 @@
 -- The lines written along a walk are the journal of the book. Assumes nothing.
-use Prim.Native.Nat.{ℕ}
-use native.Mathlib.Omega.{arith}
-use mathlib.Core.Path.{◌≡◌, sym, ap, subst, ◌∙◌}
-use mathlib.Core.Bool.{true, false}
-use mathlib.Core.List.{List, [], ◌∷◌, ◌++◌, append_assoc, append-nil}
+use Rattle.std.proofs.Common.{ℕ, arith, ◌≡◌, sym, ap, subst, ◌∙◌, true, false, List, [], ◌∷◌, ◌++◌, append_assoc, append-nil, le-ltb, ltb, length, take, drop, Float}
 use mathlib.Core.Option.{some}
-use borrow.Author.Tests.{le-ltb}
-use lib.Dec.{ltb}
-use lib.ListN.{length, take, drop, length-replicate}
+use lib.ListN.{length-replicate}
 use lib.Seq.{take-append_seam}
-use lib.Ieee.{Float}
 use Rattle.score_outcome.specs.declared.Outcome.{Outcome}
 use Rattle.journal_line.specs.declared.Line.{Line}
 use Rattle.journal_line.specs.declared.Written.TheVariants as written
 use Rattle.journal_line.specs.Line.{line_bytes, Writable, journal_bytes}
 use Rattle.journal_line.specs.Writing.{refuses_line, write_reply, write_into}
-use Rattle.journal_line.specs.Fronts.{journal_append}
+use Rattle.journal_line.proofs.Fronts.{journal_append}
 use Rattle.search_record.specs.declared.run.Run.{Run}
 use Rattle.search_calls.specs.Last.{last_def}
 use Rattle.book.specs.Calls.{Call}

@@ -1,13 +1,8 @@
 -- Replay and Resume of any inputs, list and bytes are the plain book's. Assumes nothing.
-use Prim.Native.Nat.{ℕ, zero, suc, ◌+◌}
-use native.Mathlib.Omega.{arith}
-use mathlib.Core.Path.{◌≡◌, refl, ap, ◌∙◌}
-use mathlib.Core.List.{List}
-use lib.ListN.{length, take}
-use lib.Ieee.{Float}
+use Rattle.std.proofs.Common.{ℕ, zero, suc, ◌+◌, arith, ◌≡◌, refl, ap, ◌∙◌, List, length, take, Float}
 use Rattle.journal_line.specs.Line.{journal_bytes}
 use Rattle.journal_line.specs.Reading.{read_journal}
-use Rattle.journal_line.specs.Fronts.{whole_front}
+use Rattle.journal_line.proofs.Fronts.{whole_front}
 use Rattle.search_start.specs.declared.Started.TheVariants as started
 use Rattle.journal_replay.specs.Walk.{stop_at, walk_of}
 use Rattle.journal_replay.specs.Replay.{reply_to}

@@ -1,13 +1,7 @@
 -- A run that Start or Resume opened, any calls after it, and its file: Replay says of the file how the run stands, and Resume gives the run back from it, whole or
 -- cut. Assumes nothing.
-use Prim.Native.Nat.{ℕ, suc, ◌≤◌}
-use native.Mathlib.Omega.{arith}
-use mathlib.Core.Path.{◌≡◌, refl, sym, ap, ◌∙◌}
-use mathlib.Core.Bool.{true, false}
-use mathlib.Core.List.{List, [], ◌++◌, append_assoc, append-nil}
-use lib.ListN.{length, take, drop, length-map, take-append-drop}
-use lib.Seq.{take_at, drop_at}
-use lib.Ieee.{Float}
+use Rattle.std.proofs.Common.{ℕ, suc, ◌≤◌, arith, ◌≡◌, refl, sym, ap, ◌∙◌, true, false, List, [], ◌++◌, append_assoc, append-nil, length, take, drop, take-append-drop, take_at, drop_at, Float}
+use lib.ListN.{length-map}
 use Rattle.common.specs.Tests.{case}
 use Rattle.common.specs.Each.{All}
 use Rattle.seed_rules.specs.Layout.{written}

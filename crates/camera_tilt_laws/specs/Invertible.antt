@@ -15,8 +15,8 @@ use Rattle.float_laws.specs.Rounded.{value, Within, within, exact}
 use Rattle.float_laws.specs.Known.{Known}
 use Rattle.float_series.specs.Series.{sines, cosines, series_of}
 use Rattle.float_series.specs.Answer.{beyond_half}
-use Rattle.float_series.specs.Ranges.{Turned, SineCosine, ranged, flat}
-use Rattle.float_series.specs.Theorem.{sine_cosine}
+use Rattle.float_series.proofs.Ranges.{Turned, SineCosine, ranged, flat}
+use Rattle.float_series.proofs.Theorem.{sine_cosine}
 use Rattle.camera_tilt_laws.specs.Matrices.{Diagonal, rotation, projected, determinant}
 
 -- ---- numbers of at least k / l

@@ -1,8 +1,5 @@
 -- What one trial and one turn find, and what they leave to the others. Assumes nothing.
-use mathlib.Core.Path.{◌≡◌, refl, sym}
-use mathlib.Core.Bool.{true, false}
-use Prim.Native.Nat.{ℕ, zero, suc, ◌-◌, ◌<◌}
-use native.Mathlib.Omega.{arith}
+use Rattle.std.proofs.Common.{◌≡◌, refl, sym, true, false, ℕ, zero, suc, ◌-◌, ◌<◌, arith}
 use Rattle.camera_undistort.specs.Undistortion.{estimate_at, minus_point, halved, improves, trials, newton_turn, newton}
 use Rattle.camera_models.specs.declared.math.Pt2.{Pt2}
 use Rattle.camera_models.specs.declared.distortion.BrownConrady5.{BrownConrady5}

@@ -1,2 +1,1 @@
 pub mod Undistortion
-pub mod Descent

@@ -1,11 +1,7 @@
 -- What a copy to the front leaves, where there is room for it and where there isn't. Assumes nothing.
-use Prim.Native.Nat.{◌<◌, ◌≤◌}
-use mathlib.Core.Path.{◌≡◌}
-use mathlib.Core.List.{List}
-use borrow.Author.Tests.{le-leb, lt-leb}
-use lib.ListN.{length}
+use Rattle.std.proofs.Common.{◌<◌, ◌≤◌, ◌≡◌, List, le-leb, length, Float}
+use borrow.Author.Tests.{lt-leb}
 use lib.Seq.{sets}
-use lib.Ieee.{Float}
 use Rattle.point_normalise.specs.Walk.{sets_front}
 use Rattle.capi_records.specs.Run.{copied, copy_count}
 

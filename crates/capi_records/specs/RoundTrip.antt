@@ -8,7 +8,7 @@ use Rattle.journal_line.specs.declared.Line.{Line}
 use Rattle.journal_line.specs.declared.Recorded.{Recorded}
 use Rattle.journal_line.specs.declared.Recorded.TheVariants.{Scored, Skipped}
 use Rattle.journal_line.specs.Line.{recordable, Writable}
-use Rattle.journal_line.specs.Unique.{can_write}
+use Rattle.journal_line.proofs.Unique.{can_write}
 use Rattle.capi_records.specs.Record.{flag_of, is_set, run_from, flat_run}
 use Rattle.capi_records.specs.Journal.{line_from, flat_fields, flat_line}
 

@@ -1,13 +1,8 @@
 -- The theorem at the run through three rounds, whose condition holds there: what it says of what was handed out and of the winner; and at a run that is over with 11: a
 -- negative tilt was tried; and at a one-axis run. Assumes nothing.
-use Prim.Native.Nat.{◌≤◌}
-use mathlib.Core.Path.{◌≡◌, refl}
-use mathlib.Core.Logic.{inr}
-use mathlib.Core.Bool.{true}
+use Rattle.std.proofs.Common.{◌≤◌, ◌≡◌, refl, inr, true, List, length, Float}
+use Rattle.std.specs.Float.Ieee.{of_bits, add, sub, neg, lt, le, eq}
 use mathlib.Core.List.Memᴰ
-use mathlib.Core.List.{List}
-use lib.ListN.{length}
-use lib.Ieee.{Float, of_bits, add, sub, neg, lt, le, eq}
 use Rattle.common.specs.Each.{All, every}
 use Rattle.float.specs.Float.{abs_of, is_finite}
 use Rattle.float.specs.Literals.{plus_zero}

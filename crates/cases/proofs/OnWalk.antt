@@ -1,7 +1,6 @@
 -- The worked runs on the walk, from Start on, computed. Assumes nothing.
-use mathlib.Core.Path.{◌≡◌, refl}
-use mathlib.Core.List.{[], ◌∷◌}
-use lib.Ieee.{add, sub, mul, div, neg, lt, le, eq, is_nan, of_bits, of_int, sum, round, units, odd, size, span, climb}
+use Rattle.std.proofs.Common.{◌≡◌, refl, [], ◌∷◌}
+use Rattle.std.specs.Float.Ieee.{add, sub, mul, div, neg, lt, le, eq, is_nan, of_bits, of_int, sum, round, units, odd, size, span, climb}
 use Rattle.common.specs.Each.{every}
 use Rattle.float.specs.Float.{abs_of, is_finite, min_of, max_of, clamp_of}
 use Rattle.root.specs.Root.{root_in, isqrt, root_of, root}

@@ -2,5 +2,3 @@ pub mod Series
 pub mod Answer
 pub mod Exact
 pub mod Bound
-pub mod Ranges
-pub mod Theorem

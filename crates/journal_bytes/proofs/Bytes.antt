@@ -1,18 +1,10 @@
 -- What the parser's loops read. Assumes nothing.
-use Prim.Native.Nat.{ℕ, suc, ◌+◌, ◌*◌, ◌^◌, ◌-◌, ◌<◌, ◌≤◌}
-use mathlib.Core.Path.{◌≡◌, refl, sym, ap, ◌∙◌}
-use mathlib.Core.Bool.{Bool, true, false, cond, ◌&&◌, and-true, and-false, and_assoc}
-use mathlib.Core.List.{List, [], ◌∷◌, ◌++◌, append-nil}
-use native.Mathlib.Numerals.{add-one}
-use native.Mathlib.Nat.{mul-le-mul_right, pow-le-pow_right}
-use native.Mathlib.Omega.{arith}
-use borrow.Author.Tests.{eq-eqb, ne_eqb}
-use lib.Dec.{eqb}
-use lib.ListN.{length, get_or, take, drop, set, drop_of_length-le}
-use lib.Seq.{drop-cons, drop-drop, get_or-drop, take-suc-set, take_all, append_snoc}
-use lib.Ieee.{Float}
+use Rattle.std.proofs.Common.{ℕ, suc, ◌+◌, ◌*◌, ◌^◌, ◌-◌, ◌<◌, ◌≤◌, ◌≡◌, refl, sym, ap, ◌∙◌, Bool, true, false, cond, ◌&&◌, List, [], ◌∷◌, ◌++◌, append-nil, add-one, mul-le-mul_right, arith, eq-eqb, ne_eqb, eqb, length, get_or, take, drop, set, drop_of_length-le, drop-cons, drop-drop, get_or-drop, take-suc-set, take_all, Float}
+use mathlib.Core.Bool.{and-true, and-false, and_assoc}
+use native.Mathlib.Nat.{pow-le-pow_right}
+use lib.Seq.{append_snoc}
 use Rattle.journal_line.specs.Reading.{digit_of, number_at, real_at, reals, begins, newlines}
-use Rattle.journal_line.specs.DigitLaws.{number_below}
+use Rattle.journal_line.proofs.DigitLaws.{number_below}
 
 -- ---- numbers
 -- what is read so far leaves room for a digit more
@@ -52,13 +44,11 @@ newlines_step : (s : List ℕ) (i : ℕ) → i < length s → newlines (drop i s
 unfolding newlines
 newlines_step s i h = rw (add-one, drop-cons s i 0 h)
 
-pub newline_here : (s : List ℕ) (i n : ℕ) → i < length s → get_or s i 0 ≡ 10 → n + newlines (drop i s) ≡ newlines s → n + 1 + newlines (drop (i + 1) s) ≡ newlines s
-newline_here s i n h e f =
-    let g : newlines (drop i s) ≡ 1 + newlines (drop (i + 1) s) = newlines_step s i h ∙ simp (eq-eqb (get_or s i 0) 10 e) in
-    omega arith
+pub newline_here : (s : List ℕ) (i : ℕ) → i < length s → get_or s i 0 ≡ 10 → newlines (drop i s) ≡ 1 + newlines (drop (i + 1) s)
+newline_here s i h e = newlines_step s i h ∙ simp (eq-eqb (get_or s i 0) 10 e)
 
-pub newline_not : (s : List ℕ) (i n : ℕ) → i < length s → (get_or s i 0 ≡ 10 → ⊥) → n + newlines (drop i s) ≡ newlines s → n + newlines (drop (i + 1) s) ≡ newlines s
-newline_not s i n h e f =
+pub newline_not : (s : List ℕ) (i : ℕ) → i < length s → (get_or s i 0 ≡ 10 → ⊥) → newlines (drop i s) ≡ newlines (drop (i + 1) s)
+newline_not s i h e =
     let g : newlines (drop i s) ≡ 0 + newlines (drop (i + 1) s) = newlines_step s i h ∙ simp (ne_eqb (get_or s i 0) 10 e) in
     omega arith
 

@@ -1,9 +1,7 @@
 -- What a program knows of a line that it holds: each number is a value of the format. Assumes nothing.
-use lib.Dec.{T}
-use lib.Ieee.{Float, binary64, fits}
-use mathlib.Core.Bool.{true}
-use mathlib.Core.Path.{◌≡◌, sym, subst}
-use mathlib.Core.List.{List}
+use Rattle.std.proofs.Common.{T, Float, true, ◌≡◌, sym, subst, List}
+use Rattle.std.specs.Float.{binary64}
+use Rattle.std.specs.Float.Ieee.{fits}
 use mir.Val.{Val}
 use denote.Laws.{Is}
 use denote.Struct.Laws as LL

@@ -1,12 +1,5 @@
 -- What the parser finds, by what the writer made of the line that the bytes would be. Assumes nothing.
-use Prim.Native.Nat.{ℕ, ◌+◌, ◌<◌, ◌≤◌}
-use mathlib.Core.Path.{◌≡◌, sym, ap, ◌∙◌}
-use mathlib.Core.Bool.{Bool, true, false, not}
-use mathlib.Core.List.{List, ◌++◌}
-use native.Mathlib.Omega.{arith}
-use borrow.Author.Tests.{le-ltb, lt-ltb, eq-eqb, ne_eqb}
-use lib.ListN.{length, get_or, take, drop, length-append, length-take, length-drop}
-use lib.Seq.{take_at, drop-drop, get_or-drop}
+use Rattle.std.proofs.Common.{ℕ, ◌+◌, ◌<◌, ◌≤◌, ◌≡◌, sym, ap, ◌∙◌, Bool, true, false, not, List, ◌++◌, arith, le-ltb, lt-ltb, eq-eqb, ne_eqb, length, get_or, take, drop, length-append, length-take, length-drop, take_at, drop-drop, get_or-drop}
 use Rattle.common.specs.Tests.{case}
 use Rattle.seed_rules.specs.declared.CandidateSeed.{CandidateSeed}
 use Rattle.seed_rules.specs.Layout.{seed_at}
@@ -19,7 +12,7 @@ use Rattle.journal_line.specs.declared.Written.TheVariants as W
 use Rattle.journal_line.specs.declared.Read.TheVariants.{Got, End, Refused}
 use Rattle.journal_line.specs.Line.{line_bytes, writable}
 use Rattle.journal_line.specs.Reading.{number_at, decimal_width_at, reals, scored_at, reason_of, outcome_at, from_round, from_seed, unchecked_line, begins, of_form, line_number_of, read_line}
-use Rattle.journal_line.specs.Unique.{begins_is}
+use Rattle.journal_line.proofs.Unique.{begins_is}
 use Rattle.journal_line.specs.Writing.{refuses_line, write_reply, write_into}
 
 -- ---- what the writer's reply tells

@@ -1,13 +1,6 @@
 -- The parts of a line, stored one after the other. Assumes nothing.
-use Prim.Native.Nat.{ℕ, ◌+◌, ◌*◌, ◌≤◌}
-use mathlib.Core.Path.{◌≡◌, refl, sym, ap, ◌∙◌}
-use mathlib.Core.Bool.{Bool, false, not, ◌||◌}
-use mathlib.Core.List.{List, [], ◌∷◌, ◌++◌, map, append_assoc}
-use native.Mathlib.Omega.{arith}
-use borrow.Author.Tests.{ltb-false, not-false}
-use lib.Dec.{ltb}
-use lib.Ieee.{Float}
-use lib.ListN.{length, replicate, length-append}
+use Rattle.std.proofs.Common.{ℕ, ◌+◌, ◌*◌, ◌≤◌, ◌≡◌, refl, sym, ap, ◌∙◌, Bool, false, not, ◌||◌, List, [], ◌∷◌, ◌++◌, map, append_assoc, arith, ltb-false, ltb, Float, length, replicate, length-append}
+use borrow.Author.Tests.{not-false}
 use lib.Seq.{append_snoc}
 use Rattle.common.specs.Tests.{both_false}
 use Rattle.seed_rules.specs.Layout.{six}
@@ -18,9 +11,9 @@ use Rattle.journal_line.specs.declared.Line.{Line}
 use Rattle.journal_line.specs.declared.Written.TheVariants.{Length}
 use Rattle.journal_line.specs.Line.{decimal_width, decimal, real, reason_letter, eight, outcome_fields, rest_of_line, line_bytes, writable, Writable}
 use Rattle.journal_line.specs.Steps.{comma_fields, Stored}
-use Rattle.journal_line.specs.DigitLaws.{decimal_length}
-use Rattle.journal_line.specs.FieldLaws.{real_length, rest_of_commas, rest_length}
-use Rattle.journal_line.specs.Unique.{line_length, line_bounds}
+use Rattle.journal_line.proofs.DigitLaws.{decimal_length}
+use Rattle.journal_line.proofs.FieldLaws.{real_length, rest_of_commas, rest_length}
+use Rattle.journal_line.proofs.Unique.{line_length, line_bounds}
 use Rattle.journal_line.specs.Writing.{refuses_line, write_reply, write_into}
 use Rattle.journal_bytes.proofs.Stores.{stored_then, stored_as, stored_front}
 

@@ -1,20 +1,13 @@
 -- The parts of a report, stored one after the other, and the test before them. Assumes nothing.
-use Prim.Native.Nat.{ℕ, ◌+◌, ◌≤◌}
-use mathlib.Core.Path.{◌≡◌, sym, ap, ◌∙◌}
-use mathlib.Core.Bool.{false, ◌||◌}
-use mathlib.Core.List.{List, [], ◌∷◌, ◌++◌, map}
-use native.Mathlib.Omega.{arith}
-use borrow.Author.Tests.{le-ltb, ltb-false}
-use lib.Dec.{ltb}
-use lib.ListN.{length, length-append}
+use Rattle.std.proofs.Common.{ℕ, ◌+◌, ◌≤◌, ◌≡◌, sym, ap, ◌∙◌, false, ◌||◌, List, [], ◌∷◌, ◌++◌, map, arith, le-ltb, ltb-false, ltb, length, length-append}
 use Rattle.common.specs.Tests.{both_false}
 use Rattle.journal_line.specs.declared.Counts.{Counts}
 use Rattle.journal_line.specs.declared.Written.TheVariants.{Length}
 use Rattle.journal_line.specs.Line.{decimal_width, decimal}
 use Rattle.journal_line.specs.Steps.{comma_fields, Stored}
 use Rattle.journal_line.specs.Report.{total, report_bytes, refuses_report, report_reply, report_into}
-use Rattle.journal_line.specs.DigitLaws.{decimal_length}
-use Rattle.journal_line.specs.ReportLaws.{others, report_front, report_is, report_bounds}
+use Rattle.journal_line.proofs.DigitLaws.{decimal_length}
+use Rattle.journal_line.proofs.ReportLaws.{others, report_front, report_is, report_bounds}
 use Rattle.journal_bytes.proofs.Stores.{stored_then, stored_as, stored_front}
 
 -- ---- the report

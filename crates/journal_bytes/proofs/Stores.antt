@@ -1,18 +1,11 @@
 -- Runs of stores to a buffer, one after the other. Assumes nothing.
-use Prim.Native.Nat.{ℕ, suc, ◌+◌, ◌-◌, ◌*◌, ◌/◌, ◌%◌, ◌<◌, ◌≤◌}
-use mathlib.Core.Path.{◌≡◌, refl, sym, ap, ◌∙◌, subst}
-use mathlib.Core.List.{List, [], ◌∷◌, ◌++◌, map}
-use native.Mathlib.Nat.{add-zero, zero-add}
-use native.Mathlib.Numerals.{add-one}
-use native.Mathlib.Omega.{arith}
-use lib.Ieee.{Float}
-use lib.ListN.{length, set, get_or, drop, replicate, length-append, drop_of_length-le}
-use lib.Seq.{sets, sets-eq, set_comm, drop-cons}
+use Rattle.std.proofs.Common.{ℕ, suc, ◌+◌, ◌-◌, ◌*◌, ◌/◌, ◌%◌, ◌<◌, ◌≤◌, ◌≡◌, refl, sym, ap, ◌∙◌, subst, List, [], ◌∷◌, ◌++◌, map, add-zero, zero-add, add-one, arith, Float, length, set, get_or, drop, replicate, length-append, drop_of_length-le, drop-cons}
+use lib.Seq.{sets, sets-eq, set_comm}
 use Rattle.float.specs.Float.{bits_of}
 use Rattle.journal_line.specs.Line.{digit_byte, digits, decimal_width, decimal, real}
 use Rattle.journal_line.specs.Steps.{comma_fields, Stored}
-use Rattle.journal_line.specs.DigitLaws.{digits_length, decimal_length}
-use Rattle.journal_line.specs.FieldLaws.{real_length}
+use Rattle.journal_line.proofs.DigitLaws.{digits_length, decimal_length}
+use Rattle.journal_line.proofs.FieldLaws.{real_length}
 
 -- ---- one after the other
 -- one run behind another

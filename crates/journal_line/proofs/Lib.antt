@@ -1,1 +1,12 @@
 mod Totals
+pub mod CountLaws
+pub mod DigitLaws
+pub mod Examples
+pub mod FieldLaws
+pub mod Fronts
+pub mod Numbers
+pub mod Refused
+pub mod ReportLaws
+pub mod Summary
+pub mod Unique
+pub mod Whole

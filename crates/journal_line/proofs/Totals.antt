@@ -1,14 +1,10 @@
 -- The test of the five counts, each alone, beside their total. Assumes nothing.
-use Prim.Native.Nat.{◌≤◌}
-use mathlib.Core.Path.{◌≡◌, sym, ◌∙◌}
-use mathlib.Core.Bool.{Bool, true, false, ◌||◌, true≢false}
-use borrow.Author.Tests.{le-ltb, ltb-false}
-use lib.Dec.{ltb}
+use Rattle.std.proofs.Common.{◌≤◌, ◌≡◌, sym, ◌∙◌, Bool, true, false, ◌||◌, true≢false, le-ltb, ltb-false, ltb}
 use Rattle.common.specs.Each.{All}
 use Rattle.common.specs.Tests.{both_false, case}
 use Rattle.journal_line.specs.declared.Counts.{Counts}
 use Rattle.journal_line.specs.Report.{five, total}
-use Rattle.journal_line.specs.ReportLaws.{Small, all_small}
+use Rattle.journal_line.proofs.ReportLaws.{Small, all_small}
 
 abbrev pub some_large : Counts → Bool
 some_large c = ltb 656 c.scored || ltb 656 c.host_failed || ltb 656 c.bad_camera || ltb 656 c.no_mean || ltb 656 c.no_number

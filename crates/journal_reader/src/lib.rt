@@ -1,5 +1,4 @@
-// A reader that keeps a journal's bytes and its place in them. The functions that take the struct are thin, and proved by walks by hand; the work is
-// `journal_bytes::reading::read_line`'s.
+// A reader that keeps a journal's bytes and its place in them. The functions are thin; the work is `journal_bytes::reading::read_line`'s.
 
 #![tactic(auto)]
 

@@ -12,7 +12,7 @@ use Rattle.journal_line.specs.declared.Line.{Line}
 use Rattle.journal_line.specs.declared.Read.TheVariants.{Got, End, Refused}
 use Rattle.journal_line.specs.Line.{line_bytes}
 use Rattle.journal_line.specs.Reading.{read_line, goes_on, read_all}
-use Rattle.journal_line.specs.Unique.{line_bounds, one_line}
+use Rattle.journal_line.proofs.Unique.{line_bounds, one_line}
 use Rattle.journal_line.specs.Outcome.{outcome_in}
 use Rattle.score_outcome.specs.declared.Outcome.{Outcome}
 use Rattle.search_record.specs.Record.{sound, has_place, awaiting}

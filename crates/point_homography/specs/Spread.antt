@@ -1,13 +1,11 @@
 -- Normalising after the line test. Of 3 to 400 points whose mean distance from some point is at most 2^-52 the line test says that they are collinear. So where it
 -- says that they aren't, normalising doesn't fail. Nothing is asked of the numbers: what isn't finite, and what overflows, is included. Assumes nothing.
 use Rattle.std.specs.Prelude.{◌≡◌, refl, Bool, true, false, not, ℕ, ◌/◌, ◌≤◌, pos, length, Float}
-use Rattle.std.proofs.Common.{sym, ap, ◌∙◌, zero-lt-suc, arith, le-ltb, ne_eqb}
+use Rattle.std.proofs.Common.{sym, ap, ◌∙◌, zero-lt-suc, arith, le-ltb}
 use Rattle.std.proofs.Math.Bool.{true≢false}
-use mathlib.Core.List.{List, [], ◌∷◌, ◌++◌}
+use mathlib.Core.List.{List, [], ◌∷◌}
 use Rattle.std.specs.Float.Ieee.{binary64, of_bits, of_int, round, add, sub, mul, div, lt, eq, le, is_nan}
-use Rattle.common.specs.Refusal.{◌when◌, first_refusal}
-use Rattle.common.specs.RefusalLaws.{refuses_no_more}
-use Rattle.common.specs.Tests.{case, both_true}
+use Rattle.common.specs.Tests.{both_true}
 use Rattle.float.specs.Binary64.{◌+₆₄◌, ◌-₆₄◌, ◌*₆₄◌, ◌/₆₄◌}
 use Rattle.float.specs.Float.{abs_of, sign_bit}
 use Rattle.float.specs.Order.{lt_cotrans}
@@ -22,11 +20,9 @@ use Rattle.point_homography.specs.declared.Distinct.{Distinct}
 use Rattle.point_homography.specs.declared.Distinct.TheVariants.{Point, Nothing}
 use Rattle.point_homography.specs.Line.{least_distance, least_cross, far_from, cross_of, off_line, along, collinear_of}
 use Rattle.float_laws.specs.Reaches.{Reaches, not_below, Below, below_back, below_of_le, zero_reached, round_reaches, mul_reaches, div_reaches, add_reaches, sub_reaches, squares_reach}
-use Rattle.root.specs.RootReaches.{root_reaches}
+use Rattle.root.proofs.RootReaches.{root_reaches}
 use Rattle.float_laws.specs.Apart.{apart}
 use Rattle.point_normalise.specs.AllPoints.{AllPoints, find_holds}
-use Rattle.point_homography.specs.Rows.{design_conditions, rows_refusal}
-use Rattle.point_homography.specs.RowsLaws.{Fine, fine}
 
 -- 2^-12, 2^-11 and 400
 abbrev near : Float
@@ -99,7 +95,7 @@ epsilon_below : lt epsilon (abs_of (near /₆₄ most)) ≡ true
 unfolding round div abs_of lt of_bits
 epsilon_below = refl
 
-mean_close : (c : Pt2) (s : List Float) → length s ≤ 800 → le (mean_distance c s) epsilon ≡ true → AllPoints (Close c) s
+pub mean_close : (c : Pt2) (s : List Float) → length s ≤ 800 → le (mean_distance c s) epsilon ≡ true → AllPoints (Close c) s
 unfolding mean_distance sign_bit of_bits
 mean_close c s n h =
     let t = fold_points (add_distance c) plus_zero s in
@@ -132,7 +128,7 @@ module _ (c p0 p1 p2 : Pt2) (h0 : Close c p0) (h1 : Close c p1) (h2 : Close c p2
       let k = (both_true (not (le (distance_of p2 p0) least_distance)) (lt least_cross v) h).1 in
       true≢false (sym (lt_cotrans least_cross v (abs_of area) small_area.0 k (not_below area (cross_of p0 p1 p2) small_cross)) ∙ small_area.1)
 
-close_collinear : (c : Pt2) (s : List Float) → 6 ≤ length s → AllPoints (Close c) s → collinear_of s ≡ true
+pub close_collinear : (c : Pt2) (s : List Float) → 6 ≤ length s → AllPoints (Close c) s → collinear_of s ≡ true
 unfolding collinear_of along
 close_collinear c [] n h = absurd (omega arith)
 close_collinear c (x ∷ []) n h = absurd (omega arith)
@@ -143,27 +139,6 @@ close_collinear c (x ∷ y ∷ s) n h =
     (find_holds (Close c) (far_from p0) Point Nothing (λ (d : Distinct). along p0 d l ≡ true) refl
     (λ p1 h1 t1. ap not (find_holds (Close c) (off_line p0 p1) (λ p. true) false (λ (b : Bool). b ≡ false) refl (λ p2 h2 t2. absurd (not_off c p0 p1 p2 h.0 h1 h2 t2)) l h))
     s h.1)
-
--- ---- so the mean distance of 3 to 400 points that aren't collinear, from any point, is not at most 2^-52
-module _ (s : List Float) (n : 6 ≤ length s) (m : length s ≤ 800) where
-  pub mean_above : (c : Pt2) → collinear_of s ≡ false → le (mean_distance c s) epsilon ≡ false
-  mean_above c h = case (le (mean_distance c s) epsilon) (λ e. absurd (true≢false (sym (close_collinear c s n (mean_close c s m e)) ∙ h))) (λ e. e)
-
-  pub not_degenerate : collinear_of s ≡ false → degenerate s ≡ false
-  unfolding degenerate
-  not_degenerate h = rw (ne_eqb (length s) 0 (λ e. omega arith), mean_above (centroid_of s) h)
-
--- ---- Rows: what its refusals let pass is normalised, the source points and the destination points alike
-pub normalised : (src dst : List Float) (room : ℕ) → rows_refusal src dst room ≡ 0 → (degenerate src ≡ false) × (degenerate dst ≡ false)
-normalised src dst room h =
-    let f : Fine src dst room = fine src dst room h in (
-      not_degenerate src (omega (arith, f.least)) f.source f.source_off,
-      not_degenerate dst (omega (arith, f.least, f.count)) (omega (arith, f.source, f.count)) f.target_off,
-    )
-
--- so the Rust's two checks after its line tests, with whatever number, refuse nothing
-pub checks_refuse_nothing : (n : ℕ) (src dst : List Float) (room : ℕ) → first_refusal (design_conditions src dst room ++ (n when degenerate src) ∷ (n when degenerate dst) ∷ []) ≡ rows_refusal src dst room
-checks_refuse_nothing n src dst room = refuses_no_more (design_conditions src dst room) ((n when degenerate src) ∷ (n when degenerate dst) ∷ []) (λ h. let f = normalised src dst room h in rw (f.0, f.1))
 
 -- ---- where it ends: two points in one place aren't collinear, and three points with a mean distance of at most 2^-9 needn't be
 pub two_points : let s = plus_zero ∷ plus_zero ∷ plus_zero ∷ plus_zero ∷ [] in (collinear_of s ≡ false) × (degenerate s ≡ true)

@@ -1,10 +1,5 @@
 -- What holds of the lengths where a map does not refuse. Assumes nothing.
-use mathlib.Core.Path.{◌≡◌}
-use mathlib.Core.Bool.{cond}
-use Prim.Native.Nat.{ℕ, ◌%◌, ◌≤◌}
-use native.Mathlib.Omega.{arith}
-use borrow.Author.Tests.{ltb-false}
-use lib.Dec.{ltb}
+use Rattle.std.proofs.Common.{◌≡◌, cond, ℕ, ◌%◌, ◌≤◌, arith, ltb-false, ltb}
 use Rattle.common.specs.RefusalLaws.{refuses_none}
 use Rattle.camera_tilt.specs.Matrix.{Matrix}
 use Rattle.camera_tilt.specs.Sensor.{is_singular}

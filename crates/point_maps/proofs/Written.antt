@@ -1,12 +1,8 @@
 -- The destination while the first i numbers are mapped, for every length. Assumes nothing.
-use mathlib.Core.Path.{◌≡◌, refl, ap}
-use mathlib.Core.List.{List, [], ◌∷◌, ◌++◌}
-use Prim.Native.Nat.{ℕ, zero, suc, ◌+◌, ◌%◌, ◌≤◌, ◌<◌}
-use native.Mathlib.Omega.{arith}
-use native.Mathlib.Numerals.{add-one, add-two}
-use lib.ListN.{length, take, drop, get_or, set}
+use Rattle.std.proofs.Common.{◌≡◌, refl, ap, List, [], ◌∷◌, ◌++◌, ℕ, zero, suc, ◌+◌, ◌%◌, ◌≤◌, ◌<◌, arith, add-one, length, take, drop, get_or, set, Float}
+use Rattle.std.specs.Float.{nan}
+use native.Mathlib.Numerals.{add-two}
 use lib.Seq.{take-length}
-use lib.Ieee.{Float, nan}
 use Rattle.camera_models.specs.declared.math.Pt2.{Pt2}
 use Rattle.point_maps.specs.Maps.{map_points, written}
 

@@ -5,7 +5,7 @@ use Rattle.std.specs.Float.Ieee.{of_bits, lt}
 use Rattle.float.specs.Sign.{unsigned_not_below, sign_add, sign_square, sign_div, sign_count}
 use Rattle.float.specs.Float.{sign_bit}
 use Rattle.float.specs.Literals.{plus_zero}
-use Rattle.root.specs.Laws.{sign_root}
+use Rattle.root.proofs.Laws.{sign_root}
 use Rattle.camera_models.specs.declared.math.Pt2.{Pt2}
 use Rattle.point_normalise.specs.Points.{fold_points, count_of, distance_of}
 use Rattle.point_normalise.specs.Linalg.{add_distance, mean_distance}

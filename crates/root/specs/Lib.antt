@@ -1,11 +1,5 @@
 pub mod Root
-pub mod Compare
 pub mod IntegerRoot
 pub mod ByValue
-pub mod Squares
-pub mod NearestWhole
+pub mod Compare
 pub mod Nearer
-pub mod Nearest
-pub mod Laws
-pub mod Summary
-pub mod RootReaches

@@ -1,8 +1,9 @@
 -- `root` by the bits of its argument. Assumes nothing.
-use Rattle.std.proofs.Common.{◌≡◌, ℕ, zero, suc, ◌+◌, ◌-◌, ◌*◌, ◌/◌, ◌%◌, ◌^◌, ◌<◌, ◌≤◌, Bool, true, false, cond, eqb, leb, sym, refl, ap, ◌∙◌, subst, ap₂, le_trans, le_of_eq, lt_of_lt_of_le, lt_irrefl, mul-le-mul_right, mod-eq_of_lt, mul_assoc, mul-pos, lt_of_not-le, mul-one, arith, le→leb, eqb→eq, leb→le, pow_pos, pow_mono, pow-add, shl_lt}
+use Rattle.std.proofs.Common.{◌≡◌, ℕ, zero, suc, ◌+◌, ◌-◌, ◌*◌, ◌/◌, ◌%◌, ◌^◌, ◌<◌, ◌≤◌, Bool, true, false, cond, eqb, leb, sym, refl, ap, ◌∙◌, subst, ap₂, le_trans, le_of_eq, lt_of_lt_of_le, lt_irrefl, mul-le-mul_right, mod-eq_of_lt, mul_assoc, mul-pos, lt_of_not-le, mul-one, arith, le→leb, eqb→eq, leb→le, pow_pos, pow_mono, pow-add, shl_lt, Float}
+use Rattle.std.specs.Float.{nan, inf, binary64}
+use Rattle.std.specs.Float.Ieee.{odd, ne, neg, of_fields, of_bits, to_bits}
 use lib.Dec.{not_T}
 use lib.Count.{count_leading_zeros, leading_top}
-use lib.Ieee.{Float, nan, inf, odd, ne, neg, of_fields, of_bits, to_bits, binary64}
 use lib.Ieee.Exact.{odd_sign}
 use lib.Ieee.Bits.{is_true, is_false, cond_no}
 use Rattle.float.specs.Order.{ne_self}

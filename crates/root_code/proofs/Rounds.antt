@@ -1,8 +1,9 @@
 -- From the whole root of a number of 105 or 106 digits to the value that `rootOf` names and its bits. Assumes nothing.
 use Rattle.std.proofs.Common.{◌≡◌, ℕ, zero, suc, ◌+◌, ◌-◌, ◌*◌, ◌/◌, ◌^◌, ◌<◌, ◌≤◌, Bool, true, false, cond, not, T, ltb, sym, ap, ◌∙◌, subst, le_trans, le_of_eq, lt_of_lt_of_le, le_of_suc-le-suc, lt_irrefl, mul-le-mul_right, mul_assoc, div-lt_iff_lt-mul, le_antisymm, mul-lt-mul_of_pos_right, mul-pos, lt_of_not-le, le-div_iff_mul-le, mul-div_cancel, add-one, arith, ltb→lt, lt→ltb, nltb→le, pow_pos, pow_mono, pow-add, shl_lt}
+use Rattle.std.specs.Float.{inf, Format, binary64}
+use Rattle.std.specs.Float.Ieee.{prec, emax, low, size, nearest, odd, units, fits, to_bits, of_bits}
 use Prim.Native.Nat.{compare, Ordering}
 use native.Mathlib.Nat.{mul-mul-mul_comm}
-use lib.Ieee.{inf, Format, prec, emax, low, size, nearest, odd, units, fits, to_bits, of_bits, binary64}
 use lib.Ieee.Digits.{size-lt, size-le}
 use lib.Ieee.Fits.{odd-fits}
 use lib.Ieee.Exact.{units_val}

@@ -1,4 +1,2 @@
 pub mod Best
-pub mod Order
 pub mod Winners
-pub mod WinnerLaws

@@ -1,3 +1,2 @@
 pub mod Floor
 pub mod Penalty
-pub mod FloorLaws

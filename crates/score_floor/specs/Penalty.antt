@@ -20,8 +20,6 @@ use Rattle.camera_models.specs.declared.distortion.BrownConrady5.{BrownConrady5}
 use Rattle.camera_tilt.specs.declared.sensor.ScheimpflugParams.{ScheimpflugParams}
 use Rattle.score_camera.specs.declared.pinhole.PinholeCamera.{PinholeCamera}
 use Rattle.score_camera.specs.Penalties.{quarter, distortion_penalty, tilt_penalty, centre_penalty, score_of}
-use Rattle.score_outcome.specs.declared.Scoring.{Scoring}
-use Rattle.score_outcome.specs.Facts.{ScoredFacts}
 
 -- ---- the penalties have no minus, for every camera and every centre
 quarter_plus : sign_bit quarter ≡ false
@@ -73,14 +71,6 @@ module _ (mean : Float) (c : PinholeCamera) (sensor : ScheimpflugParams) (center
       (λ n. nan_not_below (a +₆₄ z) t n)
       (λ n. not_below_trans (a +₆₄ z) a t (number_terms binary64 a z n).0 then first)
 
-  tilt_number_lem : is_nan (score_of mean c sensor center) ≡ false → is_nan (tilt_penalty sensor) ≡ false
+  pub tilt_number_lem : is_nan (score_of mean c sensor center) ≡ false → is_nan (tilt_penalty sensor) ≡ false
   unfolding score_of
   tilt_number_lem n = (number_terms binary64 (mean +₆₄ distortion_penalty c.dist) (tilt_penalty sensor) (number_terms binary64 (mean +₆₄ distortion_penalty c.dist +₆₄ tilt_penalty sensor) (centre_penalty c.k center) n).0).1
-
--- ---- of whatever is scored: by what holds of every scored finding, whichever camera and rows the host sent
-module _ (sensor : ScheimpflugParams) (center : Pt2) (g : Scoring) (s : ScoredFacts sensor center g) where
-  pub scored_not_below : lt g.score (tilt_penalty sensor) ≡ false
-  scored_not_below = rw s.score_is (score_not_below g.mean g.camera sensor center s.mean_not_below)
-
-  pub penalty_number : is_nan (tilt_penalty sensor) ≡ false
-  penalty_number = tilt_number_lem g.mean g.camera sensor center (rw s.score_is at s.score_number)

@@ -6,7 +6,7 @@ use Rattle.float.specs.Binary64.{◌+₆₄◌, ◌/₆₄◌}
 use Rattle.float.specs.Literals.{infinity}
 use Rattle.float.specs.Sign.{sign_add, sign_square, sign_div, sign_count}
 use Rattle.float.specs.Float.{sign_bit}
-use Rattle.root.specs.Laws.{sign_root}
+use Rattle.root.proofs.Laws.{sign_root}
 use Rattle.camera_tilt.specs.Matrix.{Matrix}
 use Rattle.score_camera.specs.Camera.{damped_camera}
 use Rattle.score_rows.specs.Rows.{rows_of, tilt_matrix, row_error, is_counted, counted_errors, no_errors, summed, error_sum, mean_of}

@@ -1,2 +1,4 @@
 mod Filled
 pub mod RowArguments
+pub mod Counted
+pub mod Steps

@@ -5,8 +5,8 @@
 --     after            the sum and count with the row added
 -- The laws under a model assume `Logic`.
 use Rattle.std.proofs.Common.{List, [], ◌∷◌}
+use Rattle.std.specs.Float.{binary64}
 use seplogic.Ra.Ura.{Ura}
-use lib.Ieee.{binary64}
 use mir.Val.{Val}
 use base.Logic.{ent, emp}
 use types.Logic.{Logic, sem}

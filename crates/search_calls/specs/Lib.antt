@@ -1,8 +1,7 @@
 pub mod Counts
 pub mod Last
 pub mod Next
-pub mod NextLaws
 pub mod Result
 pub mod Progress
 pub mod Stop
-pub mod StopLaws
+pub mod NextLaws

@@ -1,6 +1,1 @@
 pub mod Admissible
-pub mod Counts
-pub mod Offsets
-pub mod Anywhere
-pub mod Exact
-pub mod Cases

@@ -1,14 +1,5 @@
 pub mod Layout
 pub mod LayoutLaws
 pub mod Merge
-pub mod MergeLaws
-pub mod Newest
-pub mod Unmerged
-pub mod Steps
 pub mod Rules
-pub mod Bound
-pub mod RulesLaws
-pub mod Facts
 pub mod AnyOffsets
-pub mod Tried
-pub mod Mirror

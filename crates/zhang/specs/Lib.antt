@@ -1,2 +1,1 @@
 pub mod Zhang
-pub mod Exact

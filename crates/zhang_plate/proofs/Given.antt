@@ -1,14 +1,15 @@
 -- 02, E12: each camera whose four numbers share a power of two gets six numbers from which the closed form gives the four back; every other one gets 34.
 -- The six are computed exactly, and zhang's `recovered` does the rest. Assumes nothing.
-use Rattle.std.proofs.Common.{◌≡◌, ℕ, ◌+◌, ◌*◌, ◌^◌, ◌≤◌, Bool, true, false, not, pos, sym, refl, add-zero, mul-le-mul, zero-add, mul-one, arith}
+use Rattle.std.proofs.Common.{◌≡◌, ℕ, ◌+◌, ◌*◌, ◌^◌, ◌≤◌, Bool, true, false, not, pos, sym, refl, add-zero, mul-le-mul, zero-add, mul-one, arith, Float}
+use Rattle.std.specs.Float.{binary64}
+use Rattle.std.specs.Float.Ieee.{unlike, of_bits, of_int, neg}
 use mathlib.Core.Option.{Option, none, some}
-use lib.Ieee.{Float, binary64, unlike, of_bits, of_int, neg}
 use Rattle.float.specs.Binary64.{◌+₆₄◌, ◌*₆₄◌, ◌/₆₄◌}
 use Rattle.float.specs.Literals.{plus_zero}
 use Rattle.float.specs.Sign.{unlike_false, unlike_itself}
 use Rattle.float.specs.Whole.{Num, held, round_is, neg_is, num_mul, num_div, num_add}
 use Rattle.camera_models.specs.declared.intrinsics.FxFyCxCy.{FxFyCxCy}
-use Rattle.zhang.specs.Exact.{signed, Conic-of, Recovered, recovered}
+use Rattle.zhang.proofs.Exact.{signed, Conic-of, Recovered, recovered}
 use Rattle.zhang.specs.Zhang.{from_homographies}
 use Rattle.zhang_plate.specs.declared.Plate.TheVariants.{Numbers, Refused}
 use Rattle.zhang_plate.specs.Plate.{unit_from, conic_with, plate_of}

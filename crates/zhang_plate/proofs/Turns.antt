@@ -1,7 +1,8 @@
 -- The loop over the powers: each way out of a turn, and out of the loop, is the definition's. Assumes nothing.
 use Rattle.std.proofs.Common.{◌≡◌, ℕ, suc, ◌+◌, ◌-◌, ◌*◌, ◌^◌, ◌<◌, ◌≤◌, true, false, T, pos, sym, ◌∙◌, arith, le→leb, pow_pos, pow_mono}
+use Rattle.std.specs.Float.{binary64}
+use Rattle.std.specs.Float.Ieee.{of_int, in_float}
 use mathlib.Core.Option.{none}
-use lib.Ieee.{binary64, of_int, in_float}
 use Rattle.camera_models.specs.declared.intrinsics.FxFyCxCy.{FxFyCxCy}
 use Rattle.zhang.specs.declared.Conic.{Conic}
 use Rattle.zhang_plate.specs.declared.Plate.TheVariants.{Numbers, Refused}

@@ -1,8 +1,9 @@
 -- What the definition's tests mean: a number passes where it is ± n 2 ^ k with n at most 256, and four numbers where they are such numbers in their ranges.
 -- Assumes nothing.
-use Rattle.std.proofs.Common.{◌≡◌, ℕ, zero, suc, ◌*◌, ◌/◌, ◌%◌, ◌^◌, ◌<◌, ◌≤◌, Bool, true, false, ◌&&◌, eqb, leb, sym, refl, ◌∙◌, true≢false, mul_assoc, mul-pos, arith, pow_pos, ltb-true, eq-eqb, eqb-true, le-leb, leb-true}
+use Rattle.std.proofs.Common.{◌≡◌, ℕ, zero, suc, ◌*◌, ◌/◌, ◌%◌, ◌^◌, ◌<◌, ◌≤◌, Bool, true, false, ◌&&◌, eqb, leb, sym, refl, ◌∙◌, true≢false, mul_assoc, mul-pos, arith, pow_pos, ltb-true, eq-eqb, eqb-true, le-leb, leb-true, Float}
+use Rattle.std.specs.Float.{nan, inf, fin}
+use Rattle.std.specs.Float.Ieee.{up, down, of_bits, lt}
 use native.Mathlib.Nat.{mul-mod_left, mul-div_left, div-mul_cancel, dvd_of_mod-eq-zero}
-use lib.Ieee.{Float, nan, inf, fin, up, down, of_bits, lt}
 use lib.Ieee.Fits.{down_pos}
 use Rattle.common.specs.Tests.{both_true}
 use Rattle.float.specs.Literals.{plus_zero}

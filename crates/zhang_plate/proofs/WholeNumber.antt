@@ -1,9 +1,10 @@
 -- The code's test of one number is the definition's: a whole number is tested by itself, and what has a fraction or is too large fails. Assumes nothing.
-use Rattle.std.proofs.Common.{◌≡◌, ℕ, ◌+◌, ◌*◌, ◌/◌, ◌%◌, ◌^◌, ◌<◌, ◌≤◌, Bool, true, false, not, ◌&&◌, ◌||◌, T, eqb, leb, ℤ, pos, sym, refl, ap, ◌∙◌, true≢false, lt_of_lt_of_le, mul-le-mul_right, mul_assoc, div-lt_iff_lt-mul, mul-le-mul, mul-one, mul_right_comm, arith, le→leb, lt→ltb, pow_mono, ltb-false, ltb-true, eq-eqb, ne_eqb, eqb-true, leb-true}
+use Rattle.std.proofs.Common.{◌≡◌, ℕ, ◌+◌, ◌*◌, ◌/◌, ◌%◌, ◌^◌, ◌<◌, ◌≤◌, Bool, true, false, not, ◌&&◌, ◌||◌, T, eqb, leb, ℤ, pos, sym, refl, ap, ◌∙◌, true≢false, lt_of_lt_of_le, mul-le-mul_right, mul_assoc, div-lt_iff_lt-mul, mul-le-mul, mul-one, mul_right_comm, arith, le→leb, lt→ltb, pow_mono, ltb-false, ltb-true, eq-eqb, ne_eqb, eqb-true, leb-true, Float}
+use Rattle.std.specs.Float.{nan, inf, fin, binary64}
+use Rattle.std.specs.Float.Ieee.{up, down, of_bits, of_int, lt, eq, ne, to_unsigned, in_float}
 use native.Mathlib.Nat.{mul-div_left, mul-mod_left, mul-div-mul_right, min-eq_left, eq_of_mul-eq-mul_right}
 use mathlib.Core.Bool.{beq}
 use borrow.Author.Tests.{eqb-false, not-true, not-false}
-use lib.Ieee.{Float, nan, inf, fin, binary64, up, down, of_bits, of_int, lt, eq, ne, to_unsigned, in_float}
 use lib.Ieee.Fits.{down_pos}
 use Rattle.common.specs.Tests.{case, both_true}
 use Rattle.float.specs.Float.{abs_of}

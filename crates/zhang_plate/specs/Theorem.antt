@@ -3,7 +3,7 @@ use Rattle.std.specs.Prelude.{◌≡◌, ℕ, ◌≤◌, Bool, false}
 use Rattle.float.specs.Whole.{Num}
 use Rattle.camera_models.specs.declared.intrinsics.FxFyCxCy.{FxFyCxCy}
 use Rattle.zhang.specs.declared.Conic.{Conic}
-use Rattle.zhang.specs.Exact.{Recovered}
+use Rattle.zhang.proofs.Exact.{Recovered}
 use Rattle.zhang.specs.Zhang.{from_homographies}
 use Rattle.zhang_plate.specs.declared.Plate.TheVariants.{Numbers, Refused}
 use Rattle.zhang_plate.specs.Plate.{plate_of}

@@ -1,6 +1,5 @@
 -- `camera_undistort::after_trials` meets its contract, by that of `is_small`. Assumes nothing.
-use mathlib.Core.Path.{sym, ◌∙◌}
-use borrow.Author.Rules.{rules}
+use Rattle.std.proofs.Common.{sym, ◌∙◌}
 use Rattle.camera_undistort.specs.Undistortion.{after_trials}
 use Rattle.camera_undistort.proofs.after_trials.Goals as goal
 

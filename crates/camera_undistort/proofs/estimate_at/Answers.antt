@@ -1,5 +1,4 @@
 -- `camera_undistort::estimate_at` meets its contract, by those of `distort_with_jacobian` and `difference`. Assumes nothing.
-use borrow.Author.Rules.{rules}
 use Rattle.camera_undistort.specs.Undistortion.{estimate_at}
 use Rattle.camera_undistort.proofs.estimate_at.Goals as goal
 

@@ -1,6 +1,5 @@
 -- `camera_undistort::is_better` meets its contract, by those of `squared_norm` and `is_finite`. Assumes nothing.
-use borrow.Author.Rules.{rules}
-use mathlib.Core.Path.{sym, ap, ◌∙◌}
+use Rattle.std.proofs.Common.{sym, ap, ◌∙◌}
 use Rattle.float.specs.Float.{is_finite}
 use Rattle.camera_undistort.specs.Undistortion.{improves}
 use Rattle.camera_undistort.proofs.is_better.Goals as goal

@@ -1,5 +1,4 @@
 -- `camera_undistort::is_singular` meets its contract, by those of `jacobian_determinant` and `is_finite`. Assumes nothing.
-use borrow.Author.Rules.{rules}
 use Rattle.camera_undistort.specs.Undistortion.{singular}
 use Rattle.camera_undistort.proofs.is_singular.Goals as goal
 

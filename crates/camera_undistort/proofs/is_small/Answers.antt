@@ -1,5 +1,4 @@
 -- `camera_undistort::is_small` meets its contract, by that of `squared_norm`. Assumes nothing.
-use borrow.Author.Rules.{rules}
 use Rattle.camera_undistort.specs.Undistortion.{small_step}
 use Rattle.camera_undistort.proofs.is_small.Goals as goal
 

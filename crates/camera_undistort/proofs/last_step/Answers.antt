@@ -1,6 +1,5 @@
 -- `camera_undistort::last_step` meets its contract, by those of its callees. Assumes nothing.
-use borrow.Author.Rules.{rules}
-use mathlib.Core.Path.{sym, ◌∙◌}
+use Rattle.std.proofs.Common.{sym, ◌∙◌}
 use Rattle.camera_undistort.specs.Undistortion.{last_step}
 use Rattle.camera_undistort.proofs.last_step.Goals as goal
 

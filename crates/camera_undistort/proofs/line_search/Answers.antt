@@ -1,9 +1,6 @@
--- `camera_undistort::line_search` meets its contract. The loop's invariant: what is left of the trials, from this step, finds what all of them find
--- from the first. Assumes nothing.
-use mathlib.Core.Path.{◌≡◌, sym, ap, ◌∙◌}
-use native.Mathlib.Omega.{arith}
-use borrow.Author.Rules.{rules}
-use Rattle.camera_undistort.specs.Undistortion.{estimate_at, trials}
+-- `camera_undistort::line_search` meets its contract. Assumes nothing.
+use Rattle.std.proofs.Common.{sym, ap, ◌∙◌, arith, rules}
+use Rattle.camera_undistort.specs.Undistortion.{estimate_at}
 use Rattle.camera_undistort.proofs.Turns.{trials_end, trials_accepts, trials_halves}
 use Rattle.camera_undistort.proofs.line_search.Goals as goal
 

@@ -1,10 +1,6 @@
--- `camera_undistort::line_search` meets its contract. The loop's invariant: what is left of the trials, from this step, finds what all of them find
--- from the first. Assumes nothing.
-use mathlib.Core.Path.{◌≡◌, sym, ap, ◌∙◌}
-use native.Mathlib.Omega.{arith}
-use borrow.Author.Rules.{rules}
-use Rattle.camera_undistort.specs.Undistortion.{estimate_at, trials}
-use Rattle.camera_undistort.proofs.Turns.{trials_end, trials_accepts, trials_halves}
+-- `camera_undistort::line_search`: the loop's invariant: what is left of the trials, from this step, finds what all of them find from the first.
+use Rattle.std.proofs.Common.{◌≡◌}
+use Rattle.camera_undistort.specs.Undistortion.{trials}
 use Rattle.camera_undistort.proofs.line_search.Given as goal
 
 abbrev pub invariant-loop-left : goal.invariant-loop-left

@@ -1,5 +1,4 @@
 -- `camera_undistort::newton_step` meets its contract, by that of `jacobian_determinant`. Assumes nothing.
-use borrow.Author.Rules.{rules}
 use Rattle.camera_undistort.specs.Undistortion.{step_by}
 use Rattle.camera_undistort.proofs.newton_step.Goals as goal
 

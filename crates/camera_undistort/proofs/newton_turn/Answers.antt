@@ -1,6 +1,5 @@
 -- `camera_undistort::newton_turn` meets its contract, by those of its callees. Assumes nothing.
-use borrow.Author.Rules.{rules}
-use mathlib.Core.Path.{sym, ◌∙◌}
+use Rattle.std.proofs.Common.{sym, ◌∙◌}
 use Rattle.camera_undistort.specs.Undistortion.{newton_turn}
 use Rattle.camera_undistort.proofs.newton_turn.Goals as goal
 

@@ -1,9 +1,6 @@
--- `camera_undistort::newton_undistort` meets its contract. The loop's invariant: what is left of the turns, from this estimate, leads where all of them
--- lead from the first. Assumes nothing.
-use mathlib.Core.Path.{◌≡◌, sym, ap, ◌∙◌}
-use native.Mathlib.Omega.{arith}
-use borrow.Author.Rules.{rules}
-use Rattle.camera_undistort.specs.Undistortion.{newton, last_step}
+-- `camera_undistort::newton_undistort` meets its contract. Assumes nothing.
+use Rattle.std.proofs.Common.{sym, ap, ◌∙◌, arith, rules}
+use Rattle.camera_undistort.specs.Undistortion.{last_step}
 use Rattle.camera_undistort.proofs.Turns.{newton_none, newton_ends, newton_last, newton_next}
 use Rattle.camera_undistort.proofs.newton_undistort.Goals as goal
 

@@ -1,10 +1,6 @@
--- `camera_undistort::newton_undistort` meets its contract. The loop's invariant: what is left of the turns, from this estimate, leads where all of them
--- lead from the first. Assumes nothing.
-use mathlib.Core.Path.{◌≡◌, sym, ap, ◌∙◌}
-use native.Mathlib.Omega.{arith}
-use borrow.Author.Rules.{rules}
-use Rattle.camera_undistort.specs.Undistortion.{newton, last_step}
-use Rattle.camera_undistort.proofs.Turns.{newton_none, newton_ends, newton_last, newton_next}
+-- `camera_undistort::newton_undistort`: the loop's invariant: what is left of the turns, from this estimate, leads where all of them lead from the first.
+use Rattle.std.proofs.Common.{◌≡◌}
+use Rattle.camera_undistort.specs.Undistortion.{newton}
 use Rattle.camera_undistort.proofs.newton_undistort.Given as goal
 
 abbrev pub invariant-loop-left : goal.invariant-loop-left

@@ -1,6 +1,5 @@
 -- `camera_undistort::undistort` meets its contract, by that of `newton_undistort`. Assumes nothing.
-use borrow.Author.Tests.{eq-eqb, ne_eqb}
-use borrow.Author.Rules.{rules}
+use Rattle.std.proofs.Common.{eq-eqb, ne_eqb}
 use Rattle.camera_undistort.specs.Undistortion.{undistorted}
 use Rattle.camera_undistort.proofs.undistort.Goals as goal
 

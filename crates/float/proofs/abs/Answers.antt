@@ -1,6 +1,5 @@
 -- `float::abs` meets its contract: a sign is cleared, by how the value compares with zero. Assumes nothing.
-use mathlib.Core.Path.{subst, sym}
-use lib.Dec.{T}
+use Rattle.std.proofs.Common.{subst, sym, T}
 use Rattle.float.specs.Sign.{abs_negative, abs_zero, abs_positive}
 use Rattle.float.proofs.abs.Goals as goal
 

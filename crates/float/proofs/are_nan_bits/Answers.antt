@@ -1,6 +1,6 @@
 -- `float::are_nan_bits` meets its contract: above infinity's bits, the sign's left out. Assumes nothing.
-use mathlib.Core.Path.{sym}
-use lib.Ieee.{binary64}
+use Rattle.std.proofs.Common.{sym}
+use Rattle.std.specs.Float.{binary64}
 use lib.Ieee.Bits.{nan_bits_above}
 use Rattle.float.proofs.are_nan_bits.Goals as goal
 

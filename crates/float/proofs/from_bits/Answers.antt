@@ -1,10 +1,8 @@
 -- `float::from_bits` meets its contract: the value of the bits, a NaN for each NaN's. Assumes nothing.
-use mathlib.Core.Path.{sym, ◌∙◌, subst}
-use mathlib.Core.Bool.{Bool, not}
-use lib.Dec.{T}
-use lib.Ieee.{of_bits, binary64}
+use Rattle.std.proofs.Common.{sym, ◌∙◌, subst, Bool, not, T}
+use Rattle.std.specs.Float.{binary64}
+use Rattle.std.specs.Float.Ieee.{of_bits}
 use lib.Ieee.Bits.{nan_bits_is}
-use borrow.Author.Rules.{rules}
 use Rattle.float.specs.Nan.{is_nan_lem, zero_over_zero}
 use Rattle.float.proofs.from_bits.Goals as goal
 

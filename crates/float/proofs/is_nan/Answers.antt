@@ -1,5 +1,5 @@
 -- `float::is_nan` meets its contract: NaN alone differs from itself. Assumes nothing.
-use lib.Ieee.{ne}
+use Rattle.std.specs.Float.Ieee.{ne}
 use Rattle.float.specs.Order.{ne_self}
 use Rattle.float.proofs.is_nan.Goals as goal
 

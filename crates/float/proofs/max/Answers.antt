@@ -1,5 +1,5 @@
 -- `float::max` meets its contract: the higher of two, the first of equals. Assumes nothing.
-use mathlib.Core.Path.{sym, ◌∙◌}
+use Rattle.std.proofs.Common.{sym, ◌∙◌}
 use Rattle.float.specs.Float.{max_of}
 use Rattle.float.specs.Order.{ne_self}
 use Rattle.float.proofs.max.Goals as goal

@@ -1,5 +1,5 @@
 -- `float::min` meets its contract: the lower of two, the first of equals. Assumes nothing.
-use mathlib.Core.Path.{sym, ◌∙◌}
+use Rattle.std.proofs.Common.{sym, ◌∙◌}
 use Rattle.float.specs.Float.{min_of}
 use Rattle.float.specs.Order.{ne_self}
 use Rattle.float.proofs.min.Goals as goal

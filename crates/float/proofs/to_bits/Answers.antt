@@ -1,8 +1,5 @@
 -- `float::to_bits` meets its contract: the bits, of a NaN the one pattern. Assumes nothing.
-use mathlib.Core.Path.{sym, ◌∙◌, subst}
-use mathlib.Core.Bool.{Bool, not}
-use lib.Dec.{T}
-use borrow.Author.Rules.{rules}
+use Rattle.std.proofs.Common.{sym, ◌∙◌, subst, Bool, not, T}
 use Rattle.float.specs.Float.{bits_of}
 use Rattle.float.proofs.to_bits.Goals as goal
 

@@ -1,7 +1,8 @@
 -- `float_series::beyond` meets its contract: beyond 0.5 in size is below -0.5 or above 0.5, and only NaN differs from itself. Assumes nothing.
-use mathlib.Core.Path.{◌≡◌, refl}
-use mathlib.Core.Bool.{true, false, ◌||◌, or-false}
-use lib.Ieee.{Float, nan, inf, fin, of_bits, lt, neg, is_nan}
+use Rattle.std.proofs.Common.{◌≡◌, refl, true, false, ◌||◌, Float}
+use Rattle.std.specs.Float.{nan, inf, fin}
+use Rattle.std.specs.Float.Ieee.{of_bits, lt, neg, is_nan}
+use mathlib.Core.Bool.{or-false}
 use Rattle.float.specs.Float.{abs_of}
 use Rattle.float.specs.Order.{ne_self}
 use Rattle.float.specs.Literals.{half₆₄}

@@ -1,7 +1,8 @@
 -- `float_series::coefficient` meets its contract: the table is the list of the definition's sixteen values, which antt computes, and one law reads it.
 -- Assumes nothing.
-use lib.Ieee.{nan, of_bits, round}
-use borrow.Author.Rules.{rules}
+use Rattle.std.proofs.Common.{rules}
+use Rattle.std.specs.Float.{nan}
+use Rattle.std.specs.Float.Ieee.{of_bits, round}
 use Rattle.common.specs.Table.{table_at}
 use Rattle.float_series.specs.Series.{coefficient_of}
 use Rattle.float_series.proofs.coefficient.Goals as goal

@@ -1,6 +1,5 @@
 -- `float_series::cosine` meets its contract: the test is that of the definition. Assumes nothing.
 use Rattle.float_series.specs.Answer.{answer_of}
-use borrow.Author.Rules.{rules}
 use Rattle.float_series.proofs.cosine.Goals as goal
 
 pub returns-then-beyond : goal.returns-then-beyond

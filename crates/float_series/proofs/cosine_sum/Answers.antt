@@ -1,5 +1,4 @@
 -- `float_series::cosine_sum` meets its contract. Assumes nothing.
-use borrow.Author.Rules.{rules}
 use Rattle.float_series.specs.Series.{series_of}
 use Rattle.float_series.proofs.cosine_sum.Goals as goal
 

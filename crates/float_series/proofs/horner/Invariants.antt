@@ -1,8 +1,5 @@
--- `float_series::horner` meets its contract. The loop's invariant: the sum is that of the coefficients n, n + 2, .. up to the last. Assumes nothing.
-use mathlib.Core.Path.{◌≡◌}
-use Prim.Native.Nat.{suc, ◌+◌, ◌-◌, ◌/◌, ◌%◌, ◌≤◌}
-use native.Mathlib.Omega.{arith}
-use borrow.Author.Rules.{rules}
+-- `float_series::horner`: the loop's invariant: the sum is that of the coefficients n, n + 2, ..
+use Rattle.std.proofs.Common.{◌≡◌, ◌+◌, ◌-◌, ◌/◌, ◌%◌, ◌≤◌}
 use Rattle.float_series.specs.Series.{horner_of}
 use Rattle.float_series.proofs.horner.Given as goal
 

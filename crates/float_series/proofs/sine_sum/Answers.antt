@@ -1,5 +1,4 @@
 -- `float_series::sine_sum` meets its contract. Assumes nothing.
-use borrow.Author.Rules.{rules}
 use Rattle.float_series.specs.Series.{series_of}
 use Rattle.float_series.proofs.sine_sum.Goals as goal
 

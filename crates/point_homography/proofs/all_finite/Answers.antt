@@ -1,19 +1,11 @@
--- `point_homography::all_finite` meets its contract. The loop's invariant: the test of what is left is the test of all. Assumes nothing.
-use borrow.Author.Rules.{rules}
+-- `point_homography::all_finite` meets its contract. Assumes nothing.
+use Rattle.std.proofs.Common.{rules, ◌≡◌, refl, sym, ◌∙◌, ◌&&◌, List, ℕ, ◌+◌, ◌<◌, add-one, arith, length, get_or, drop, drop-cons, Float, ap, not}
+use Rattle.std.specs.Float.{nan}
 use borrow.Author.Tests.{not-true, not-false}
-use mathlib.Core.Path.{◌≡◌, refl, sym, ◌∙◌}
-use mathlib.Core.Bool.{◌&&◌}
-use mathlib.Core.List.{List}
-use Prim.Native.Nat.{ℕ, ◌+◌, ◌-◌, ◌≤◌, ◌<◌}
-use native.Mathlib.Numerals.{add-one}
-use native.Mathlib.Omega.{arith}
-use lib.ListN.{length, get_or, drop}
-use lib.Seq.{drop-cons, drop-length}
-use lib.Ieee.{Float, nan}
+use lib.Seq.{drop-length}
 use Rattle.float.specs.Float.{is_finite}
 use Rattle.common.specs.Each.{every}
 use Rattle.point_homography.specs.Rows.{all_finite}
-use Rattle.std.proofs.Common.{ap, not}
 use Rattle.point_homography.proofs.all_finite.Goals as goal
 
 next : (s : List Float) (i : ℕ) → i < length s → all_finite (drop i s) ≡ (is_finite (get_or s i nan) && all_finite (drop (i + 1) s))

@@ -1,17 +1,5 @@
--- `point_homography::all_finite` meets its contract. The loop's invariant: the test of what is left is the test of all. Assumes nothing.
-use borrow.Author.Rules.{rules}
-use borrow.Author.Tests.{not-true, not-false}
-use mathlib.Core.Path.{◌≡◌, refl, sym, ◌∙◌}
-use mathlib.Core.Bool.{◌&&◌}
-use mathlib.Core.List.{List}
-use Prim.Native.Nat.{ℕ, ◌+◌, ◌-◌, ◌≤◌, ◌<◌}
-use native.Mathlib.Numerals.{add-one}
-use native.Mathlib.Omega.{arith}
-use lib.ListN.{length, get_or, drop}
-use lib.Seq.{drop-cons, drop-length}
-use lib.Ieee.{Float, nan}
-use Rattle.float.specs.Float.{is_finite}
-use Rattle.common.specs.Each.{every}
+-- `point_homography::all_finite`: the loop's invariant: the test of what is left is the test of all.
+use Rattle.std.proofs.Common.{◌≡◌, ◌-◌, ◌≤◌, length, drop}
 use Rattle.point_homography.specs.Rows.{all_finite}
 use Rattle.point_homography.proofs.all_finite.Given as goal
 

@@ -1,10 +1,6 @@
--- `point_homography::any_off_line` meets its contract. The loop's invariant: the search from here finds what the whole search finds. Assumes nothing.
-use borrow.Author.Rules.{rules}
-use mathlib.Core.Path.{◌≡◌, refl, sym, ◌∙◌}
-use mathlib.Core.Bool.{true, false}
-use Prim.Native.Nat.{◌≤◌, ◌-◌}
-use lib.ListN.{length, drop}
-use Rattle.point_homography.specs.Line.{off_line, any_off}
+-- `point_homography::any_off_line` meets its contract. Assumes nothing.
+use Rattle.std.proofs.Common.{rules, refl, sym, ◌∙◌, true, false}
+use Rattle.point_homography.specs.Line.{off_line}
 use Rattle.point_normalise.specs.Walk.{find_here, find_next, find_end}
 use Rattle.point_homography.proofs.any_off_line.Goals as goal
 

@@ -1,11 +1,6 @@
--- `point_homography::any_off_line` meets its contract. The loop's invariant: the search from here finds what the whole search finds. Assumes nothing.
-use borrow.Author.Rules.{rules}
-use mathlib.Core.Path.{◌≡◌, refl, sym, ◌∙◌}
-use mathlib.Core.Bool.{true, false}
-use Prim.Native.Nat.{◌≤◌, ◌-◌}
-use lib.ListN.{length, drop}
-use Rattle.point_homography.specs.Line.{off_line, any_off}
-use Rattle.point_normalise.specs.Walk.{find_here, find_next, find_end}
+-- `point_homography::any_off_line`: the loop's invariant: the search from here finds what the whole search finds.
+use Rattle.std.proofs.Common.{◌≡◌, ◌≤◌, ◌-◌, length, drop}
+use Rattle.point_homography.specs.Line.{any_off}
 use Rattle.point_homography.proofs.any_off_line.Given as goal
 
 abbrev pub invariant-loop-k : goal.invariant-loop-k

@@ -1,8 +1,5 @@
 -- `point_homography::collinear` meets its contract: its tests are the definition's. Assumes nothing.
-use borrow.Author.Rules.{rules}
-use borrow.Author.Tests.{lt-ltb, le-ltb}
-use mathlib.Core.Path.{sym, ◌∙◌}
-use lib.ListN.{length}
+use Rattle.std.proofs.Common.{lt-ltb, le-ltb, sym, ◌∙◌, length}
 use Rattle.point_homography.specs.Line.{along, collinear_of}
 use Rattle.point_homography.proofs.collinear.Goals as goal
 

@@ -1,11 +1,5 @@
 -- `point_homography::design_rows` meets its contract: the refusals in their order, and the rows. Assumes nothing.
-use borrow.Author.Rules.{rules}
-use mathlib.Core.List.{List}
-use mathlib.Core.Path.{◌≡◌, sym, ◌∙◌}
-use Prim.Native.Nat.{◌*◌, ◌/◌}
-use native.Mathlib.Omega.{arith}
-use lib.ListN.{length}
-use lib.Ieee.{Float}
+use Rattle.std.proofs.Common.{◌≡◌, sym, ◌∙◌, ◌*◌, ◌/◌, arith, length}
 use Rattle.point_normalise.specs.Linalg.{similarity_of}
 use Rattle.point_homography.specs.Rows.{design_rows, rows_refusal}
 use Rattle.point_normalise.specs.Walk.{sets_front}

@@ -1,11 +1,7 @@
--- `point_homography::first_distinct` meets its contract. The loop's invariant: the search from here finds what the whole search finds. Assumes nothing.
-use borrow.Author.Rules.{rules}
-use mathlib.Core.Path.{◌≡◌, refl, sym, ◌∙◌}
-use Prim.Native.Nat.{◌≤◌, ◌-◌}
-use lib.ListN.{length, drop}
+-- `point_homography::first_distinct` meets its contract. Assumes nothing.
+use Rattle.std.proofs.Common.{rules, refl, sym, ◌∙◌}
 use Rattle.point_homography.specs.declared.Distinct.TheVariants.{Point, Nothing}
-use Rattle.point_normalise.specs.Points.{find_point}
-use Rattle.point_homography.specs.Line.{far_from, first_distinct}
+use Rattle.point_homography.specs.Line.{far_from}
 use Rattle.point_normalise.specs.Walk.{find_here, find_next, find_end}
 use Rattle.point_homography.proofs.first_distinct.Goals as goal
 

@@ -1,5 +1,4 @@
 -- `point_homography::off_line` meets its contract: its tests are the definition's. Assumes nothing.
-use borrow.Author.Rules.{rules}
 use Rattle.point_homography.specs.Line.{off_line}
 use Rattle.point_homography.proofs.off_line.Goals as goal
 

@@ -1,10 +1,5 @@
 -- `point_homography::place_refusal` meets its contract: `pastK` says that with its first K conditions passed the answer is that of the rest. Assumes nothing.
-use borrow.Author.Rules.{rules}
-use borrow.Author.Tests.{lt-ltb, le-ltb, eq-eqb, ne_eqb}
-use mathlib.Core.Bool.{not}
-use mathlib.Core.Path.{◌≡◌, sym, ap, ◌∙◌}
-use Prim.Native.Nat.{ℕ}
-use lib.ListN.{length, drop}
+use Rattle.std.proofs.Common.{lt-ltb, le-ltb, eq-eqb, ne_eqb, not, ◌≡◌, sym, ap, ◌∙◌, ℕ, length, drop}
 use Rattle.point_homography.specs.Rows.{place_conditions}
 use Rattle.common.specs.Refusal.{first_refusal}
 use Rattle.common.specs.RefusalLaws.{refuses, passes}

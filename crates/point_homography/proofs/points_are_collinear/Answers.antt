@@ -1,8 +1,5 @@
 -- `point_homography::points_are_collinear` meets its contract. Assumes nothing.
-use borrow.Author.Rules.{rules}
-use borrow.Author.Tests.{eq-eqb, ne_eqb}
-use Prim.Native.Nat.{◌%◌}
-use lib.ListN.{length}
+use Rattle.std.proofs.Common.{eq-eqb, ne_eqb, ◌%◌, length}
 use Rattle.point_homography.specs.Line.{line_reply}
 use Rattle.point_homography.proofs.points_are_collinear.Goals as goal
 

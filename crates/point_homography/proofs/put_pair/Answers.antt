@@ -1,10 +1,6 @@
 -- `point_homography::put_pair` meets its contract: its two rows, one after the other. Assumes nothing.
-use borrow.Author.Rules.{rules}
-use mathlib.Core.List.{List}
-use mathlib.Core.Path.{sym, ap, ◌∙◌}
-use Prim.Native.Nat.{◌+◌}
+use Rattle.std.proofs.Common.{List, sym, ap, ◌∙◌, ◌+◌, Float}
 use lib.Seq.{sets}
-use lib.Ieee.{Float}
 use Rattle.point_homography.specs.Rows.{first_row, second_row, pair_rows}
 use Rattle.point_normalise.specs.Walk.{sets_append}
 use Rattle.point_homography.proofs.put_pair.Goals as goal

@@ -1,11 +1,6 @@
--- `point_homography::put_row` meets its contract. The loop's invariant: what is left of the row, written from here, gives what the whole gives. Assumes nothing.
-use borrow.Author.Rules.{rules}
-use mathlib.Core.Path.{◌≡◌, refl, ◌∙◌}
-use Prim.Native.Nat.{◌+◌, ◌-◌, ◌≤◌}
-use native.Mathlib.Nat.{add-zero}
-use native.Mathlib.Omega.{arith}
-use lib.ListN.{length, drop, length-set}
-use lib.Seq.{sets, drop-length}
+-- `point_homography::put_row` meets its contract. Assumes nothing.
+use Rattle.std.proofs.Common.{rules, ◌≡◌, refl, ◌∙◌, add-zero, arith, length, length-set}
+use lib.Seq.{drop-length}
 use Rattle.point_normalise.specs.Walk.{sets_one}
 use Rattle.point_homography.proofs.put_row.Goals as goal
 

@@ -1,12 +1,6 @@
--- `point_homography::put_row` meets its contract. The loop's invariant: what is left of the row, written from here, gives what the whole gives. Assumes nothing.
-use borrow.Author.Rules.{rules}
-use mathlib.Core.Path.{◌≡◌, refl, ◌∙◌}
-use Prim.Native.Nat.{◌+◌, ◌-◌, ◌≤◌}
-use native.Mathlib.Nat.{add-zero}
-use native.Mathlib.Omega.{arith}
-use lib.ListN.{length, drop, length-set}
-use lib.Seq.{sets, drop-length}
-use Rattle.point_normalise.specs.Walk.{sets_one}
+-- `point_homography::put_row`: the loop's invariant: what is left of the row, written from here, gives what the whole gives.
+use Rattle.std.proofs.Common.{◌≡◌, ◌+◌, ◌-◌, ◌≤◌, length, drop}
+use lib.Seq.{sets}
 use Rattle.point_homography.proofs.put_row.Given as goal
 
 abbrev pub invariant-loop-j : goal.invariant-loop-j

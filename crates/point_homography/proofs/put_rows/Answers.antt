@@ -1,11 +1,8 @@
--- `point_homography::put_rows` meets its contract. The loop's invariant: the rows that are left, written from here, give what the whole gives. Assumes nothing.
-use borrow.Author.Rules.{rules}
-use mathlib.Core.Path.{◌≡◌, refl, sym, ap, ◌∙◌}
-use Prim.Native.Nat.{◌-◌, ◌*◌, ◌≤◌}
-use lib.ListN.{length, drop}
+-- `point_homography::put_rows` meets its contract. Assumes nothing.
+use Rattle.std.proofs.Common.{rules, ◌≡◌, refl, sym, ap, ◌∙◌, ◌*◌, length}
 use lib.Seq.{sets, length-sets}
 use Rattle.point_normalise.specs.Points.{point_at}
-use Rattle.point_homography.specs.Rows.{pair_rows, moved_rows, design_rows}
+use Rattle.point_homography.specs.Rows.{pair_rows, moved_rows}
 use Rattle.point_normalise.specs.Walk.{pair_end}
 use Rattle.point_homography.specs.RowsLaws.{rows_next}
 use Rattle.point_homography.proofs.put_rows.Goals as goal

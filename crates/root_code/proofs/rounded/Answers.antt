@@ -1,10 +1,10 @@
 -- `root_code::rounded` meets its contract. Assumes nothing.
--- what the pattern is
-use Rattle.std.proofs.Common.{◌+◌, ◌-◌, ◌*◌, ◌^◌, arith, rules}
+use Rattle.std.proofs.Common.{◌+◌, ◌-◌, ◌*◌, ◌^◌, arith}
 use Rattle.root_code.proofs.Rounds.{Answer, answer}
 use Rattle.root_code.specs.Bits.{no_nan}
 use Rattle.root_code.proofs.rounded.Goals as goal
 
+-- what the pattern is
 made : (c : goal.After-struct_known-1) → Answer c.args.s.significand c.args.s.half ((c.args.s.half - 26) * 2 ^ 52 + c.nearest_root-q.result)
 made c =
     let s = c.args.s in

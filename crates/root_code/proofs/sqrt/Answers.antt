@@ -1,5 +1,5 @@
 -- `root_code::sqrt` meets its contract. Assumes nothing.
-use Rattle.std.proofs.Common.{◌∙◌, subst, rules}
+use Rattle.std.proofs.Common.{◌∙◌, subst}
 use Rattle.root_code.specs.Operand.{Decomposed}
 use Rattle.root_code.proofs.sqrt.Goals as goal
 

@@ -1,6 +1,5 @@
 -- `score_best::improved` meets its contract. Assumes nothing.
-use mathlib.Core.Path.{sym, ◌∙◌}
-use borrow.Author.Rules.{rules}
+use Rattle.std.proofs.Common.{sym, ◌∙◌}
 use Rattle.score_best.specs.Best.{improved}
 use Rattle.score_best.proofs.improved.Goals as goal
 

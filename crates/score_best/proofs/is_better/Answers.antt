@@ -1,8 +1,8 @@
 -- `score_best::is_better` meets its contract: `!=` tells a NaN from itself. Assumes nothing.
-use mathlib.Core.Path.{sym, ◌∙◌}
+use Rattle.std.proofs.Common.{sym, ◌∙◌}
 use borrow.Author.Tests.{not-true, not-false}
 use Rattle.float.specs.Order.{ne_self}
-use Rattle.score_best.specs.Order.{nan_never_better, first_better, lower_better}
+use Rattle.score_best.proofs.Order.{nan_never_better, first_better, lower_better}
 use Rattle.score_best.proofs.is_better.Goals as goal
 
 pub returns-then-candidate : goal.returns-then-candidate

@@ -1,5 +1,5 @@
 -- `score_best::no_best` meets its contract. Assumes nothing.
-use mathlib.Core.Path.{refl}
+use Rattle.std.proofs.Common.{refl}
 use Rattle.score_best.specs.Best.{no_best}
 use Rattle.score_best.proofs.no_best.Goals as goal
 

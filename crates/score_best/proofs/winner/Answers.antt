@@ -1,8 +1,7 @@
 -- `score_best::winner` meets its contract. Assumes nothing.
-use mathlib.Core.Path.{sym, ◌∙◌}
-use borrow.Author.Rules.{rules}
+use Rattle.std.proofs.Common.{sym, ◌∙◌}
 use borrow.Author.Tests.{not-true, not-false}
-use Rattle.score_best.specs.WinnerLaws.{first_missing, second_missing, second_better, second_not_better}
+use Rattle.score_best.proofs.WinnerLaws.{first_missing, second_missing, second_better, second_not_better}
 use Rattle.score_best.proofs.winner.Goals as goal
 
 pub returns-then-not-first : goal.returns-then-not-first

@@ -1,11 +1,5 @@
--- `score_floor::floor_between` meets its contract. The loop's invariant: the floor so far is that of the seeds from place i on. The measure is i. Assumes nothing.
--- one seed more
-use Prim.Native.Nat.{ℕ, suc, ◌-◌, ◌≤◌, ◌<◌}
-use native.Mathlib.Omega.{arith}
-use mathlib.Core.Path.{◌≡◌, sym, ap, ◌∙◌}
-use mathlib.Core.List.{List}
-use borrow.Author.Rules.{rules}
-use lib.Ieee.{Float}
+-- `score_floor::floor_between` meets its contract. Assumes nothing.
+use Rattle.std.proofs.Common.{ℕ, suc, ◌-◌, ◌≤◌, ◌<◌, arith, ◌≡◌, sym, ap, ◌∙◌, List, rules, Float}
 use Rattle.float.specs.Float.{min_of}
 use Rattle.seed_rules.specs.declared.CandidateSeed.{CandidateSeed}
 use Rattle.seed_rules.specs.Layout.{seed_at}

@@ -1,13 +1,6 @@
--- `score_outcome::any_above_one` meets its contract. The loop's invariant: what the flags from i on say is what all of them say.
--- The measure is what is left of the flags. Assumes nothing.
-use Prim.Native.Nat.{◌≤◌, ◌<◌, ◌-◌}
-use mathlib.Core.Path.{◌≡◌}
-use native.Mathlib.Omega.{arith}
-use native.Mathlib.Numerals.{add-one}
-use borrow.Author.Rules.{rules}
-use borrow.Author.Tests.{lt-ltb, le-ltb}
-use lib.ListN.{length, drop}
-use lib.Seq.{drop-cons, drop-length}
+-- `score_outcome::any_above_one` meets its contract. Assumes nothing.
+use Rattle.std.proofs.Common.{◌<◌, ◌≡◌, arith, add-one, lt-ltb, le-ltb, length, drop-cons}
+use lib.Seq.{drop-length}
 use Rattle.score_outcome.specs.Evaluation.{any_above_one}
 use Rattle.score_outcome.proofs.any_above_one.Goals as goal
 

@@ -1,7 +1,5 @@
 -- `score_outcome::count_errors` meets its contract. Assumes nothing.
-use mathlib.Core.Path.{sym, ◌∙◌}
-use borrow.Author.Rules.{rules}
-use borrow.Author.Tests.{ne_eqb}
+use Rattle.std.proofs.Common.{sym, ◌∙◌, ne_eqb}
 use Rattle.score_outcome.specs.Evaluation.{errors_with, error_count_of}
 use Rattle.score_outcome.proofs.count_errors.Goals as goal
 

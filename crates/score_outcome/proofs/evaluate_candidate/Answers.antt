@@ -1,20 +1,13 @@
 -- `score_outcome::evaluate_candidate` meets its contract: each test of the code is the definition's. Assumes nothing.
-use mathlib.Core.Path.{◌≡◌, refl, sym, ap, ◌∙◌}
-use mathlib.Core.Bool.{true}
-use mathlib.Core.List.{List}
-use Prim.Native.Nat.{ℕ}
-use lib.Ieee.{Float}
-use borrow.Author.Rules.{rules}
-use lib.ListN.{length}
+use Rattle.std.proofs.Common.{◌≡◌, refl, sym, ap, ◌∙◌, List, ℕ, Float, length}
 use Rattle.float.specs.Float.{is_finite}
 use Rattle.camera_tilt.specs.Matrix.{Matrix}
 use Rattle.score_camera.specs.declared.pinhole.PinholeCamera.{PinholeCamera}
 use Rattle.score_camera.specs.Camera.{damped_camera, valid_camera}
-use Rattle.score_camera.specs.Penalties.{score_of}
 use Rattle.score_rows.specs.Rows.{rows_of, tilt_matrix, error_sum, mean_of}
-use Rattle.score_rows.specs.Counted.{counted_most}
+use Rattle.score_rows.proofs.Counted.{counted_most}
 use Rattle.score_rows.specs.declared.ErrorSum.{ErrorSum}
-use Rattle.score_outcome.specs.Evaluation.{errors_with, mean_with, enough, enough_with, scoring_of, scored_as}
+use Rattle.score_outcome.specs.Evaluation.{errors_with, mean_with, enough, enough_with, scored_as}
 use Rattle.score_outcome.specs.Outcomes.{invalid_skips, few_skips, infinite_skips, passed_scored, scoring_is}
 use Rattle.score_outcome.specs.declared.SolvedCamera.{SolvedCamera}
 use Rattle.score_outcome.proofs.evaluate_candidate.Goals as goal

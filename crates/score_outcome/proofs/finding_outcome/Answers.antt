@@ -1,5 +1,5 @@
 -- `score_outcome::finding_outcome` meets its contract: each variant goes its way. Assumes nothing.
-use borrow.Author.Rules.{rules}
+use Rattle.std.proofs.Common.{rules}
 use Rattle.score_outcome.specs.Evaluation.{outcome_of}
 use Rattle.score_outcome.proofs.finding_outcome.Goals as goal
 

@@ -1,5 +1,5 @@
 -- `score_outcome::finding_refusal` meets its contract: each variant goes its way. Assumes nothing.
-use borrow.Author.Rules.{rules}
+use Rattle.std.proofs.Common.{rules}
 use Rattle.score_outcome.specs.Evaluation.{finding_refusal}
 use Rattle.score_outcome.proofs.finding_refusal.Goals as goal
 

@@ -1,6 +1,5 @@
 -- `score_outcome::is_enough` meets its contract: no part is above what it is a share of, so no product wraps. Assumes nothing.
-use Prim.Native.Nat.{◌*◌, ◌/◌, ◌%◌, ◌≤◌}
-use native.Mathlib.Omega.{arith}
+use Rattle.std.proofs.Common.{◌*◌, ◌/◌, ◌%◌, ◌≤◌, arith}
 use Rattle.score_outcome.specs.Share.{above_all, hundreds_most, rest_most, by_hundreds}
 use Rattle.score_outcome.proofs.is_enough.Goals as goal
 

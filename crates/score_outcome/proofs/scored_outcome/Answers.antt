@@ -1,7 +1,6 @@
 -- `score_outcome::scored_outcome` meets its contract. Assumes nothing.
-use mathlib.Core.Path.{sym, ap, ◌∙◌}
-use borrow.Author.Rules.{rules}
-use lib.Ieee.{is_nan}
+use Rattle.std.proofs.Common.{sym, ap, ◌∙◌}
+use Rattle.std.specs.Float.Ieee.{is_nan}
 use Rattle.float.specs.Order.{ne_self}
 use Rattle.score_outcome.specs.Evaluation.{scored_as}
 use Rattle.score_outcome.proofs.scored_outcome.Goals as goal

@@ -1,7 +1,5 @@
 -- `score_outcome::solved_refusal` meets its contract: each test of the code is the definition's, in its order. Assumes nothing.
-use mathlib.Core.Path.{sym, ◌∙◌}
-use borrow.Author.Rules.{rules}
-use borrow.Author.Tests.{lt-ltb, le-ltb, eq-eqb, ne_eqb}
+use Rattle.std.proofs.Common.{sym, ◌∙◌, lt-ltb, le-ltb, eq-eqb, ne_eqb}
 use Rattle.score_outcome.specs.Evaluation.{solved_refusal}
 use Rattle.score_outcome.proofs.solved_refusal.Goals as goal
 

@@ -1,5 +1,4 @@
 -- `score_outcome::trig_of` meets its contract. Assumes nothing.
-use borrow.Author.Rules.{rules}
 use Rattle.score_outcome.specs.Evaluation.{trig_of}
 use Rattle.score_outcome.proofs.trig_of.Goals as goal
 

@@ -1,6 +1,5 @@
 -- `score_rows::add_error` meets its contract: its test is the definition's. Assumes nothing.
 use Rattle.score_rows.specs.Steps.{add_error}
-use Rattle.std.proofs.Common.{rules}
 use Rattle.score_rows.proofs.add_error.Goals as goal
 
 pub returns-then-counted : goal.returns-then-counted

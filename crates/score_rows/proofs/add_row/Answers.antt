@@ -1,5 +1,5 @@
 -- `score_rows::add_row` meets its contract: its tests are the definition's. Assumes nothing.
-use Rattle.std.proofs.Common.{sym, rules, ne_eqb}
+use Rattle.std.proofs.Common.{sym, ne_eqb}
 use Rattle.score_rows.specs.Steps.{add_error, add_row}
 use Rattle.score_rows.proofs.add_row.Goals as goal
 

@@ -1,6 +1,5 @@
--- `score_rows::add_rows` meets its contract. The loop's invariant: the sum and count have the first j of the rows.
--- The measure is what is left of them. Assumes nothing.
-use Rattle.std.proofs.Common.{◌≡◌, ◌+◌, ◌-◌, ◌≤◌, refl, ap, ◌∙◌, add-one, arith, rules}
+-- `score_rows::add_rows` meets its contract. Assumes nothing.
+use Rattle.std.proofs.Common.{◌≡◌, ◌+◌, refl, ap, ◌∙◌, add-one, arith}
 use Rattle.score_rows.specs.Steps.{add_row, add_rows}
 use Rattle.score_rows.specs.declared.ErrorSum.{ErrorSum}
 use Rattle.score_rows.proofs.add_rows.Goals as goal

@@ -1,8 +1,6 @@
--- `score_rows::add_rows` meets its contract. The loop's invariant: the sum and count have the first j of the rows.
--- The measure is what is left of them. Assumes nothing.
-use Rattle.std.proofs.Common.{◌≡◌, ◌+◌, ◌-◌, ◌≤◌, refl, ap, ◌∙◌, add-one, arith, rules}
-use Rattle.score_rows.specs.Steps.{add_row, add_rows}
-use Rattle.score_rows.specs.declared.ErrorSum.{ErrorSum}
+-- `score_rows::add_rows`: the loop's invariant: the sum and count have the first j of the rows. The measure is what is left of them.
+use Rattle.std.proofs.Common.{◌≡◌, ◌-◌, ◌≤◌}
+use Rattle.score_rows.specs.Steps.{add_rows}
 use Rattle.score_rows.proofs.add_rows.Given as goal
 
 abbrev pub invariant-loop-j : goal.invariant-loop-j

@@ -1,5 +1,5 @@
 -- `score_rows::mean_of_rows` meets its contract: matrix, sum and mean are the definition's. Assumes nothing.
-use Rattle.std.proofs.Common.{ap, ◌∙◌, rules}
+use Rattle.std.proofs.Common.{ap, ◌∙◌}
 use Rattle.camera_tilt.specs.Matrix.{Matrix}
 use Rattle.score_rows.specs.Rows.{rows_of, error_sum, mean_of}
 use Rattle.score_rows.proofs.mean_of_rows.Goals as goal

@@ -1,5 +1,5 @@
 -- `score_rows::mean_reproj_error` meets its contract: the test of the count is the definition's. Assumes nothing.
-use Rattle.std.proofs.Common.{rules, eq-eqb, ne_eqb}
+use Rattle.std.proofs.Common.{eq-eqb, ne_eqb}
 use Rattle.score_rows.specs.Rows.{mean_of}
 use Rattle.score_rows.proofs.mean_reproj_error.Goals as goal
 

@@ -1,5 +1,5 @@
 -- `score_rows::project_point` meets its contract: its operations are the definition's. Assumes nothing.
-use Rattle.std.proofs.Common.{ap, ◌∙◌, rules}
+use Rattle.std.proofs.Common.{ap, ◌∙◌}
 use Rattle.camera_models.specs.Intrinsics.{sensor_to_pixel}
 use Rattle.camera_tilt.specs.Sensor.{apply_homography}
 use Rattle.score_rows.specs.Rows.{projected}

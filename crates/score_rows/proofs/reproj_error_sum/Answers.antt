@@ -1,7 +1,7 @@
--- `score_rows::reproj_error_sum` meets its contract: all rows are joined in their order. The loop's invariant: the sum and count have
--- the first i rows. The measure is what is left of them. Assumes nothing.
-use Rattle.std.proofs.Common.{◌≡◌, ◌+◌, ◌-◌, ◌≤◌, refl, ap, ◌∙◌, add-one, arith, rules}
-use Rattle.score_rows.specs.Steps.{add_row, add_rows, all_rows}
+-- `score_rows::reproj_error_sum` meets its contract: all rows are joined in their order. Assumes nothing.
+use Rattle.std.proofs.Common.{◌≡◌, ◌+◌, refl, ap, ◌∙◌, add-one, arith}
+use Rattle.score_rows.specs.Steps.{add_row, add_rows}
+use Rattle.score_rows.proofs.Steps.{all_rows}
 use Rattle.score_rows.specs.declared.ErrorSum.{ErrorSum}
 use Rattle.score_rows.proofs.reproj_error_sum.Goals as goal
 

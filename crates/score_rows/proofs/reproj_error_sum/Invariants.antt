@@ -1,8 +1,6 @@
--- `score_rows::reproj_error_sum` meets its contract: all rows are joined in their order. The loop's invariant: the sum and count have
--- the first i rows. The measure is what is left of them. Assumes nothing.
-use Rattle.std.proofs.Common.{◌≡◌, ◌+◌, ◌-◌, ◌≤◌, refl, ap, ◌∙◌, add-one, arith, rules}
-use Rattle.score_rows.specs.Steps.{add_row, add_rows, all_rows}
-use Rattle.score_rows.specs.declared.ErrorSum.{ErrorSum}
+-- `score_rows::reproj_error_sum`: the loop's invariant: the sum and count have the first i rows. The measure is what is left of them.
+use Rattle.std.proofs.Common.{◌≡◌, ◌-◌, ◌≤◌}
+use Rattle.score_rows.specs.Steps.{add_rows}
 use Rattle.score_rows.proofs.reproj_error_sum.Given as goal
 
 abbrev pub invariant-loop-i : goal.invariant-loop-i

@@ -1,6 +1,6 @@
 -- `score_rows::row_count` meets its contract: there are as many rows as fours of numbers or as flags, whichever are fewer. Assumes nothing.
 use Rattle.std.proofs.Common.{◌/◌, length, sym, arith}
-use Rattle.score_rows.specs.Steps.{rows_by_flags, rows_by_fours}
+use Rattle.score_rows.proofs.Steps.{rows_by_flags, rows_by_fours}
 use Rattle.score_rows.proofs.row_count.Goals as goal
 
 pub returns-then-fours-flags : goal.returns-then-fours-flags

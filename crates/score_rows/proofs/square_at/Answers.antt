@@ -1,6 +1,5 @@
 -- `score_rows::square_at` meets its contract: its two points stand where the row has them. Assumes nothing.
 use Rattle.score_rows.specs.Steps.{square_at}
-use Rattle.std.proofs.Common.{rules}
 use Rattle.score_rows.proofs.square_at.Goals as goal
 
 pub returns : goal.returns

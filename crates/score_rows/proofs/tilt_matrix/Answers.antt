@@ -1,5 +1,4 @@
 -- `score_rows::tilt_matrix` meets its contract: its operations are the definition's. Assumes nothing.
-use Rattle.std.proofs.Common.{rules}
 use Rattle.score_rows.specs.Rows.{tilt_matrix}
 use Rattle.score_rows.proofs.tilt_matrix.Goals as goal
 

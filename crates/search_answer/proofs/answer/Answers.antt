@@ -1,7 +1,5 @@
 -- `search_answer::answer` meets its contract. Assumes nothing.
-use mathlib.Core.Path.{sym, ◌∙◌}
-use borrow.Author.Rules.{rules}
-use borrow.Author.Tests.{ne_eqb}
+use Rattle.std.proofs.Common.{sym, ◌∙◌, ne_eqb}
 use Rattle.search_answer.specs.Answer.{answer_def}
 use Rattle.search_answer.specs.AnswerLaws.{answer_passed}
 use Rattle.search_answer.proofs.answer.Goals as goal

@@ -1,9 +1,6 @@
 -- `search_answer::answer_refusal` meets its contract: what is left after the run's own refusals is the finding's. Assumes nothing.
-use mathlib.Core.Path.{sym, ◌∙◌}
-use borrow.Author.Rules.{rules}
-use borrow.Author.Tests.{lt-ltb, le-ltb}
+use Rattle.std.proofs.Common.{sym, ◌∙◌, lt-ltb, le-ltb, ap, not}
 use Rattle.search_answer.specs.AnswerLaws.{unless_zero}
-use Rattle.std.proofs.Common.{ap, not}
 use Rattle.search_answer.proofs.answer_refusal.Goals as goal
 
 pub returns-then-not-is_sound-run : goal.returns-then-not-is_sound-run

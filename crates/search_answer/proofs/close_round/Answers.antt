@@ -1,10 +1,6 @@
--- `search_answer::close_round` meets its contract. The loop's invariant: closing the round from here is closing it from the start. Assumes nothing.
-use mathlib.Core.Path.{◌≡◌, refl, sym, ap, ◌∙◌}
-use Prim.Native.Nat.{◌-◌, ◌≤◌}
-use native.Mathlib.Omega.{arith}
-use borrow.Author.Rules.{rules}
+-- `search_answer::close_round` meets its contract. Assumes nothing.
+use Rattle.std.proofs.Common.{◌≡◌, refl, sym, ap, ◌∙◌, ◌-◌, arith}
 use borrow.Author.Tests.{not-true, not-false}
-use lib.ListN.{length}
 use Rattle.search_record.specs.Record.{ended}
 use Rattle.search_answer.specs.Answer.{Left, left, close_round}
 use Rattle.search_answer.specs.AnswerLaws.{close_last, close_none, close_open, close_empty, opened_rounds, next_seeds_are}

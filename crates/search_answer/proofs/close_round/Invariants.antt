@@ -1,14 +1,6 @@
--- `search_answer::close_round` meets its contract. The loop's invariant: closing the round from here is closing it from the start. Assumes nothing.
-use mathlib.Core.Path.{◌≡◌, refl, sym, ap, ◌∙◌}
-use mathlib.Core.Logic.{⊎_elim}
-use Prim.Native.Nat.{◌-◌, ◌≤◌}
-use native.Mathlib.Omega.{arith}
-use borrow.Author.Rules.{rules}
-use borrow.Author.Tests.{not-true, not-false}
-use lib.ListN.{length}
-use Rattle.search_record.specs.Record.{ended}
-use Rattle.search_answer.specs.Answer.{Left, left, close_round}
-use Rattle.search_answer.specs.AnswerLaws.{close_last, close_none, close_open, close_empty, opened_rounds, next_seeds_are}
+-- `search_answer::close_round`: the loop's invariant: closing the round from here is closing it from the start.
+use Rattle.std.proofs.Common.{◌≡◌, ◌-◌, ◌≤◌, length}
+use Rattle.search_answer.specs.Answer.{close_round}
 use Rattle.search_answer.proofs.close_round.Given as goal
 
 abbrev pub invariant-loop-run : goal.invariant-loop-run

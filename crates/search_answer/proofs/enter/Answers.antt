@@ -1,7 +1,5 @@
 -- `search_answer::enter` meets its contract: the round goes on, or its end is closed. Assumes nothing.
-use mathlib.Core.Path.{sym, ap, ◌∙◌}
-use native.Mathlib.Nat.{lt_of_lt_of_le, le_trans}
-use borrow.Author.Rules.{rules}
+use Rattle.std.proofs.Common.{sym, ap, ◌∙◌, lt_of_lt_of_le, le_trans}
 use Rattle.search_answer.specs.Answer.{Left}
 use Rattle.search_record.specs.Laws.{bounds, waiting_at}
 use Rattle.search_answer.specs.AnswerLaws.{enter_goes_on, enter_closes, entered_rounds}

@@ -1,5 +1,4 @@
 -- `search_answer::next_seeds` meets its contract: the lists of offsets are the definition's, for one axis and for two. Assumes nothing.
-use borrow.Author.Rules.{rules}
 use Rattle.seed_rules.specs.Rules.{offsets, y_offsets}
 use Rattle.search_answer.proofs.next_seeds.Goals as goal
 

@@ -1,5 +1,4 @@
 -- `search_answer::outcome_for` meets its contract. Assumes nothing.
-use borrow.Author.Rules.{rules}
 use Rattle.search_answer.specs.Answer.{outcome_for}
 use Rattle.search_answer.proofs.outcome_for.Goals as goal
 

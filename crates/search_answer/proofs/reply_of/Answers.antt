@@ -1,5 +1,4 @@
 -- `search_answer::reply_of` meets its contract. Assumes nothing.
-use borrow.Author.Rules.{rules}
 use Rattle.search_answer.proofs.reply_of.Goals as goal
 
 pub returns-in-Skipped : goal.returns-in-Skipped

@@ -1,14 +1,7 @@
--- `search_start::all_finite` meets its contract. The loop's invariant: the test from place i on is the whole test. Assumes nothing.
-use mathlib.Core.Path.{◌≡◌, sym, ◌∙◌}
-use Prim.Native.Nat.{suc, ◌≤◌, ◌-◌}
-use native.Mathlib.Numerals.{add-one}
-use borrow.Author.Rules.{rules}
-use borrow.Author.Tests.{not-true, not-false}
-use lib.ListN.{length, get_or, drop}
-use lib.Seq.{drop-cons}
-use lib.Ieee.{nan}
+-- `search_start::all_finite` meets its contract. Assumes nothing.
+use Rattle.std.proofs.Common.{sym, ◌∙◌, suc, add-one, rules, get_or, drop, drop-cons}
+use Rattle.std.specs.Float.{nan}
 use Rattle.common.specs.All.{every_here, every_next, every_end}
-use Rattle.common.specs.Each.{every}
 use Rattle.float.specs.Float.{is_finite}
 use Rattle.search_start.proofs.all_finite.Goals as goal
 

@@ -1,17 +1,7 @@
--- `search_start::all_untilted_seeds` meets its contract. The loop's invariant: the test from place i on is the whole test. Assumes nothing.
-use mathlib.Core.Path.{◌≡◌, refl, sym, ap, ◌∙◌}
-use mathlib.Core.Bool.{true, false}
-use Prim.Native.Nat.{suc, ◌*◌, ◌/◌, ◌≤◌, ◌-◌}
-use native.Mathlib.Nat.{div-mul-le_self}
-use native.Mathlib.Numerals.{add-one}
-use native.Mathlib.Omega.{arith}
-use borrow.Author.Rules.{rules}
-use borrow.Author.Tests.{not-true, not-false}
-use lib.ListN.{length, drop}
-use Rattle.common.specs.All.{every_here, every_next, every_end}
+-- `search_start::all_untilted_seeds`: the loop's invariant: the test from place i on is the whole test.
+use Rattle.std.proofs.Common.{◌≡◌, ◌*◌, ◌/◌, ◌≤◌, ◌-◌, length, drop}
 use Rattle.common.specs.Each.{every}
-use Rattle.seed_rules.specs.Layout.{seed_at, seeds_of}
-use Rattle.seed_rules.specs.LayoutLaws.{read_length, seeds_drop}
+use Rattle.seed_rules.specs.Layout.{seeds_of}
 use Rattle.search_start.specs.Start.{untilted_seed}
 use Rattle.search_start.proofs.all_untilted_seeds.Given as goal
 

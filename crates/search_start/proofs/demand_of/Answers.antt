@@ -1,8 +1,5 @@
 -- `search_start::demand_of` meets its contract: a product of two numbers up to 16 is at most 256. Assumes nothing.
-use Prim.Native.Nat.{◌*◌, ◌≤◌}
-use native.Mathlib.Nat.{mul-le-mul}
-use native.Mathlib.Omega.{arith}
-use borrow.Author.Tests.{lt-ltb, le-ltb}
+use Rattle.std.proofs.Common.{◌*◌, ◌≤◌, mul-le-mul, arith, lt-ltb, le-ltb}
 use Rattle.search_start.specs.Start.{demand_of}
 use Rattle.search_start.proofs.demand_of.Goals as goal
 

@@ -1,5 +1,4 @@
 -- `search_start::further_refusal` meets its contract: each answer with the test that led to it. Assumes nothing.
-use borrow.Author.Rules.{rules}
 use Rattle.search_start.proofs.further_refusal.Goals as goal
 
 pub returns-then-options : goal.returns-then-options

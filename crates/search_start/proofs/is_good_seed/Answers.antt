@@ -1,5 +1,4 @@
 -- `search_start::is_good_seed` meets its contract. Assumes nothing.
-use borrow.Author.Rules.{rules}
 use Rattle.search_start.specs.Start.{good_seed}
 use Rattle.search_start.proofs.is_good_seed.Goals as goal
 

@@ -1,6 +1,5 @@
 -- `search_start::is_only_zero` meets its contract. Assumes nothing.
-use borrow.Author.Rules.{rules}
-use borrow.Author.Tests.{eq-eqb, ne_eqb}
+use Rattle.std.proofs.Common.{eq-eqb, ne_eqb}
 use Rattle.search_start.specs.Start.{only_zero}
 use Rattle.search_start.proofs.is_only_zero.Goals as goal
 

@@ -1,5 +1,4 @@
 -- `search_start::is_positive` meets its contract. Assumes nothing.
-use borrow.Author.Rules.{rules}
 use Rattle.search_start.proofs.is_positive.Goals as goal
 
 pub returns : goal.returns

@@ -1,5 +1,5 @@
 -- `search_start::is_too_many` meets its contract. Assumes nothing.
-use mathlib.Core.Path.{refl}
+use Rattle.std.proofs.Common.{refl}
 use Rattle.search_start.specs.Start.{too_many}
 use Rattle.search_start.proofs.is_too_many.Goals as goal
 

@@ -1,5 +1,5 @@
 -- `search_start::is_untilted_seed` meets its contract. Assumes nothing.
-use mathlib.Core.Path.{refl}
+use Rattle.std.proofs.Common.{refl}
 use Rattle.seed_rules.specs.Rules.{untilted_y}
 use Rattle.search_start.proofs.is_untilted_seed.Goals as goal
 

@@ -1,7 +1,5 @@
 -- `search_start::last_refusal` meets its contract: each answer with the tests that led to it. Assumes nothing.
-use mathlib.Core.Path.{sym}
-use borrow.Author.Rules.{rules}
-use borrow.Author.Tests.{lt-ltb, le-ltb}
+use Rattle.std.proofs.Common.{sym, lt-ltb, le-ltb}
 use Rattle.search_start.proofs.last_refusal.Goals as goal
 
 pub returns-then-options-is_only_zero : goal.returns-then-options-is_only_zero

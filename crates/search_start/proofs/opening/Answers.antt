@@ -1,5 +1,4 @@
 -- `search_start::opening` meets its contract. Assumes nothing.
-use borrow.Author.Rules.{rules}
 use Rattle.search_start.specs.Start.{opening_of}
 use Rattle.search_start.proofs.opening.Goals as goal
 

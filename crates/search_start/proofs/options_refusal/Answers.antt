@@ -1,7 +1,5 @@
 -- `search_start::options_refusal` meets its contract: each answer goes with the tests that led to it. Assumes nothing.
-use mathlib.Core.Path.{sym, ◌∙◌}
-use borrow.Author.Rules.{rules}
-use borrow.Author.Tests.{lt-ltb, le-ltb, not-true, not-false}
+use Rattle.std.proofs.Common.{sym, ◌∙◌, lt-ltb, le-ltb}
 use Rattle.search_start.proofs.options_refusal.Goals as goal
 
 pub returns-then-views-lt3 : goal.returns-then-views-lt3

@@ -1,8 +1,5 @@
 -- `search_start::start` meets its contract: the list is long enough where no refusal holds. Assumes nothing.
-use mathlib.Core.Path.{sym, ◌∙◌}
-use native.Mathlib.Nat.{le_trans}
-use borrow.Author.Rules.{rules}
-use borrow.Author.Tests.{ne_eqb}
+use Rattle.std.proofs.Common.{sym, ◌∙◌, le_trans, ne_eqb}
 use Rattle.search_start.specs.Start.{start_reply, start_list}
 use Rattle.search_start.specs.StartLaws.{start_passed, demand_covers}
 use Rattle.search_start.proofs.start.Goals as goal

@@ -1,9 +1,6 @@
 -- `search_start::start_refusal` meets its contract: the refusals of the options, then each answer with the tests that led to it, then the further refusals. Assumes nothing.
-use mathlib.Core.Path.{sym, ◌∙◌}
-use borrow.Author.Rules.{rules}
-use borrow.Author.Tests.{lt-ltb, le-ltb, not-true, not-false}
+use Rattle.std.proofs.Common.{sym, ◌∙◌, lt-ltb, le-ltb, ap, not}
 use Rattle.search_start.specs.StartLaws.{options_refused, options_passed, sizes_fit}
-use Rattle.std.proofs.Common.{ap, not}
 use Rattle.search_start.proofs.start_refusal.Goals as goal
 
 pub returns-then-number-ne0 : goal.returns-then-number-ne0

@@ -1,17 +1,11 @@
 -- `seed_grids::initial_seed_grid` meets its contract: what the three lists leave, one after the other. Assumes nothing.
-use mathlib.Core.Path.{◌≡◌}
-use mathlib.Core.List.{[], ◌++◌, map}
-use Prim.Native.Nat.{◌+◌, ◌*◌, ◌/◌, ◌≤◌}
-use native.Mathlib.Nat.{mul-le-mul}
-use native.Mathlib.Omega.{arith}
-use lib.ListN.{length}
+use Rattle.std.proofs.Common.{◌≡◌, [], ◌++◌, map, ◌+◌, ◌*◌, ◌/◌, ◌≤◌, mul-le-mul, arith, length, rules}
 use Rattle.seed_rules.specs.Layout.{six, seed_at, all_seeds, tilts_of}
 use Rattle.seed_rules.specs.LayoutLaws.{seeds_layout, tilts_layout, read_length}
-use Rattle.seed_rules.specs.MergeLaws.{merged_length}
+use Rattle.seed_rules.proofs.MergeLaws.{merged_length}
 use Rattle.seed_rules.specs.Rules.{near, seed_with, seed_grid, initial_list}
-use Rattle.seed_rules.specs.RulesLaws.{grid_length}
-use Rattle.seed_rules.specs.Steps.{Merging, leaves_read, merging_more}
-use borrow.Author.Rules.{rules}
+use Rattle.seed_rules.proofs.RulesLaws.{grid_length}
+use Rattle.seed_rules.proofs.Steps.{Merging, leaves_read, merging_more}
 use Rattle.seed_grids.proofs.initial_seed_grid.Goals as goal
 
 pub seed_grid-number-requires : goal.seed_grid-number-requires

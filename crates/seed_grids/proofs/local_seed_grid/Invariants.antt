@@ -1,21 +1,8 @@
--- `seed_grids::local_seed_grid` meets its contract. The loop's invariant: the first i x offsets have been offered with every y offset. Assumes nothing.
-use mathlib.Core.Path.{◌≡◌, ◌∙◌}
-use mathlib.Core.List.{[], map}
-use Prim.Native.Nat.{suc, ◌*◌, ◌≤◌, ◌-◌}
-use native.Mathlib.Nat.{mul-le-mul_right, suc-mul, zero-mul}
-use native.Mathlib.Numerals.{add-one}
-use native.Mathlib.Omega.{arith}
-use borrow.Author.Rules.{rules}
-use lib.ListN.{length, get_or, take, length-map}
-use lib.Seq.{take_all}
-use lib.Ieee.{nan}
-use Rattle.float.specs.Binary64.{◌+₆₄◌}
-use Rattle.seed_rules.specs.Layout.{six, read_from}
-use Rattle.seed_rules.specs.LayoutLaws.{seeds_layout}
-use Rattle.seed_rules.specs.Merge.{keep}
-use Rattle.seed_rules.specs.Rules.{near, tilts, pairs, moved, seeds_within, next_list}
-use Rattle.seed_rules.specs.RulesLaws.{within_length, local_grid_more}
-use Rattle.seed_rules.specs.Steps.{Merging, merging_start, merging_more}
+-- `seed_grids::local_seed_grid`: the loop's invariant: the first i x offsets have been offered with every y offset.
+use Rattle.std.proofs.Common.{[], ◌*◌, ◌≤◌, ◌-◌, length, take}
+use Rattle.seed_rules.specs.Layout.{six}
+use Rattle.seed_rules.specs.Rules.{near, pairs, moved, seeds_within}
+use Rattle.seed_rules.proofs.Steps.{Merging}
 use Rattle.seed_grids.proofs.local_seed_grid.Given as goal
 
 abbrev pub invariant-loop-i : goal.invariant-loop-i

@@ -1,18 +1,11 @@
--- `seed_grids::push_decomposition` meets its contract. The loop's invariant: the first i seeds have been offered. Assumes nothing.
-use mathlib.Core.Path.{◌≡◌, sym, ap, ◌∙◌}
-use mathlib.Core.List.{[], ◌∷◌, ◌++◌}
-use Prim.Native.Nat.{suc, ◌/◌, ◌≤◌, ◌-◌}
-use native.Mathlib.Numerals.{add-one}
-use native.Mathlib.Omega.{arith}
-use borrow.Author.Rules.{rules}
-use lib.ListN.{length, take}
-use lib.Seq.{take_all}
+-- `seed_grids::push_decomposition` meets its contract. Assumes nothing.
+use Rattle.std.proofs.Common.{◌≡◌, sym, ap, ◌∙◌, [], ◌∷◌, ◌++◌, suc, ◌/◌, add-one, arith, rules, length, take, take_all}
 use Rattle.seed_rules.specs.declared.CandidateSeed.{CandidateSeed}
-use Rattle.seed_rules.specs.Layout.{six, seeds_of, all_seeds, read_from}
+use Rattle.seed_rules.specs.Layout.{seeds_of, all_seeds, read_from}
 use Rattle.seed_rules.specs.LayoutLaws.{seeds_layout, seeds_take, read_length}
 use Rattle.seed_rules.specs.Merge.{merged_into}
 use Rattle.seed_rules.specs.Rules.{near}
-use Rattle.seed_rules.specs.Steps.{Merging, merging_start, merging_more}
+use Rattle.seed_rules.proofs.Steps.{merging_start, merging_more}
 use Rattle.seed_grids.proofs.push_decomposition.Goals as goal
 
 pub loop-i-init : goal.loop-i-init

@@ -1,19 +1,12 @@
--- `seed_grids::push_grid` meets its contract. The loop's invariant: the first i pairs of tilts have been offered, with the camera. Assumes nothing.
-use mathlib.Core.Path.{◌≡◌, sym, ap, ◌∙◌}
-use mathlib.Core.List.{[], ◌∷◌, ◌++◌, map, map-append}
-use Prim.Native.Nat.{suc, ◌+◌, ◌≤◌, ◌-◌}
-use native.Mathlib.Nat.{add-zero}
-use native.Mathlib.Numerals.{add-one}
-use native.Mathlib.Omega.{arith}
-use borrow.Author.Rules.{rules}
-use lib.ListN.{take}
-use lib.Seq.{take_all}
+-- `seed_grids::push_grid` meets its contract. Assumes nothing.
+use Rattle.std.proofs.Common.{◌≡◌, sym, ap, ◌∙◌, [], ◌∷◌, ◌++◌, map, suc, ◌+◌, add-zero, add-one, arith, rules, take, take_all}
+use mathlib.Core.List.{map-append}
 use Rattle.camera_tilt.specs.declared.sensor.ScheimpflugParams.{ScheimpflugParams}
-use Rattle.seed_rules.specs.Layout.{six, seeds_of, tilts_at, tilts_of}
+use Rattle.seed_rules.specs.Layout.{seeds_of, tilts_at, tilts_of}
 use Rattle.seed_rules.specs.LayoutLaws.{seeds_layout, tilts_take, read_length}
 use Rattle.seed_rules.specs.Merge.{merged_into}
 use Rattle.seed_rules.specs.Rules.{near, seed_with}
-use Rattle.seed_rules.specs.Steps.{Merging, merging_start, merging_more}
+use Rattle.seed_rules.proofs.Steps.{merging_start, merging_more}
 use Rattle.seed_grids.proofs.push_grid.Goals as goal
 
 pub loop-i-init : goal.loop-i-init

@@ -1,21 +1,13 @@
--- `seed_grids::seed_row` meets its contract. The loop's invariant: the first j of the y tilts have been offered. Assumes nothing.
-use mathlib.Core.Path.{◌≡◌}
-use mathlib.Core.List.{[], ◌∷◌, map}
-use Prim.Native.Nat.{suc, ◌+◌, ◌≤◌, ◌-◌}
-use native.Mathlib.Nat.{add-zero}
-use native.Mathlib.Numerals.{add-one}
-use native.Mathlib.Omega.{arith}
-use borrow.Author.Rules.{rules}
-use lib.ListN.{length, get_or, take}
-use lib.Seq.{take_all}
-use lib.Ieee.{nan}
-use Rattle.seed_rules.specs.Layout.{two, tilts_of}
+-- `seed_grids::seed_row` meets its contract. Assumes nothing.
+use Rattle.std.proofs.Common.{◌≡◌, [], ◌∷◌, map, suc, ◌+◌, add-zero, add-one, arith, rules, get_or, take, take_all}
+use Rattle.std.specs.Float.{nan}
+use Rattle.seed_rules.specs.Layout.{tilts_of}
 use Rattle.seed_rules.specs.LayoutLaws.{tilts_layout}
 use Rattle.seed_rules.specs.Merge.{keep}
-use Rattle.seed_rules.specs.MergeLaws.{keep_length}
+use Rattle.seed_rules.proofs.MergeLaws.{keep_length}
 use Rattle.seed_rules.specs.Rules.{tilt_near, in_bound, tilts}
-use Rattle.seed_rules.specs.RulesLaws.{row_more}
-use Rattle.seed_rules.specs.Steps.{Merging, merging_start, merging_more}
+use Rattle.seed_rules.proofs.RulesLaws.{row_more}
+use Rattle.seed_rules.proofs.Steps.{merging_start, merging_more}
 use Rattle.seed_grids.proofs.seed_row.Goals as goal
 
 pub loop-j-init : goal.loop-j-init

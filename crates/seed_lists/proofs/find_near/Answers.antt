@@ -1,16 +1,11 @@
--- `seed_lists::find_near` meets its contract. The loop's invariant: among the first `left` seeds the search finds what it finds among all. Assumes nothing.
-use mathlib.Core.Path.{◌≡◌, sym, ap, ◌∙◌}
-use mathlib.Core.List.{List}
-use Prim.Native.Nat.{◌≤◌, ◌-◌}
-use borrow.Author.Rules.{rules}
-use lib.ListN.{take}
-use lib.Seq.{take_all}
+-- `seed_lists::find_near` meets its contract. Assumes nothing.
+use Rattle.std.proofs.Common.{sym, ap, ◌∙◌, List, ◌-◌, rules, take_all}
 use Rattle.seed_rules.specs.declared.CandidateSeed.{CandidateSeed}
 use Rattle.seed_rules.specs.Layout.{seed_at, seeds_of}
 use Rattle.seed_rules.specs.LayoutLaws.{read_length, seeds_take}
 use Rattle.seed_rules.specs.Merge.{newest_near}
 use Rattle.seed_rules.specs.Rules.{near}
-use Rattle.seed_rules.specs.Steps.{found_here, found_before, found_none}
+use Rattle.seed_rules.proofs.Steps.{found_here, found_before, found_none}
 use Rattle.seed_lists.proofs.find_near.Goals as goal
 
 pub loop-seeds_left-init : goal.loop-seeds_left-init

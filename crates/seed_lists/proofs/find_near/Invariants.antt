@@ -1,16 +1,8 @@
--- `seed_lists::find_near` meets its contract. The loop's invariant: among the first `left` seeds the search finds what it finds among all. Assumes nothing.
-use mathlib.Core.Path.{◌≡◌, sym, ap, ◌∙◌}
-use mathlib.Core.List.{List}
-use Prim.Native.Nat.{◌≤◌, ◌-◌}
-use borrow.Author.Rules.{rules}
-use lib.ListN.{take}
-use lib.Seq.{take_all}
-use Rattle.seed_rules.specs.declared.CandidateSeed.{CandidateSeed}
-use Rattle.seed_rules.specs.Layout.{seed_at, seeds_of}
-use Rattle.seed_rules.specs.LayoutLaws.{read_length, seeds_take}
+-- `seed_lists::find_near`: the loop's invariant: among the first `left` seeds the search finds what it finds among all.
+use Rattle.std.proofs.Common.{◌≡◌, ◌≤◌, take}
+use Rattle.seed_rules.specs.Layout.{seeds_of}
 use Rattle.seed_rules.specs.Merge.{newest_near}
 use Rattle.seed_rules.specs.Rules.{near}
-use Rattle.seed_rules.specs.Steps.{found_here, found_before, found_none}
 use Rattle.seed_lists.proofs.find_near.Given as goal
 
 abbrev pub invariant-loop-seeds_left : goal.invariant-loop-seeds_left

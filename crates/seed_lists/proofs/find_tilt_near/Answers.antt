@@ -1,16 +1,11 @@
--- `seed_lists::find_tilt_near` meets its contract. The loop's invariant: among the first `left` tilts the search finds what it finds among all. Assumes nothing.
-use mathlib.Core.Path.{◌≡◌, sym, ap, ◌∙◌}
-use mathlib.Core.List.{List}
-use Prim.Native.Nat.{◌≤◌, ◌-◌}
-use borrow.Author.Rules.{rules}
-use lib.ListN.{take}
-use lib.Seq.{take_all}
+-- `seed_lists::find_tilt_near` meets its contract. Assumes nothing.
+use Rattle.std.proofs.Common.{sym, ap, ◌∙◌, List, ◌-◌, rules, take_all}
 use Rattle.camera_tilt.specs.declared.sensor.ScheimpflugParams.{ScheimpflugParams}
 use Rattle.seed_rules.specs.Layout.{tilts_at, tilts_of}
 use Rattle.seed_rules.specs.LayoutLaws.{read_length, tilts_take}
 use Rattle.seed_rules.specs.Merge.{newest_near}
 use Rattle.seed_rules.specs.Rules.{tilt_near}
-use Rattle.seed_rules.specs.Steps.{found_here, found_before, found_none}
+use Rattle.seed_rules.proofs.Steps.{found_here, found_before, found_none}
 use Rattle.seed_lists.proofs.find_tilt_near.Goals as goal
 
 pub loop-tilts_left-init : goal.loop-tilts_left-init

@@ -1,16 +1,8 @@
--- `seed_lists::find_tilt_near` meets its contract. The loop's invariant: among the first `left` tilts the search finds what it finds among all. Assumes nothing.
-use mathlib.Core.Path.{◌≡◌, sym, ap, ◌∙◌}
-use mathlib.Core.List.{List}
-use Prim.Native.Nat.{◌≤◌, ◌-◌}
-use borrow.Author.Rules.{rules}
-use lib.ListN.{take}
-use lib.Seq.{take_all}
-use Rattle.camera_tilt.specs.declared.sensor.ScheimpflugParams.{ScheimpflugParams}
-use Rattle.seed_rules.specs.Layout.{tilts_at, tilts_of}
-use Rattle.seed_rules.specs.LayoutLaws.{read_length, tilts_take}
+-- `seed_lists::find_tilt_near`: the loop's invariant: among the first `left` tilts the search finds what it finds among all.
+use Rattle.std.proofs.Common.{◌≡◌, ◌≤◌, take}
+use Rattle.seed_rules.specs.Layout.{tilts_of}
 use Rattle.seed_rules.specs.Merge.{newest_near}
 use Rattle.seed_rules.specs.Rules.{tilt_near}
-use Rattle.seed_rules.specs.Steps.{found_here, found_before, found_none}
 use Rattle.seed_lists.proofs.find_tilt_near.Given as goal
 
 abbrev pub invariant-loop-tilts_left : goal.invariant-loop-tilts_left

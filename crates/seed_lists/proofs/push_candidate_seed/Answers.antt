@@ -1,10 +1,9 @@
 -- `seed_lists::push_candidate_seed` meets its contract: a seed with a near one among the kept is dropped, any other is stored behind them. Assumes nothing.
-use mathlib.Core.Path.{sym, ap, ◌∙◌}
-use borrow.Author.Rules.{rules}
+use Rattle.std.proofs.Common.{sym, ap, ◌∙◌, rules}
 use Rattle.seed_rules.specs.LayoutLaws.{seeds_layout}
 use Rattle.seed_rules.specs.Merge.{is_found}
 use Rattle.seed_rules.specs.Rules.{near}
-use Rattle.seed_rules.specs.Steps.{push_drops, push_stores}
+use Rattle.seed_rules.proofs.Steps.{push_drops, push_stores}
 use Rattle.seed_lists.proofs.push_candidate_seed.Goals as goal
 
 pub returns-in_default : goal.returns-in_default

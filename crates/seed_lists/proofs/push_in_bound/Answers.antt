@@ -1,10 +1,9 @@
 -- `seed_lists::push_in_bound` meets its contract: a seed within the bound is pushed, any other is dropped. Assumes nothing.
-use mathlib.Core.Path.{sym, ◌∙◌}
-use borrow.Author.Rules.{rules}
+use Rattle.std.proofs.Common.{sym, ◌∙◌, rules}
 use Rattle.seed_rules.specs.LayoutLaws.{seeds_layout}
 use Rattle.seed_rules.specs.Merge.{keep, merged_into}
 use Rattle.seed_rules.specs.Rules.{near}
-use Rattle.seed_rules.specs.Steps.{merging_start}
+use Rattle.seed_rules.proofs.Steps.{merging_start}
 use Rattle.seed_lists.proofs.push_in_bound.Goals as goal
 
 pub returns-then-in_bound : goal.returns-then-in_bound

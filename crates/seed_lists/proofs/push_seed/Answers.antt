@@ -1,12 +1,9 @@
 -- `seed_lists::push_seed` meets its contract: tilts beyond the bound, or with near ones among the kept, are dropped, any others stored behind them. Assumes nothing.
-use mathlib.Core.Path.{◌≡◌, sym, ap, ◌∙◌}
-use mathlib.Core.Bool.{true, false}
-use borrow.Author.Tests.{not-true, not-false}
-use borrow.Author.Rules.{rules}
+use Rattle.std.proofs.Common.{◌≡◌, sym, ap, ◌∙◌, true, false, rules}
 use Rattle.seed_rules.specs.LayoutLaws.{tilts_layout}
 use Rattle.seed_rules.specs.Merge.{is_found, keep, merged_into}
 use Rattle.seed_rules.specs.Rules.{tilt_near, in_bound}
-use Rattle.seed_rules.specs.Steps.{push_drops, push_stores, merging_start}
+use Rattle.seed_rules.proofs.Steps.{push_drops, push_stores, merging_start}
 use Rattle.seed_lists.proofs.push_seed.Goals as goal
 
 pub returns-then-not-in_bound : goal.returns-then-not-in_bound

@@ -1,9 +1,5 @@
 -- `seed_lists::put_seed` meets its contract: six stores in a row. Assumes nothing.
-use mathlib.Core.Path.{◌≡◌}
-use Prim.Native.Nat.{suc, ◌+◌, ◌*◌}
-use native.Mathlib.Omega.{arith}
-use lib.ListN.{length-set}
-use borrow.Author.Rules.{rules}
+use Rattle.std.proofs.Common.{◌≡◌, suc, ◌+◌, ◌*◌, arith, length-set}
 use Rattle.seed_lists.proofs.put_seed.Goals as goal
 
 pub bounds-seeds-at-2 : goal.bounds-seeds-at-2

@@ -1,8 +1,5 @@
 -- `seed_lists::put_tilts` meets its contract: two stores in a row. Assumes nothing.
-use native.Mathlib.Numerals.{add-one}
-use native.Mathlib.Omega.{arith}
-use lib.ListN.{length-set}
-use borrow.Author.Rules.{rules}
+use Rattle.std.proofs.Common.{add-one, arith, length-set}
 use Rattle.seed_lists.proofs.put_tilts.Goals as goal
 
 pub bounds-grid-at-2 : goal.bounds-grid-at-2

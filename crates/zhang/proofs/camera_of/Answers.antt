@@ -1,5 +1,4 @@
 -- `zhang::camera_of` meets its contract: the numbers that it is given are the definition's. Assumes nothing.
-use borrow.Author.Rules.{rules}
 use Rattle.zhang.proofs.camera_of.Goals as goal
 
 pub returns : goal.returns

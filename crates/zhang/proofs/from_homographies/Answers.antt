@@ -1,19 +1,16 @@
 -- `zhang::from_homographies` meets its contract: each test of the code is the definition's. Assumes nothing.
--- the reply, as each way through the tests leaves it
-use mathlib.Core.Path.{◌≡◌, refl}
-use mathlib.Core.Bool.{true, false, not}
+use Rattle.std.proofs.Common.{◌≡◌, refl, true, false, not, Float, ap}
+use Rattle.std.specs.Float.Ieee.{lt, le}
 use borrow.Author.Tests.{not-true, not-false}
-use borrow.Author.Rules.{rules}
-use lib.Ieee.{Float, lt, le}
 use Rattle.float.specs.Binary64.{◌/₆₄◌}
 use Rattle.float.specs.Float.{abs_of}
 use Rattle.float.specs.Literals.{plus_zero}
 use Rattle.zhang.specs.declared.Conic.{Conic}
 use Rattle.zhang.specs.declared.Estimated.TheVariants.{Camera, Refused}
 use Rattle.zhang.specs.Zhang.{definite, from_homographies, least_definite, least_b11, denom, norm, lambda, camera_of}
-use Rattle.std.proofs.Common.{ap}
 use Rattle.zhang.proofs.from_homographies.Goals as goal
 
+-- the reply, as each way through the tests leaves it
 module _ (b : Conic) where
   without_norm : not (lt plus_zero (norm b)) ≡ true → Refused 16 ≡ from_homographies b
   unfolding definite from_homographies

@@ -1,4 +1,4 @@
--- `zhang_plate::known_plate` meets its contract. The loop's invariant: the lowest unit of those that are left, from here on, is the lowest of all. Assumes nothing.
+-- `zhang_plate::known_plate`: the loop's invariant: the lowest unit of those that are left, from here on, is the lowest of all.
 use Rattle.std.proofs.Common.{◌≡◌, ◌-◌, ◌^◌, ◌≤◌, sym, ◌∙◌, arith, rules}
 use Rattle.zhang_plate.specs.Plate.{unit_from}
 use Rattle.zhang_plate.proofs.Turns.{in_range, castable, next_power, stops, goes_on, ends}

@@ -1,7 +1,6 @@
 -- `zhang_plate::times_unit` meets its contract, by the laws of `proofs/WholeNumber.antt`. Assumes nothing.
-use Rattle.std.proofs.Common.{rules}
+use Rattle.std.proofs.Common.{rules, ap, not}
 use Rattle.zhang_plate.proofs.WholeNumber.{too_large, castable, counted, has_fraction, counts}
-use Rattle.std.proofs.Common.{ap, not}
 use Rattle.zhang_plate.proofs.times_unit.Goals as goal
 
 pub returns-then-not-size : goal.returns-then-not-size

@@ -1,5 +1,5 @@
 -- `camera_models::distortion::brown_conrady_terms` meets its contract: the code computes the formulas. Assumes nothing.
-use mathlib.Core.Path.{refl}
+use Rattle.std.proofs.Common.{refl}
 use Rattle.camera_models.specs.Distortion.{radial_factor, tangential_x, tangential_y}
 use Rattle.camera_models.proofs.distortion.brown_conrady_terms.Goals as goal
 

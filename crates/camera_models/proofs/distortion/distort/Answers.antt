@@ -1,5 +1,4 @@
 -- `camera_models::distortion::distort` meets its contract, by that of `brown_conrady_terms`. Assumes nothing.
-use borrow.Author.Rules.{rules}
 use Rattle.camera_models.specs.Distortion.{distorted}
 use Rattle.camera_models.proofs.distortion.distort.Goals as goal
 

@@ -1,5 +1,4 @@
 -- `camera_models::distortion::distort_with_jacobian` meets its contract, by those of `distort` and `jacobian_at`. Assumes nothing.
-use borrow.Author.Rules.{rules}
 use Rattle.camera_models.proofs.distortion.distort_with_jacobian.Goals as goal
 
 pub returns : goal.returns

@@ -1,5 +1,4 @@
 -- `camera_models::distortion::jacobian_at` meets its contract, by that of `radial_tangential_jacobian`. Assumes nothing.
-use borrow.Author.Rules.{rules}
 use Rattle.camera_models.specs.Distortion.{jacobian_radial, radial_derivative, jacobian_at}
 use Rattle.camera_models.proofs.distortion.jacobian_at.Goals as goal
 

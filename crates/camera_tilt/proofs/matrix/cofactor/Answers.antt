@@ -1,6 +1,5 @@
 -- `camera_tilt::matrix::cofactor` meets its contract, by that of `minor`. Assumes nothing.
-use borrow.Author.Tests.{eq-eqb, ne_eqb}
-use borrow.Author.Rules.{rules}
+use Rattle.std.proofs.Common.{eq-eqb, ne_eqb}
 use Rattle.camera_tilt.specs.Matrix.{cofactor_of}
 use Rattle.camera_tilt.proofs.matrix.cofactor.Goals as goal
 

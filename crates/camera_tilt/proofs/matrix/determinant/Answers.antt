@@ -1,5 +1,4 @@
 -- `camera_tilt::matrix::determinant` meets its contract, by that of `expansion_term`. Assumes nothing.
-use borrow.Author.Rules.{rules}
 use Rattle.camera_tilt.specs.Matrix.{determinant_of}
 use Rattle.camera_tilt.proofs.matrix.determinant.Goals as goal
 

@@ -1,5 +1,4 @@
 -- `camera_tilt::matrix::determinant2` meets its contract, by that of `entry`. Assumes nothing.
-use borrow.Author.Rules.{rules}
 use Rattle.camera_tilt.proofs.matrix.determinant2.Goals as goal
 
 pub returns : goal.returns

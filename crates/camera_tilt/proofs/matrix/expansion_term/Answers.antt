@@ -1,5 +1,4 @@
 -- `camera_tilt::matrix::expansion_term` meets its contract, by those of `entry` and `minor`. Assumes nothing.
-use borrow.Author.Rules.{rules}
 use Rattle.camera_tilt.proofs.matrix.expansion_term.Goals as goal
 
 pub returns : goal.returns

@@ -1,6 +1,5 @@
 -- `camera_tilt::matrix::first_other` meets its contract: the test is the definition's. Assumes nothing.
-use borrow.Author.Rules.{rules}
-use borrow.Author.Tests.{eq-eqb, ne_eqb}
+use Rattle.std.proofs.Common.{rules, eq-eqb, ne_eqb}
 use Rattle.camera_tilt.specs.Matrix.{first_other}
 use Rattle.camera_tilt.proofs.matrix.first_other.Goals as goal
 

@@ -1,5 +1,4 @@
 -- `camera_tilt::matrix::inverse` meets its contract, by that of `inverse_row`. Assumes nothing.
-use borrow.Author.Rules.{rules}
 use Rattle.camera_tilt.specs.Matrix.{inverse_of}
 use Rattle.camera_tilt.proofs.matrix.inverse.Goals as goal
 

@@ -1,5 +1,4 @@
 -- `camera_tilt::matrix::inverse_row` meets its contract, by those of `cofactor` and `determinant`. Assumes nothing.
-use borrow.Author.Rules.{rules}
 use Rattle.camera_tilt.proofs.matrix.inverse_row.Goals as goal
 
 pub returns : goal.returns

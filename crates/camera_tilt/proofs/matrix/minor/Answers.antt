@@ -1,5 +1,4 @@
 -- `camera_tilt::matrix::minor` meets its contract, by those of its three callees. Assumes nothing.
-use borrow.Author.Rules.{rules}
 use Rattle.camera_tilt.specs.Matrix.{minor_of}
 use Rattle.camera_tilt.proofs.matrix.minor.Goals as goal
 

@@ -1,5 +1,4 @@
 -- `camera_tilt::matrix::product` meets its contract, by that of `product_row`. Assumes nothing.
-use borrow.Author.Rules.{rules}
 use Rattle.camera_tilt.specs.Matrix.{product_of}
 use Rattle.camera_tilt.proofs.matrix.product.Goals as goal
 

@@ -1,5 +1,4 @@
 -- `camera_tilt::matrix::product_entry` meets its contract, by that of `entry`. Assumes nothing.
-use borrow.Author.Rules.{rules}
 use Rattle.camera_tilt.proofs.matrix.product_entry.Goals as goal
 
 pub returns : goal.returns

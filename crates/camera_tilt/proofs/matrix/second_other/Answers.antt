@@ -1,6 +1,5 @@
 -- `camera_tilt::matrix::second_other` meets its contract: the test is the definition's. Assumes nothing.
-use borrow.Author.Rules.{rules}
-use borrow.Author.Tests.{eq-eqb, ne_eqb}
+use Rattle.std.proofs.Common.{rules, eq-eqb, ne_eqb}
 use Rattle.camera_tilt.specs.Matrix.{second_other}
 use Rattle.camera_tilt.proofs.matrix.second_other.Goals as goal
 

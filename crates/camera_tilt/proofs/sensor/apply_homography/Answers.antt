@@ -1,5 +1,4 @@
 -- `camera_tilt::sensor::apply_homography` meets its contract, by those of `homogeneous_entry` and `forward_depth`. Assumes nothing.
-use borrow.Author.Rules.{rules}
 use Rattle.camera_tilt.specs.Sensor.{apply_homography}
 use Rattle.camera_tilt.proofs.sensor.apply_homography.Goals as goal
 

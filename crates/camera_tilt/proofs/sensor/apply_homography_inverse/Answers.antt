@@ -1,5 +1,4 @@
 -- `camera_tilt::sensor::apply_homography_inverse` meets its contract, by those of `homogeneous_entry` and `inverse_depth`. Assumes nothing.
-use borrow.Author.Rules.{rules}
 use Rattle.camera_tilt.specs.Sensor.{apply_homography_inverse}
 use Rattle.camera_tilt.proofs.sensor.apply_homography_inverse.Goals as goal
 

@@ -1,5 +1,4 @@
 -- `camera_tilt::sensor::homogeneous_entry` meets its contract, by that of `entry`. Assumes nothing.
-use borrow.Author.Rules.{rules}
 use Rattle.camera_tilt.proofs.sensor.homogeneous_entry.Goals as goal
 
 pub returns : goal.returns

@@ -1,6 +1,5 @@
 -- `camera_tilt::sensor::inverse_depth` meets its contract, by that of `abs`. Assumes nothing.
-use mathlib.Core.Path.{sym}
-use borrow.Author.Rules.{rules}
+use Rattle.std.proofs.Common.{sym}
 use Rattle.camera_tilt.specs.Sensor.{inverse_depth}
 use Rattle.camera_tilt.proofs.sensor.inverse_depth.Goals as goal
 

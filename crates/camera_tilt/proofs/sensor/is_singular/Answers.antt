@@ -1,5 +1,4 @@
 -- `camera_tilt::sensor::is_singular` meets its contract, by that of `determinant`. Assumes nothing.
-use borrow.Author.Rules.{rules}
 use Rattle.camera_tilt.proofs.sensor.is_singular.Goals as goal
 
 pub returns : goal.returns

@@ -1,5 +1,4 @@
 -- `camera_tilt::sensor::plane_projection` meets its contract, by that of `entry`. Assumes nothing.
-use borrow.Author.Rules.{rules}
 use Rattle.camera_tilt.proofs.sensor.plane_projection.Goals as goal
 
 pub returns : goal.returns

@@ -1,5 +1,4 @@
 -- `camera_tilt::sensor::tilt_projection_matrix` meets its contract, by those of its three callees. Assumes nothing.
-use borrow.Author.Rules.{rules}
 use Rattle.camera_tilt.specs.Sensor.{tilt_projection_matrix}
 use Rattle.camera_tilt.proofs.sensor.tilt_projection_matrix.Goals as goal
 

@@ -1,6 +1,5 @@
 -- `camera_tilt::sensor::tilt_verdict` meets its contract, by that of `is_singular`. Assumes nothing.
-use borrow.Author.Rules.{rules}
-use mathlib.Core.Path.{sym, ◌∙◌}
+use Rattle.std.proofs.Common.{sym, ◌∙◌}
 use Rattle.camera_tilt.specs.Sensor.{tilt_verdict}
 use Rattle.camera_tilt.proofs.sensor.tilt_verdict.Goals as goal
 

@@ -1,6 +1,5 @@
 -- `capi::camera::jc_cosine` meets its contract, by those of `cosine` and `sum_reply`. Assumes nothing.
-use mathlib.Core.Path.{ap, ◌∙◌}
-use borrow.Author.Rules.{rules}
+use Rattle.std.proofs.Common.{ap, ◌∙◌, rules}
 use Rattle.capi_records.specs.Camera.{flat_sum}
 use Rattle.capi.proofs.camera.jc_cosine.Goals as goal
 

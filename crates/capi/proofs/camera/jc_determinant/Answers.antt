@@ -1,6 +1,5 @@
 -- `capi::camera::jc_determinant` meets its contract, by those of `rows_of` and `determinant`. Assumes nothing.
-use mathlib.Core.Path.{ap, ◌∙◌}
-use borrow.Author.Rules.{rules}
+use Rattle.std.proofs.Common.{ap, ◌∙◌, rules}
 use Rattle.camera_tilt.specs.Matrix.{determinant_of}
 use Rattle.capi.proofs.camera.jc_determinant.Goals as goal
 

@@ -1,6 +1,5 @@
 -- `capi::lists::jc_ideal_points` meets its contract, by those of `ideal_points` and `mapped_number`. Assumes nothing.
-use mathlib.Core.Path.{ap, ◌∙◌}
-use borrow.Author.Rules.{rules}
+use Rattle.std.proofs.Common.{ap, ◌∙◌, rules}
 use Rattle.capi_records.specs.Lists.{mapped_number}
 use Rattle.capi.proofs.lists.jc_ideal_points.Goals as goal
 

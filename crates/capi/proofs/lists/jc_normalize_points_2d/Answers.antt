@@ -1,6 +1,5 @@
 -- `capi::lists::jc_normalize_points_2d` meets its contract, by those of `normalize_points_2d` and `normalize_reply`. Assumes nothing.
-use mathlib.Core.Path.{ap, ◌∙◌}
-use borrow.Author.Rules.{rules}
+use Rattle.std.proofs.Common.{ap, ◌∙◌, rules}
 use Rattle.capi_records.specs.Lists.{flat_normalized}
 use Rattle.capi.proofs.lists.jc_normalize_points_2d.Goals as goal
 

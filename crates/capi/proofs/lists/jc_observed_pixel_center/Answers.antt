@@ -1,6 +1,5 @@
 -- `capi::lists::jc_observed_pixel_center` meets its contract, by those of `observed_pixel_center` and `center_reply`. Assumes nothing.
-use mathlib.Core.Path.{ap, ◌∙◌}
-use borrow.Author.Rules.{rules}
+use Rattle.std.proofs.Common.{ap, ◌∙◌, rules}
 use Rattle.capi_records.specs.Lists.{flat_center}
 use Rattle.capi.proofs.lists.jc_observed_pixel_center.Goals as goal
 

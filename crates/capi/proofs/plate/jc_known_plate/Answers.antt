@@ -1,6 +1,5 @@
 -- `capi::plate::jc_known_plate` meets its contract, by those of `known_plate` and `plate_reply`. Assumes nothing.
-use mathlib.Core.Path.{ap, ◌∙◌}
-use borrow.Author.Rules.{rules}
+use Rattle.std.proofs.Common.{ap, ◌∙◌, rules}
 use Rattle.capi_records.specs.Plate.{flat_plate}
 use Rattle.capi.proofs.plate.jc_known_plate.Goals as goal
 

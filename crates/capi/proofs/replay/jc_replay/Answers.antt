@@ -1,7 +1,6 @@
 -- `capi::replay::jc_replay` meets its contract, by those of `options_of`, `replay` and `replay_flat`. Assumes nothing.
-use mathlib.Core.Path.{ap, ◌∙◌}
+use Rattle.std.proofs.Common.{ap, ◌∙◌, rules}
 use Rattle.capi_records.specs.Replay.{flat_replayed}
-use borrow.Author.Rules.{rules}
 use Rattle.capi.proofs.replay.jc_replay.Goals as goal
 
 pub returns : goal.returns

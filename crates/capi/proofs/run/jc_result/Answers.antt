@@ -1,6 +1,5 @@
 -- `capi::run::jc_result` meets its contract, by those of `run_of`, `result` and `result_flat`. Assumes nothing.
-use mathlib.Core.Path.{ap, ◌∙◌}
-use borrow.Author.Rules.{rules}
+use Rattle.std.proofs.Common.{ap, ◌∙◌, rules}
 use Rattle.search_calls.specs.Result.{result_def}
 use Rattle.capi_records.specs.Run.{flat_result}
 use Rattle.capi.proofs.run.jc_result.Goals as goal

@@ -1,8 +1,5 @@
 -- `capi::run::jc_seed` meets its contract, by those of `run_of`, `seed` and `copy_part`. Assumes nothing.
-use mathlib.Core.Path.{ap, ◌∙◌}
-use mathlib.Core.List.{List}
-use lib.Ieee.{Float}
-use borrow.Author.Rules.{rules}
+use Rattle.std.proofs.Common.{ap, ◌∙◌, List, Float, rules}
 use Rattle.search_record.specs.declared.run.Run.{Run}
 use Rattle.search_calls.specs.Next.{seed_part}
 use Rattle.capi_records.specs.Run.{copied, copy_count}

@@ -1,6 +1,5 @@
 -- `capi::run::jc_start` meets its contract, by those of `options_of`, `start` and `start_flat`. Assumes nothing.
-use mathlib.Core.Path.{ap, ◌∙◌}
-use borrow.Author.Rules.{rules}
+use Rattle.std.proofs.Common.{ap, ◌∙◌, rules}
 use Rattle.capi_records.specs.Run.{flat_started}
 use Rattle.capi.proofs.run.jc_start.Goals as goal
 

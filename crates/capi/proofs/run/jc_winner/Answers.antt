@@ -1,5 +1,5 @@
 -- `capi::run::jc_winner` meets its contract, by those of `best_of`, `winner` and `best_record`. Assumes nothing.
-use borrow.Author.Rules.{rules}
+use Rattle.std.proofs.Common.{rules}
 use Rattle.capi.proofs.run.jc_winner.Goals as goal
 
 pub returns : goal.returns

@@ -1,5 +1,5 @@
 -- `capi::scoring::jc_mean_reproj_error` meets its contract, by that of `mean_of_rows`. Assumes nothing.
-use borrow.Author.Rules.{rules}
+use Rattle.std.proofs.Common.{rules}
 use Rattle.score_rows.specs.Rows.{tilt_matrix}
 use Rattle.capi.proofs.scoring.jc_mean_reproj_error.Goals as goal
 

@@ -1,6 +1,5 @@
 -- `capi_records::camera::estimate_reply` meets its contract. Assumes nothing.
-use mathlib.Core.Path.{ap, sym}
-use borrow.Author.Rules.{rules}
+use Rattle.std.proofs.Common.{ap, sym}
 use Rattle.capi_records.specs.Camera.{flat_estimate}
 use Rattle.capi_records.proofs.camera.estimate_reply.Goals as goal
 

@@ -1,7 +1,5 @@
 -- `capi_records::camera::inverse_reply` meets its contract, by those of `tilt_verdict`, `tilt_number`, `no_matrix`, `inverse` and `matrix_of`. Assumes nothing.
-use mathlib.Core.Path.{sym}
-use borrow.Author.Tests.{ne_eqb}
-use borrow.Author.Rules.{rules}
+use Rattle.std.proofs.Common.{sym, ne_eqb}
 use Rattle.capi_records.proofs.camera.inverse_reply.Goals as goal
 
 pub returns-then-number-ne0 : goal.returns-then-number-ne0

@@ -1,6 +1,5 @@
 -- `capi_records::camera::sum_reply` meets its contract. Assumes nothing.
-use mathlib.Core.Path.{ap, sym}
-use borrow.Author.Rules.{rules}
+use Rattle.std.proofs.Common.{ap, sym}
 use Rattle.capi_records.specs.Camera.{flat_sum}
 use Rattle.capi_records.proofs.camera.sum_reply.Goals as goal
 

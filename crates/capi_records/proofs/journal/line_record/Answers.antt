@@ -1,6 +1,5 @@
 -- `capi_records::journal::line_record` meets its contract: the numbers of a scored line, zeros for a skipped one. Assumes nothing.
-use mathlib.Core.Path.{sym, ap}
-use borrow.Author.Rules.{rules}
+use Rattle.std.proofs.Common.{sym, ap}
 use Rattle.capi_records.specs.Journal.{flat_fields}
 use Rattle.capi_records.proofs.journal.line_record.Goals as goal
 

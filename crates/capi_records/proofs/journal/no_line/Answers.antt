@@ -1,5 +1,4 @@
 -- `capi_records::journal::no_line` meets its contract: zeros. Assumes nothing.
-use borrow.Author.Rules.{rules}
 use Rattle.capi_records.proofs.journal.no_line.Goals as goal
 
 pub returns : goal.returns

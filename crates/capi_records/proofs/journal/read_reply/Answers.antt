@@ -1,6 +1,5 @@
 -- `capi_records::journal::read_reply` meets its contract, by those of `line_record` and `no_line`. Assumes nothing.
-use mathlib.Core.Path.{sym, ap}
-use borrow.Author.Rules.{rules}
+use Rattle.std.proofs.Common.{sym, ap}
 use Rattle.journal_line.specs.declared.Read.{Read}
 use Rattle.capi_records.specs.Journal.{flat_read}
 use Rattle.capi_records.proofs.journal.read_reply.Goals as goal

@@ -1,5 +1,5 @@
 -- `capi_records::journal::recorded_of` meets its contract: scored where skipped is 0. Assumes nothing.
-use borrow.Author.Tests.{ne_eqb}
+use Rattle.std.proofs.Common.{ne_eqb}
 use Rattle.capi_records.proofs.journal.recorded_of.Goals as goal
 
 pub returns-then-r-ne0 : goal.returns-then-r-ne0

@@ -1,6 +1,5 @@
 -- `capi_records::journal::write_reply` meets its contract. Assumes nothing.
-use mathlib.Core.Path.{ap, sym}
-use borrow.Author.Rules.{rules}
+use Rattle.std.proofs.Common.{ap, sym}
 use Rattle.capi_records.specs.Journal.{flat_written}
 use Rattle.capi_records.proofs.journal.write_reply.Goals as goal
 

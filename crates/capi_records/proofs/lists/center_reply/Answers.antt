@@ -1,6 +1,5 @@
 -- `capi_records::lists::center_reply` meets its contract. Assumes nothing.
-use mathlib.Core.Path.{ap, sym}
-use borrow.Author.Rules.{rules}
+use Rattle.std.proofs.Common.{ap, sym}
 use Rattle.capi_records.specs.Lists.{flat_center}
 use Rattle.capi_records.proofs.lists.center_reply.Goals as goal
 

@@ -1,6 +1,5 @@
 -- `capi_records::lists::line_reply` meets its contract, by that of `flag`. Assumes nothing.
-use mathlib.Core.Path.{ap, sym}
-use borrow.Author.Rules.{rules}
+use Rattle.std.proofs.Common.{ap, sym}
 use Rattle.capi_records.specs.Lists.{flat_line_test}
 use Rattle.capi_records.proofs.lists.line_reply.Goals as goal
 

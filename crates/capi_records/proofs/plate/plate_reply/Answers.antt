@@ -1,6 +1,5 @@
 -- `capi_records::plate::plate_reply` meets its contract. Assumes nothing.
-use mathlib.Core.Path.{ap, sym}
-use borrow.Author.Rules.{rules}
+use Rattle.std.proofs.Common.{ap, sym}
 use Rattle.capi_records.specs.Plate.{flat_plate}
 use Rattle.capi_records.proofs.plate.plate_reply.Goals as goal
 

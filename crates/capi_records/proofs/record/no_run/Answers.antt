@@ -1,5 +1,4 @@
 -- `capi_records::record::no_run` meets its contract, by those of `nobody`, `waiting_record`, `no_best`, `best_record`, `no_line` and `no_counts`. Assumes nothing.
-use borrow.Author.Rules.{rules}
 use Rattle.capi_records.proofs.record.no_run.Goals as goal
 
 pub returns : goal.returns

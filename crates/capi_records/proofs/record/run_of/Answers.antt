@@ -1,5 +1,4 @@
 -- `capi_records::record::run_of` meets its contract, by those of `options_of`, `place_of`, `waiting_of`, `best_of` and `last_of`. Assumes nothing.
-use borrow.Author.Rules.{rules}
 use Rattle.capi_records.proofs.record.run_of.Goals as goal
 
 pub returns : goal.returns

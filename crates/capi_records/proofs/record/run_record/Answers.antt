@@ -1,5 +1,4 @@
 -- `capi_records::record::run_record` meets its contract, by those of `options_record`, `place_record`, `waiting_record`, `best_record` and `last_record`. Assumes nothing.
-use borrow.Author.Rules.{rules}
 use Rattle.capi_records.proofs.record.run_record.Goals as goal
 
 pub returns : goal.returns

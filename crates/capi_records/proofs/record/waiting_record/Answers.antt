@@ -1,5 +1,4 @@
 -- `capi_records::record::waiting_record` meets its contract, by that of `flag`. Assumes nothing.
-use borrow.Author.Rules.{rules}
 use Rattle.capi_records.proofs.record.waiting_record.Goals as goal
 
 pub returns : goal.returns

@@ -1,7 +1,6 @@
 -- `capi_records::replay::replay_flat` meets its contract, by that of `no_seed`. Assumes nothing.
-use mathlib.Core.Path.{sym, ap}
+use Rattle.std.proofs.Common.{sym, ap}
 use Rattle.capi_records.specs.Replay.{flat_replayed}
-use borrow.Author.Rules.{rules}
 use Rattle.capi_records.proofs.replay.replay_flat.Goals as goal
 
 pub returns-in-Winner : goal.returns-in-Winner

@@ -1,5 +1,4 @@
 -- `capi_records::replay::resume_flat` meets its contract, by those of `ended_number`, `run_record` and `no_run`. Assumes nothing.
-use borrow.Author.Rules.{rules}
 use Rattle.capi_records.proofs.replay.resume_flat.Goals as goal
 
 pub returns-in-Resumed : goal.returns-in-Resumed

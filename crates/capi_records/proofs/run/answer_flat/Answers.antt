@@ -1,5 +1,4 @@
 -- `capi_records::run::answer_flat` meets its contract, by that of `run_record`. Assumes nothing.
-use borrow.Author.Rules.{rules}
 use Rattle.capi_records.proofs.run.answer_flat.Goals as goal
 
 pub returns-in-Scored : goal.returns-in-Scored

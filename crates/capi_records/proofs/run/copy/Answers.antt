@@ -1,13 +1,7 @@
--- `capi_records::run::copy` meets its contract. The loop's invariant: what is yet to be copied, written from here, gives what the whole gives. Assumes nothing.
-use borrow.Author.Rules.{rules}
-use mathlib.Core.Path.{◌≡◌, refl, ◌∙◌}
-use mathlib.Core.List.{List}
-use Prim.Native.Nat.{ℕ, ◌+◌, ◌-◌, ◌<◌, ◌≤◌}
-use native.Mathlib.Numerals.{add-one}
-use native.Mathlib.Omega.{arith}
-use lib.Ieee.{Float, nan}
-use lib.ListN.{length, drop, set, get_or, length-set}
-use lib.Seq.{sets, drop-cons, drop-length}
+-- `capi_records::run::copy` meets its contract. Assumes nothing.
+use Rattle.std.proofs.Common.{rules, ◌≡◌, refl, ◌∙◌, List, ℕ, ◌+◌, ◌<◌, add-one, arith, Float, length, drop, set, get_or, length-set, drop-cons}
+use Rattle.std.specs.Float.{nan}
+use lib.Seq.{sets, drop-length}
 use Rattle.capi_records.proofs.run.copy.Goals as goal
 
 one_more : (d w : List Float) (i : ℕ) → i < length w → sets (set d i (get_or w i nan)) (i + 1) (drop (i + 1) w) ≡ sets d i (drop i w)

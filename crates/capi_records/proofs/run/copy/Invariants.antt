@@ -1,13 +1,6 @@
--- `capi_records::run::copy` meets its contract. The loop's invariant: what is yet to be copied, written from here, gives what the whole gives. Assumes nothing.
-use borrow.Author.Rules.{rules}
-use mathlib.Core.Path.{◌≡◌, refl, ◌∙◌}
-use mathlib.Core.List.{List}
-use Prim.Native.Nat.{ℕ, ◌+◌, ◌-◌, ◌<◌, ◌≤◌}
-use native.Mathlib.Numerals.{add-one}
-use native.Mathlib.Omega.{arith}
-use lib.Ieee.{Float, nan}
-use lib.ListN.{length, drop, set, get_or, length-set}
-use lib.Seq.{sets, drop-cons, drop-length}
+-- `capi_records::run::copy`: the loop's invariant: what is yet to be copied, written from here, gives what the whole gives.
+use Rattle.std.proofs.Common.{◌≡◌, ◌-◌, ◌≤◌, length, drop}
+use lib.Seq.{sets}
 use Rattle.capi_records.proofs.run.copy.Given as goal
 
 abbrev pub invariant-loop-i : goal.invariant-loop-i

@@ -1,6 +1,5 @@
 -- `capi_records::run::copy_part` meets its contract, by that of `copy`. Assumes nothing.
-use borrow.Author.Rules.{rules}
-use mathlib.Core.Path.{◌∙◌}
+use Rattle.std.proofs.Common.{rules, ◌∙◌}
 use Rattle.capi_records.proofs.Copied.{count_short, copied_short, count_front, copied_front}
 use Rattle.capi_records.proofs.run.copy_part.Goals as goal
 

@@ -1,5 +1,5 @@
 -- `capi_records::run::finding_of` meets its contract. Assumes nothing.
-use borrow.Author.Tests.{ne_eqb}
+use Rattle.std.proofs.Common.{ne_eqb}
 use Rattle.capi_records.proofs.run.finding_of.Goals as goal
 
 pub returns-then-is_solved-ne0 : goal.returns-then-is_solved-ne0

@@ -1,6 +1,5 @@
 -- `capi_records::run::last_flat` meets its contract, by those of `line_record` and `no_line`. Assumes nothing.
-use mathlib.Core.Path.{sym, ap}
-use borrow.Author.Rules.{rules}
+use Rattle.std.proofs.Common.{sym, ap}
 use Rattle.capi_records.specs.Run.{flat_last_line}
 use Rattle.capi_records.proofs.run.last_flat.Goals as goal
 

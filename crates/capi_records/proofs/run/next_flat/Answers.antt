@@ -1,5 +1,4 @@
 -- `capi_records::run::next_flat` meets its contract, by that of `run_record`. Assumes nothing.
-use borrow.Author.Rules.{rules}
 use Rattle.capi_records.proofs.run.next_flat.Goals as goal
 
 pub returns-in-Candidate : goal.returns-in-Candidate

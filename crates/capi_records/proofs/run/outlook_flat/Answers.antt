@@ -1,6 +1,5 @@
 -- `capi_records::run::outlook_flat` meets its contract, by that of `flag`. Assumes nothing.
-use mathlib.Core.Path.{refl}
-use borrow.Author.Rules.{rules}
+use Rattle.std.proofs.Common.{refl}
 use Rattle.capi_records.proofs.run.outlook_flat.Goals as goal
 
 pub returns : goal.returns

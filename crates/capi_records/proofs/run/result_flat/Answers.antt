@@ -1,6 +1,5 @@
 -- `capi_records::run::result_flat` meets its contract, by that of `no_candidate`. Assumes nothing.
-use mathlib.Core.Path.{ap, sym}
-use borrow.Author.Rules.{rules}
+use Rattle.std.proofs.Common.{ap, sym}
 use Rattle.capi_records.specs.Run.{flat_result}
 use Rattle.capi_records.proofs.run.result_flat.Goals as goal
 

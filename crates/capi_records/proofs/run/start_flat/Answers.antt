@@ -1,5 +1,4 @@
 -- `capi_records::run::start_flat` meets its contract, by those of `run_record` and `no_run`. Assumes nothing.
-use borrow.Author.Rules.{rules}
 use Rattle.capi_records.proofs.run.start_flat.Goals as goal
 
 pub returns-in-Accepted : goal.returns-in-Accepted

@@ -1,6 +1,5 @@
 -- `capi_records::run::stop_flat` meets its contract, by those of `outlook_flat` and `no_candidate`. Assumes nothing.
-use mathlib.Core.Path.{ap, sym, ◌∙◌}
-use borrow.Author.Rules.{rules}
+use Rattle.std.proofs.Common.{ap, sym, ◌∙◌}
 use Rattle.capi_records.specs.Run.{flat_stopped}
 use Rattle.capi_records.proofs.run.stop_flat.Goals as goal
 

@@ -1,6 +1,5 @@
 -- `capi_records::scoring::error_count_reply` meets its contract. Assumes nothing.
-use mathlib.Core.Path.{ap, sym}
-use borrow.Author.Rules.{rules}
+use Rattle.std.proofs.Common.{ap, sym}
 use Rattle.capi_records.specs.Scoring.{flat_error_count}
 use Rattle.capi_records.proofs.scoring.error_count_reply.Goals as goal
 

@@ -1,11 +1,6 @@
--- `journal_bytes::reading::begins_with` meets its contract: the bytes so far are the same or not, and the rest is still to be compared. Assumes nothing.
-use Prim.Native.Nat.{◌≤◌, ◌-◌}
-use mathlib.Core.Bool.{◌&&◌}
-use mathlib.Core.Path.{◌≡◌, sym}
-use lib.ListN.{length, drop}
+-- `journal_bytes::reading::begins_with`: the loop's invariant and its measure.
+use Rattle.std.proofs.Common.{◌≤◌, ◌-◌, ◌&&◌, ◌≡◌, length, drop}
 use Rattle.journal_line.specs.Reading.{begins}
-use Rattle.journal_bytes.proofs.Bytes.{begins_turn, begins_short, begins_all}
-use borrow.Author.Rules.{rules}
 use Rattle.journal_bytes.proofs.reading.begins_with.Given as goal
 
 abbrev pub invariant-loop-i : goal.invariant-loop-i

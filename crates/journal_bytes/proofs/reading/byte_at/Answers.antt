@@ -1,7 +1,6 @@
 -- `journal_bytes::reading::byte_at` meets its contract. Assumes nothing.
-use mathlib.Core.Path.{sym}
+use Rattle.std.proofs.Common.{sym}
 use lib.ListN.{get_or-eq_default}
-use borrow.Author.Rules.{rules}
 use Rattle.journal_bytes.proofs.reading.byte_at.Goals as goal
 
 pub returns : goal.returns

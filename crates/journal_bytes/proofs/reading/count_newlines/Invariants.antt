@@ -1,12 +1,6 @@
--- `journal_bytes::reading::count_newlines` meets its contract: those counted and those left are all. Assumes nothing.
-use Prim.Native.Nat.{ℕ, ◌≤◌, ◌+◌, ◌-◌}
-use mathlib.Core.Path.{◌≡◌, ap, ◌∙◌}
-use mathlib.Core.Logic.{⊎_elim}
-use native.Mathlib.Omega.{arith}
-use lib.ListN.{length, drop}
+-- `journal_bytes::reading::count_newlines`: the loop's invariant and its measure.
+use Rattle.std.proofs.Common.{◌≤◌, ◌+◌, ◌-◌, ◌≡◌, length, drop}
 use Rattle.journal_line.specs.Reading.{newlines}
-use Rattle.journal_bytes.proofs.Bytes.{newline_here, newline_not, newlines_all}
-use borrow.Author.Rules.{rules}
 use Rattle.journal_bytes.proofs.reading.count_newlines.Given as goal
 
 abbrev pub invariant-loop-i : goal.invariant-loop-i

@@ -1,9 +1,6 @@
 -- `journal_bytes::reading::decimal_width_at` meets its contract. Assumes nothing.
-use mathlib.Core.Path.{sym, ◌∙◌}
-use borrow.Author.Tests.{eq-eqb, ne_eqb}
-use lib.Seq.{get_or-drop}
+use Rattle.std.proofs.Common.{sym, ◌∙◌, eq-eqb, ne_eqb, get_or-drop, rules}
 use Rattle.journal_line.specs.Reading.{decimal_width_at}
-use borrow.Author.Rules.{rules}
 use Rattle.journal_bytes.proofs.reading.decimal_width_at.Goals as goal
 
 pub returns-then-byte_at-eq44 : goal.returns-then-byte_at-eq44

@@ -1,6 +1,5 @@
 -- `journal_bytes::reading::digit_of` meets its contract. Assumes nothing.
-use mathlib.Core.Path.{refl}
-use borrow.Author.Rules.{rules}
+use Rattle.std.proofs.Common.{refl}
 use Rattle.journal_line.specs.Reading.{digit_of}
 use Rattle.journal_bytes.proofs.reading.digit_of.Goals as goal
 

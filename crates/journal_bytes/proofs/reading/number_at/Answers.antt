@@ -1,12 +1,8 @@
 -- `journal_bytes::reading::number_at` meets its contract: the number so far is that of the bytes passed. Assumes nothing.
-use Prim.Native.Nat.{ℕ, ◌≤◌, ◌-◌}
-use mathlib.Core.Path.{◌≡◌, refl, ap, ◌∙◌}
-use native.Mathlib.Omega.{arith}
-use lib.ListN.{drop}
+use Rattle.std.proofs.Common.{ℕ, ◌≡◌, refl, ap, ◌∙◌, arith, drop, rules}
 use Rattle.journal_line.specs.Reading.{number_at}
-use Rattle.journal_line.specs.DigitLaws.{digit_below}
+use Rattle.journal_line.proofs.DigitLaws.{digit_below}
 use Rattle.journal_bytes.proofs.Bytes.{number_room, number_turn}
-use borrow.Author.Rules.{rules}
 use Rattle.journal_bytes.proofs.reading.number_at.Goals as goal
 
 pub loop-i-init : goal.loop-i-init

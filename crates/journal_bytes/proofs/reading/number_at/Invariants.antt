@@ -1,12 +1,6 @@
--- `journal_bytes::reading::number_at` meets its contract: the number so far is that of the bytes passed. Assumes nothing.
-use Prim.Native.Nat.{ℕ, ◌≤◌, ◌-◌}
-use mathlib.Core.Path.{◌≡◌, refl, ap, ◌∙◌}
-use native.Mathlib.Omega.{arith}
-use lib.ListN.{drop}
+-- `journal_bytes::reading::number_at`: the loop's invariant and its measure.
+use Rattle.std.proofs.Common.{◌≤◌, ◌-◌, ◌≡◌, drop}
 use Rattle.journal_line.specs.Reading.{number_at}
-use Rattle.journal_line.specs.DigitLaws.{digit_below}
-use Rattle.journal_bytes.proofs.Bytes.{number_room, number_turn}
-use borrow.Author.Rules.{rules}
 use Rattle.journal_bytes.proofs.reading.number_at.Given as goal
 
 abbrev pub invariant-loop-i : goal.invariant-loop-i

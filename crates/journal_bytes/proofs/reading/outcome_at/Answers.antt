@@ -1,6 +1,5 @@
 -- `journal_bytes::reading::outcome_at` meets its contract. Assumes nothing.
 use Rattle.journal_bytes.proofs.Found.{scored_at_lem, skipped_at}
-use borrow.Author.Rules.{rules}
 use Rattle.journal_bytes.proofs.reading.outcome_at.Goals as goal
 
 pub returns-then-c-eq83 : goal.returns-then-c-eq83

@@ -1,8 +1,7 @@
 -- `journal_bytes::reading::place_after` meets its contract. Assumes nothing.
-use mathlib.Core.Path.{sym, ap}
+use Rattle.std.proofs.Common.{sym, ap}
 use Rattle.journal_line.specs.declared.Read.{Read}
 use Rattle.journal_line.specs.Reading.{place_after}
-use borrow.Author.Rules.{rules}
 use Rattle.journal_bytes.proofs.reading.place_after.Goals as goal
 
 pub returns-in-Got : goal.returns-in-Got

@@ -1,14 +1,10 @@
 -- `journal_bytes::reading::read_line` meets its contract: what the writer made of the line that the bytes would be says which answer is right.
 -- Assumes nothing.
 use Rattle.journal_line.specs.Reading.{unchecked_line, begins}
-use native.Mathlib.Omega.{arith}
-use Prim.Native.Nat.{ℕ}
-use mathlib.Core.List.{List}
-use lib.ListN.{length, drop, replicate, length-replicate}
-use mathlib.Core.Path.{◌≡◌, ap, ◌∙◌}
+use Rattle.std.proofs.Common.{arith, ℕ, List, length, drop, replicate, ◌≡◌, ap, ◌∙◌}
+use lib.ListN.{length-replicate}
 use Rattle.common.specs.Slices.{rest_from}
 use Rattle.journal_bytes.proofs.Found.{Done, at_end, done, front_long, front_room, undone, got, not_so, not_written, in_journal}
-use borrow.Author.Rules.{rules}
 use Rattle.journal_bytes.proofs.reading.read_line.Goals as goal
 
 abbrev zeros : List ℕ

@@ -1,13 +1,7 @@
 -- `journal_bytes::reading::read_reals` meets its contract: the first i are read, and the rest, from here, is the whole. Assumes nothing.
-use Prim.Native.Nat.{◌≤◌, ◌+◌, ◌-◌, ◌*◌}
-use mathlib.Core.Path.{◌≡◌, refl}
-use mathlib.Core.List.{◌++◌}
-use native.Mathlib.Nat.{add-zero, sub-zero}
-use native.Mathlib.Omega.{arith}
-use lib.ListN.{length, take, drop, length-set}
-use Rattle.journal_line.specs.Reading.{reals}
+use Rattle.std.proofs.Common.{refl, add-zero, arith, length, length-set, rules}
+use native.Mathlib.Nat.{sub-zero}
 use Rattle.journal_bytes.proofs.Bytes.{reals_next, reals_all}
-use borrow.Author.Rules.{rules}
 use Rattle.journal_bytes.proofs.reading.read_reals.Goals as goal
 
 pub loop-i-init : goal.loop-i-init

@@ -1,13 +1,6 @@
--- `journal_bytes::reading::read_reals` meets its contract: the first i are read, and the rest, from here, is the whole. Assumes nothing.
-use Prim.Native.Nat.{◌≤◌, ◌+◌, ◌-◌, ◌*◌}
-use mathlib.Core.Path.{◌≡◌, refl}
-use mathlib.Core.List.{◌++◌}
-use native.Mathlib.Nat.{add-zero, sub-zero}
-use native.Mathlib.Omega.{arith}
-use lib.ListN.{length, take, drop, length-set}
+-- `journal_bytes::reading::read_reals`: the loop's invariant and its measure.
+use Rattle.std.proofs.Common.{◌≤◌, ◌+◌, ◌-◌, ◌*◌, ◌≡◌, ◌++◌, length, take, drop}
 use Rattle.journal_line.specs.Reading.{reals}
-use Rattle.journal_bytes.proofs.Bytes.{reals_next, reals_all}
-use borrow.Author.Rules.{rules}
 use Rattle.journal_bytes.proofs.reading.read_reals.Given as goal
 
 abbrev pub invariant-loop-i : goal.invariant-loop-i

@@ -1,8 +1,8 @@
 -- `journal_bytes::reading::real_at` meets its contract. Assumes nothing.
-use mathlib.Core.Path.{ap, ◌∙◌}
-use lib.Ieee.{binary64, of_bits}
+use Rattle.std.proofs.Common.{ap, ◌∙◌}
+use Rattle.std.specs.Float.{binary64}
+use Rattle.std.specs.Float.Ieee.{of_bits}
 use Rattle.journal_line.specs.Reading.{real_at}
-use borrow.Author.Rules.{rules}
 use Rattle.journal_bytes.proofs.reading.real_at.Goals as goal
 
 pub returns : goal.returns

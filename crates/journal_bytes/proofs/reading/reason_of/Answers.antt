@@ -1,5 +1,5 @@
 -- `journal_bytes::reading::reason_of` meets its contract. Assumes nothing.
-use borrow.Author.Tests.{eq-eqb, ne_eqb}
+use Rattle.std.proofs.Common.{eq-eqb, ne_eqb}
 use Rattle.journal_line.specs.Reading.{reason_of}
 use Rattle.journal_bytes.proofs.reading.reason_of.Goals as goal
 

@@ -1,10 +1,6 @@
 -- `journal_bytes::reading::refused_at` meets its contract. Assumes nothing.
-use Prim.Native.Nat.{ℕ, ◌+◌}
-use mathlib.Core.Path.{ap, sym}
-use native.Mathlib.Omega.{arith}
-use lib.Seq.{length-take-le}
+use Rattle.std.proofs.Common.{ℕ, ◌+◌, ap, sym, arith, length-take-le}
 use Rattle.journal_line.specs.declared.Read.TheVariants.{Refused}
-use borrow.Author.Rules.{rules}
 use Rattle.journal_bytes.proofs.reading.refused_at.Goals as goal
 
 pub slice_bounds-count_newlines-end : goal.slice_bounds-count_newlines-end

@@ -1,7 +1,6 @@
 -- `journal_bytes::reading::scored_at` meets its contract. Assumes nothing.
-use mathlib.Core.Path.{ap}
+use Rattle.std.proofs.Common.{ap}
 use Rattle.journal_line.specs.Reading.{scored_at}
-use borrow.Author.Rules.{rules}
 use Rattle.journal_bytes.proofs.reading.scored_at.Goals as goal
 
 pub returns : goal.returns

@@ -1,9 +1,6 @@
 -- `journal_bytes::reading::seed_at` meets its contract. Assumes nothing.
-use mathlib.Core.Path.{ap}
-use mathlib.Core.List.{List}
-use lib.Ieee.{Float}
+use Rattle.std.proofs.Common.{ap, List, Float}
 use Rattle.seed_rules.specs.Layout.{seed_at}
-use borrow.Author.Rules.{rules}
 use Rattle.journal_bytes.proofs.reading.seed_at.Goals as goal
 
 pub returns : goal.returns

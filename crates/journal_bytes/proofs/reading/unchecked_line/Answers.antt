@@ -1,6 +1,5 @@
 -- `journal_bytes::reading::unchecked_line` meets its contract. Assumes nothing.
 use Rattle.journal_bytes.proofs.Found.{parts_are}
-use borrow.Author.Rules.{rules}
 use Rattle.journal_bytes.proofs.reading.unchecked_line.Goals as goal
 
 pub returns : goal.returns

@@ -1,14 +1,6 @@
 -- `journal_bytes::report::put_decimals` meets its contract: what is left to store, from here, is the whole. Assumes nothing.
-use Prim.Native.Nat.{◌≤◌, ◌+◌, ◌-◌, ◌*◌}
-use mathlib.Core.Path.{◌≡◌, refl, ◌∙◌}
-use mathlib.Core.List.{map}
-use native.Mathlib.Omega.{arith}
-use lib.ListN.{length, drop, length-set}
-use lib.Seq.{sets}
-use Rattle.journal_line.specs.Line.{decimal}
-use Rattle.journal_line.specs.Steps.{comma_fields}
+use Rattle.std.proofs.Common.{refl, ◌∙◌, arith, length-set, rules}
 use Rattle.journal_bytes.proofs.Stores.{decimals_turn, decimals_end, no_decimals, at_decimals_end}
-use borrow.Author.Rules.{rules}
 use Rattle.journal_bytes.proofs.report.put_decimals.Goals as goal
 
 pub loop-i-init : goal.loop-i-init

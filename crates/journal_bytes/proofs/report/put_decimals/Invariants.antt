@@ -1,14 +1,8 @@
--- `journal_bytes::report::put_decimals` meets its contract: what is left to store, from here, is the whole. Assumes nothing.
-use Prim.Native.Nat.{◌≤◌, ◌+◌, ◌-◌, ◌*◌}
-use mathlib.Core.Path.{◌≡◌, refl, ◌∙◌}
-use mathlib.Core.List.{map}
-use native.Mathlib.Omega.{arith}
-use lib.ListN.{length, drop, length-set}
+-- `journal_bytes::report::put_decimals`: the loop's invariant and its measure.
+use Rattle.std.proofs.Common.{◌≤◌, ◌+◌, ◌-◌, ◌*◌, ◌≡◌, map, length, drop}
 use lib.Seq.{sets}
 use Rattle.journal_line.specs.Line.{decimal}
 use Rattle.journal_line.specs.Steps.{comma_fields}
-use Rattle.journal_bytes.proofs.Stores.{decimals_turn, decimals_end, no_decimals, at_decimals_end}
-use borrow.Author.Rules.{rules}
 use Rattle.journal_bytes.proofs.report.put_decimals.Given as goal
 
 abbrev pub invariant-loop-i : goal.invariant-loop-i

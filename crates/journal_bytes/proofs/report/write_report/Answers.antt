@@ -1,15 +1,9 @@
 -- `journal_bytes::report::write_report` meets its contract: the first count, the other numbers and the newline are stored one behind the other, and together
 -- are the report. Assumes nothing.
-use Prim.Native.Nat.{ℕ, ◌≤◌}
-use mathlib.Core.Bool.{Bool, true, false, ◌||◌}
-use mathlib.Core.Path.{◌≡◌, sym, ◌∙◌}
-use mathlib.Core.List.{List}
-use lib.Dec.{ltb}
-use lib.ListN.{length}
-use borrow.Author.Rules.{rules}
+use Rattle.std.proofs.Common.{ℕ, ◌≤◌, Bool, true, false, ◌||◌, ◌≡◌, sym, ◌∙◌, List, ltb, length, rules}
 use Rattle.journal_line.specs.declared.Counts.{Counts}
 use Rattle.journal_line.specs.Report.{total, refuses_report}
-use Rattle.journal_line.specs.Refused.{report_refused}
+use Rattle.journal_line.proofs.Refused.{report_refused}
 use Rattle.journal_bytes.proofs.Reported.{refuses_so, taken_so, sum_is, report_stored}
 use Rattle.journal_bytes.proofs.report.write_report.Goals as goal
 

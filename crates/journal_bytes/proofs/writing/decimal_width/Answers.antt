@@ -1,6 +1,5 @@
 -- `journal_bytes::writing::decimal_width` meets its contract. Assumes nothing.
-use borrow.Author.Rules.{rules}
-use borrow.Author.Tests.{lt-ltb, le-ltb}
+use Rattle.std.proofs.Common.{rules, lt-ltb, le-ltb}
 use Rattle.journal_line.specs.Line.{decimal_width}
 use Rattle.journal_bytes.proofs.writing.decimal_width.Goals as goal
 

@@ -1,7 +1,5 @@
 -- `journal_bytes::writing::digit_byte` meets its contract: antt computes the sixteen values of the code and of the definition. Assumes nothing.
-use Prim.Native.Nat.{ℕ, ◌+◌, ◌*◌, ◌/◌}
-use mathlib.Core.Path.{sym, ◌∙◌}
-use borrow.Author.Rules.{rules}
+use Rattle.std.proofs.Common.{ℕ, ◌+◌, ◌*◌, ◌/◌, sym, ◌∙◌, rules}
 use Rattle.common.specs.Table.{table_at}
 use Rattle.journal_line.specs.Line.{digit_byte}
 use Rattle.journal_bytes.proofs.writing.digit_byte.Goals as goal

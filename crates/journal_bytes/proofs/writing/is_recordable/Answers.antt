@@ -1,6 +1,5 @@
 -- `journal_bytes::writing::is_recordable` meets its contract. Assumes nothing.
 use Rattle.journal_line.specs.Line.{recordable}
-use borrow.Author.Rules.{rules}
 use Rattle.journal_bytes.proofs.writing.is_recordable.Goals as goal
 
 pub returns-in-Scored : goal.returns-in-Scored

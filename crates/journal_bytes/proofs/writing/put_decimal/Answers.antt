@@ -1,5 +1,5 @@
 -- `journal_bytes::writing::put_decimal` meets its contract. Assumes nothing.
-use borrow.Author.Rules.{rules}
+use Rattle.std.proofs.Common.{rules}
 use Rattle.journal_line.specs.Line.{decimal}
 use Rattle.journal_bytes.proofs.writing.put_decimal.Goals as goal
 

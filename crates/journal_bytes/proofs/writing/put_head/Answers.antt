@@ -1,6 +1,6 @@
 -- `journal_bytes::writing::put_head` meets its contract: three stores, one behind the other. Assumes nothing.
 use Rattle.journal_bytes.proofs.Parts.{head_stored}
-use borrow.Author.Rules.{rules}
+use Rattle.std.proofs.Common.{rules}
 use Rattle.journal_bytes.proofs.writing.put_head.Goals as goal
 
 pub returns : goal.returns

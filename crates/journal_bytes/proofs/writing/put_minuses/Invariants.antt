@@ -1,14 +1,7 @@
--- `journal_bytes::writing::put_minuses` meets its contract: what is left to store, from here, is the whole. Assumes nothing.
-use Prim.Native.Nat.{◌≤◌, ◌+◌, ◌-◌, ◌*◌}
-use mathlib.Core.Path.{◌≡◌, refl}
-use mathlib.Core.List.{[], ◌∷◌}
-use native.Mathlib.Nat.{add-zero}
-use native.Mathlib.Omega.{arith}
-use lib.ListN.{length, replicate, length-set}
+-- `journal_bytes::writing::put_minuses`: the loop's invariant and its measure.
+use Rattle.std.proofs.Common.{◌≤◌, ◌+◌, ◌-◌, ◌*◌, ◌≡◌, [], ◌∷◌, length, replicate}
 use lib.Seq.{sets}
 use Rattle.journal_line.specs.Steps.{comma_fields}
-use Rattle.journal_bytes.proofs.Stores.{minus_turn, no_minuses}
-use borrow.Author.Rules.{rules}
 use Rattle.journal_bytes.proofs.writing.put_minuses.Given as goal
 
 abbrev pub invariant-loop-i : goal.invariant-loop-i

@@ -1,6 +1,5 @@
 -- `journal_bytes::writing::put_outcome` meets its contract: four stores, one behind the other, in each of the two cases. Assumes nothing.
 use Rattle.journal_bytes.proofs.Parts.{scored_stored, skipped_stored}
-use borrow.Author.Rules.{rules}
 use Rattle.journal_bytes.proofs.writing.put_outcome.Goals as goal
 
 pub returns-in-Scored : goal.returns-in-Scored

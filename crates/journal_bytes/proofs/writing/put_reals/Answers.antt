@@ -1,15 +1,6 @@
 -- `journal_bytes::writing::put_reals` meets its contract: what is left to store, from here, is the whole. Assumes nothing.
-use Prim.Native.Nat.{◌≤◌, ◌+◌, ◌-◌, ◌*◌}
-use mathlib.Core.Path.{◌≡◌, refl, ◌∙◌}
-use mathlib.Core.List.{map}
-use native.Mathlib.Nat.{add-zero}
-use native.Mathlib.Omega.{arith}
-use lib.ListN.{length, drop, length-set}
-use lib.Seq.{sets}
-use Rattle.journal_line.specs.Line.{real}
-use Rattle.journal_line.specs.Steps.{comma_fields}
+use Rattle.std.proofs.Common.{refl, ◌∙◌, add-zero, arith, length-set, rules}
 use Rattle.journal_bytes.proofs.Stores.{reals_turn, no_reals}
-use borrow.Author.Rules.{rules}
 use Rattle.journal_bytes.proofs.writing.put_reals.Goals as goal
 
 pub loop-i-init : goal.loop-i-init

@@ -1,5 +1,6 @@
 -- `journal_bytes::writing::reason_letter` meets its contract. Assumes nothing.
-use borrow.Author.Tests.{le-leb, lt-leb}
+use Rattle.std.proofs.Common.{le-leb}
+use borrow.Author.Tests.{lt-leb}
 use Rattle.journal_line.specs.Line.{reason_letter}
 use Rattle.journal_bytes.proofs.writing.reason_letter.Goals as goal
 

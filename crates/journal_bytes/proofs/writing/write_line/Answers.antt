@@ -1,17 +1,11 @@
 -- `journal_bytes::writing::write_line` meets its contract: the head, the seed and the outcome are stored one behind the other, and together are the line.
 -- Assumes nothing.
-use Prim.Native.Nat.{ℕ, ◌≤◌}
-use mathlib.Core.List.{List}
-use mathlib.Core.Bool.{Bool, true, false, not, ◌||◌}
-use mathlib.Core.Path.{◌≡◌, sym, ◌∙◌}
-use lib.Dec.{ltb}
-use lib.ListN.{length}
-use borrow.Author.Rules.{rules}
+use Rattle.std.proofs.Common.{ℕ, ◌≤◌, List, Bool, true, false, not, ◌||◌, ◌≡◌, sym, ◌∙◌, ltb, length, rules}
 use Rattle.journal_line.specs.declared.Line.{Line}
 use Rattle.journal_line.specs.Line.{writable}
 use Rattle.journal_line.specs.Writing.{refuses_line}
 use Rattle.journal_bytes.proofs.Fits.{line_fits}
-use Rattle.journal_line.specs.Refused.{line_refused}
+use Rattle.journal_line.proofs.Refused.{line_refused}
 use Rattle.journal_bytes.proofs.Parts.{refuses_so, taken_so, line_stored}
 use Rattle.journal_bytes.proofs.writing.write_line.Goals as goal
 

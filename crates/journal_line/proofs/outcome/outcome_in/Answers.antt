@@ -1,5 +1,4 @@
 -- `journal_line::outcome::outcome_in` meets its contract. Assumes nothing.
-use borrow.Author.Rules.{rules}
 use Rattle.journal_line.proofs.outcome.outcome_in.Goals as goal
 
 pub returns-in-Skipped : goal.returns-in-Skipped

@@ -1,5 +1,4 @@
 -- `journal_line::outcome::recorded_as` meets its contract. Assumes nothing.
-use borrow.Author.Rules.{rules}
 use Rattle.journal_line.proofs.outcome.recorded_as.Goals as goal
 
 pub returns-in-Skipped : goal.returns-in-Skipped

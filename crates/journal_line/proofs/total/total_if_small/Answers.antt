@@ -1,6 +1,5 @@
 -- `journal_line::total::total_if_small` meets its contract: a count above 656 makes the total so, and five that aren't have a sum that fits. Assumes nothing.
-use native.Mathlib.Omega.{arith}
-use borrow.Author.Rules.{rules}
+use Rattle.std.proofs.Common.{arith, rules}
 use Rattle.journal_line.specs.Report.{total}
 use Rattle.journal_line.proofs.Totals.{large_total, each_small}
 use Rattle.journal_line.proofs.total.total_if_small.Goals as goal

@@ -1,5 +1,4 @@
 -- `journal_replay::replay::replay` meets its contract: Start's refusals, then the walk. Assumes nothing.
-use borrow.Author.Rules.{rules}
 use Rattle.journal_replay.specs.ReplayLaws.{replay_refused, replay_walked}
 use Rattle.journal_replay.proofs.replay.replay.Goals as goal
 

@@ -1,8 +1,5 @@
 -- `journal_replay::replay::reply_to` meets its contract. Assumes nothing.
-use Prim.Native.Nat.{suc, ◌+◌}
-use mathlib.Core.Path.{◌≡◌, sym, ap, ◌∙◌}
-use native.Mathlib.Omega.{arith}
-use borrow.Author.Rules.{rules}
+use Rattle.std.proofs.Common.{suc, ◌+◌, ◌≡◌, sym, ap, ◌∙◌, arith}
 use Rattle.journal_replay.specs.declared.Stop.{Stop}
 use Rattle.journal_replay.specs.declared.Replayed.TheVariants.{RefusedAt}
 use Rattle.journal_replay.specs.Replay.{reply_by, standing_of}

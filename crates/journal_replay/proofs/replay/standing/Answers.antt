@@ -1,6 +1,5 @@
 -- `journal_replay::replay::standing` meets its contract: Next says where the run stands. Assumes nothing.
-use mathlib.Core.Path.{sym}
-use borrow.Author.Rules.{rules}
+use Rattle.std.proofs.Common.{sym}
 use Rattle.journal_replay.specs.ReplayLaws.{stands_by}
 use Rattle.journal_replay.proofs.replay.standing.Goals as goal
 

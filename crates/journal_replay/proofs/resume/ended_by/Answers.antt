@@ -1,6 +1,5 @@
 -- `journal_replay::resume::ended_by` meets its contract. Assumes nothing.
-use mathlib.Core.Path.{sym, ◌∙◌}
-use borrow.Author.Rules.{rules}
+use Rattle.std.proofs.Common.{sym, ◌∙◌}
 use Rattle.journal_replay.specs.Resume.{ended_by_of}
 use Rattle.journal_replay.proofs.resume.ended_by.Goals as goal
 

@@ -1,5 +1,4 @@
 -- `journal_replay::resume::is_cut_line` meets its contract. Assumes nothing.
-use borrow.Author.Rules.{rules}
 use Rattle.journal_replay.specs.ReplayLaws.{cut_line}
 use Rattle.journal_replay.proofs.resume.is_cut_line.Goals as goal
 

@@ -1,5 +1,4 @@
 -- `journal_replay::resume::resume` meets its contract: Start's refusals, then the walk. Assumes nothing.
-use borrow.Author.Rules.{rules}
 use Rattle.journal_replay.specs.ReplayLaws.{resume_refused, resume_walked}
 use Rattle.journal_replay.proofs.resume.resume.Goals as goal
 

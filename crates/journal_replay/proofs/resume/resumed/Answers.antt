@@ -1,5 +1,4 @@
 -- `journal_replay::resume::resumed` meets its contract. Assumes nothing.
-use borrow.Author.Rules.{rules}
 use Rattle.common.specs.Slices.{rest_from}
 use Rattle.journal_replay.specs.ReplayLaws.{report_by}
 use Rattle.journal_replay.proofs.resume.resumed.Goals as goal

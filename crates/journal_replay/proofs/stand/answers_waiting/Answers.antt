@@ -1,6 +1,5 @@
 -- `journal_replay::stand::answers_waiting` meets its contract. Assumes nothing.
 use Rattle.journal_replay.specs.Walk.{answers_waiting}
-use borrow.Author.Rules.{rules}
 use Rattle.journal_replay.proofs.stand.answers_waiting.Goals as goal
 
 pub returns : goal.returns

@@ -1,6 +1,5 @@
 -- `journal_replay::stand::can_be_scored` meets its contract. Assumes nothing.
 use Rattle.journal_replay.specs.Stand.{can_be_scored}
-use borrow.Author.Rules.{rules}
 use Rattle.journal_replay.proofs.stand.can_be_scored.Goals as goal
 
 pub returns : goal.returns

@@ -1,5 +1,4 @@
 -- `journal_replay::stand::can_stand` meets its contract. Assumes nothing.
-use borrow.Author.Rules.{rules}
 use Rattle.journal_replay.proofs.stand.can_stand.Goals as goal
 
 pub returns-in-Scored : goal.returns-in-Scored

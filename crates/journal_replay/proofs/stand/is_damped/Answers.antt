@@ -1,6 +1,5 @@
 -- `journal_replay::stand::is_damped` meets its contract. Assumes nothing.
 use Rattle.seed_rules.specs.Rules.{within}
-use borrow.Author.Rules.{rules}
 use Rattle.journal_replay.proofs.stand.is_damped.Goals as goal
 
 pub returns : goal.returns

@@ -1,6 +1,5 @@
 -- `journal_replay::stand::is_mean` meets its contract. Assumes nothing.
 use Rattle.journal_replay.specs.Stand.{is_mean}
-use borrow.Author.Rules.{rules}
 use Rattle.journal_replay.proofs.stand.is_mean.Goals as goal
 
 pub returns : goal.returns

@@ -1,6 +1,5 @@
 -- `journal_replay::stand::is_same_real` meets its contract. Assumes nothing.
 use Rattle.journal_replay.specs.Stand.{same_real}
-use borrow.Author.Rules.{rules}
 use Rattle.journal_replay.proofs.stand.is_same_real.Goals as goal
 
 pub returns : goal.returns

@@ -1,6 +1,5 @@
 -- `journal_replay::stand::is_same_seed` meets its contract. Assumes nothing.
 use Rattle.journal_replay.specs.WalkLaws.{same_seed}
-use borrow.Author.Rules.{rules}
 use Rattle.journal_replay.proofs.stand.is_same_seed.Goals as goal
 
 pub returns : goal.returns

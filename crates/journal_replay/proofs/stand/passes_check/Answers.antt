@@ -1,5 +1,4 @@
 -- `journal_replay::stand::passes_check` meets its contract. Assumes nothing.
-use borrow.Author.Rules.{rules}
 use Rattle.journal_replay.proofs.stand.passes_check.Goals as goal
 
 pub returns : goal.returns

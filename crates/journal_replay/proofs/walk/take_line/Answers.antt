@@ -1,6 +1,4 @@
 -- `journal_replay::walk::take_line` meets its contract. Assumes nothing.
-use borrow.Author.Rules.{rules}
-use borrow.Author.Tests.{not-true, not-false}
 use Rattle.journal_replay.specs.WalkLaws.{line_stays, line_enters, line_enterable}
 use Rattle.journal_replay.proofs.walk.take_line.Goals as goal
 

@@ -1,13 +1,7 @@
--- `journal_replay::walk::walk` meets its contract. The loop's invariant: the walk from here on is the whole walk. Assumes nothing.
-use Prim.Native.Nat.{suc, ◌*◌, ◌-◌, ◌≤◌, ◌<◌}
-use mathlib.Core.Path.{◌≡◌, refl, sym, ◌∙◌}
-use native.Mathlib.Omega.{arith}
-use borrow.Author.Rules.{rules}
-use borrow.Author.Tests.{not-true, not-false}
-use lib.ListN.{length}
-use Rattle.journal_replay.specs.declared.Stop.TheVariants.{AllTaken, NotOfForm, NotTheRun}
+-- `journal_replay::walk::walk`: the loop's invariant: the walk from here on is the whole walk.
+use Rattle.std.proofs.Common.{suc, ◌*◌, ◌-◌, ◌≤◌, ◌<◌, ◌≡◌, length}
 use Rattle.journal_replay.specs.Walk.{walk_of}
-use Rattle.journal_replay.specs.WalkLaws.{walk_at, walk_starts, walk_ends, walk_refused, walk_stops, walk_turns, line_within, list_stays, walk_given}
+use Rattle.journal_replay.specs.WalkLaws.{walk_at}
 use Rattle.journal_replay.proofs.walk.walk.Given as goal
 
 abbrev pub invariant-loop-line : goal.invariant-loop-line

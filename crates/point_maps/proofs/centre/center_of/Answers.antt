@@ -1,6 +1,5 @@
 -- `point_maps::centre::center_of` meets its contract, by those of its callees: its tests are the definition's. Assumes nothing.
-use borrow.Author.Rules.{rules}
-use mathlib.Core.Path.{sym, ◌∙◌}
+use Rattle.std.proofs.Common.{sym, ◌∙◌}
 use Rattle.point_maps.specs.Centre.{center_of}
 use Rattle.point_maps.proofs.centre.center_of.Goals as goal
 

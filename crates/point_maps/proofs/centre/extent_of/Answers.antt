@@ -1,9 +1,5 @@
--- `point_maps::centre::extent_of` meets its contract. The loop's invariant: the extent from here is that of all pixels. Assumes nothing.
-use borrow.Author.Rules.{rules}
-use mathlib.Core.Path.{◌≡◌, refl, sym, ◌∙◌}
-use Prim.Native.Nat.{◌≤◌, ◌-◌}
-use lib.ListN.{length, drop}
-use Rattle.point_normalise.specs.Points.{fold_points}
+-- `point_maps::centre::extent_of` meets its contract. Assumes nothing.
+use Rattle.std.proofs.Common.{rules, refl, sym, ◌∙◌}
 use Rattle.point_maps.specs.Centre.{widen, extent_of}
 use Rattle.point_normalise.specs.Walk.{fold_next, fold_end}
 use Rattle.point_maps.proofs.centre.extent_of.Goals as goal

@@ -1,11 +1,7 @@
--- `point_maps::centre::extent_of` meets its contract. The loop's invariant: the extent from here is that of all pixels. Assumes nothing.
-use borrow.Author.Rules.{rules}
-use mathlib.Core.Path.{◌≡◌, refl, sym, ◌∙◌}
-use Prim.Native.Nat.{◌≤◌, ◌-◌}
-use lib.ListN.{length, drop}
+-- `point_maps::centre::extent_of`: the loop's invariant: the extent from here is that of all pixels.
+use Rattle.std.proofs.Common.{◌≡◌, ◌≤◌, ◌-◌, length, drop}
 use Rattle.point_normalise.specs.Points.{fold_points}
 use Rattle.point_maps.specs.Centre.{widen, extent_of}
-use Rattle.point_normalise.specs.Walk.{fold_next, fold_end}
 use Rattle.point_maps.proofs.centre.extent_of.Given as goal
 
 abbrev pub invariant-loop-i : goal.invariant-loop-i

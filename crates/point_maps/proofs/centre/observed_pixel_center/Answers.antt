@@ -1,8 +1,5 @@
 -- `point_maps::centre::observed_pixel_center` meets its contract. Assumes nothing.
-use borrow.Author.Rules.{rules}
-use borrow.Author.Tests.{eq-eqb, ne_eqb}
-use Prim.Native.Nat.{◌%◌}
-use lib.ListN.{length}
+use Rattle.std.proofs.Common.{eq-eqb, ne_eqb, ◌%◌, length}
 use Rattle.point_maps.specs.Centre.{center_reply}
 use Rattle.point_maps.proofs.centre.observed_pixel_center.Goals as goal
 

@@ -1,6 +1,5 @@
 -- `point_maps::centre::widened` meets its contract: its tests are the definition's. Assumes nothing.
-use borrow.Author.Rules.{rules}
-use mathlib.Core.Path.{sym, ◌∙◌}
+use Rattle.std.proofs.Common.{sym, ◌∙◌}
 use Rattle.point_maps.proofs.centre.widened.Goals as goal
 
 pub returns-then-both_finite : goal.returns-then-both_finite

@@ -1,5 +1,4 @@
 -- `point_maps::maps::ideal_points` meets its contract, by those of `tilt_projection_matrix` and `map_all`. Assumes nothing.
-use borrow.Author.Rules.{rules}
 use Rattle.point_maps.proofs.maps.ideal_points.Goals as goal
 
 pub returns : goal.returns

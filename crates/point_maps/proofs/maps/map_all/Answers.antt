@@ -1,7 +1,5 @@
 -- `point_maps::maps::map_all` meets its contract, by those of `refusal` and `map_points`. Assumes nothing.
-use mathlib.Core.Path.{sym, ◌∙◌}
-use borrow.Author.Tests.{eq-eqb, ne_eqb}
-use borrow.Author.Rules.{rules}
+use Rattle.std.proofs.Common.{sym, ◌∙◌, eq-eqb, ne_eqb}
 use Rattle.point_maps.specs.Maps.{map_reply, map_destination}
 use Rattle.point_maps.proofs.Accepted.{accepted}
 use Rattle.point_maps.proofs.maps.map_all.Goals as goal

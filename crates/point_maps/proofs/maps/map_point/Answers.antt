@@ -1,5 +1,4 @@
 -- `point_maps::maps::map_point` meets its contract, by those of its callees. Assumes nothing.
-use borrow.Author.Rules.{rules}
 use Rattle.point_maps.specs.Maps.{mapped_point}
 use Rattle.point_maps.proofs.maps.map_point.Goals as goal
 

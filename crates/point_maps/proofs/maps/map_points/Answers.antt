@@ -1,11 +1,6 @@
--- `point_maps::maps::map_points` meets its contract. The loop's invariant: the destination is `front` of the numbers passed, which are whole points. Assumes nothing.
-use mathlib.Core.Path.{◌≡◌, refl, sym, ◌∙◌}
-use Prim.Native.Nat.{◌-◌, ◌%◌, ◌≤◌}
-use native.Mathlib.Omega.{arith}
-use borrow.Author.Rules.{rules}
-use lib.ListN.{length, length-set}
-use Rattle.point_maps.specs.Maps.{mapped_point}
-use Rattle.point_maps.proofs.Written.{front, front_none, front_next, front_all}
+-- `point_maps::maps::map_points` meets its contract. Assumes nothing.
+use Rattle.std.proofs.Common.{refl, sym, ◌∙◌, arith, rules, length-set}
+use Rattle.point_maps.proofs.Written.{front_none, front_next, front_all}
 use Rattle.point_maps.proofs.maps.map_points.Goals as goal
 
 pub loop-i-init : goal.loop-i-init

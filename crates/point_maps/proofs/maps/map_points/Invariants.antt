@@ -1,11 +1,7 @@
--- `point_maps::maps::map_points` meets its contract. The loop's invariant: the destination is `front` of the numbers passed, which are whole points. Assumes nothing.
-use mathlib.Core.Path.{◌≡◌, refl, sym, ◌∙◌}
-use Prim.Native.Nat.{◌-◌, ◌%◌, ◌≤◌}
-use native.Mathlib.Omega.{arith}
-use borrow.Author.Rules.{rules}
-use lib.ListN.{length, length-set}
+-- `point_maps::maps::map_points`: the loop's invariant: the destination is `front` of the numbers passed, which are whole points.
+use Rattle.std.proofs.Common.{◌≡◌, ◌-◌, ◌%◌, ◌≤◌, length}
 use Rattle.point_maps.specs.Maps.{mapped_point}
-use Rattle.point_maps.proofs.Written.{front, front_none, front_next, front_all}
+use Rattle.point_maps.proofs.Written.{front}
 use Rattle.point_maps.proofs.maps.map_points.Given as goal
 
 abbrev pub invariant-loop-i : goal.invariant-loop-i

@@ -1,7 +1,5 @@
 -- `point_maps::maps::refusal` meets its contract, test by test, and by those of `tilt_verdict` and `tilt_number`. Assumes nothing.
-use borrow.Author.Rules.{rules}
-use mathlib.Core.Path.{sym, ◌∙◌}
-use borrow.Author.Tests.{lt-ltb, le-ltb}
+use Rattle.std.proofs.Common.{sym, ◌∙◌, lt-ltb, le-ltb}
 use Rattle.camera_tilt.specs.Verdict.{tilt_number_lem}
 use Rattle.point_maps.specs.Maps.{refusal_of}
 use Rattle.point_maps.proofs.maps.refusal.Goals as goal

@@ -1,5 +1,4 @@
 -- `point_maps::maps::without_lens` meets its contract, by that of `undistort`. Assumes nothing.
-use borrow.Author.Rules.{rules}
 use Rattle.point_maps.proofs.maps.without_lens.Goals as goal
 
 pub returns-in-Kept : goal.returns-in-Kept

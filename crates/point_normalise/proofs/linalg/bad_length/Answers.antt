@@ -1,6 +1,5 @@
 -- `point_normalise::linalg::bad_length` meets its contract: `||` is a branch. Assumes nothing.
-use borrow.Author.Tests.{ne_eqb}
-use Prim.Native.Nat.{◌%◌}
+use Rattle.std.proofs.Common.{ne_eqb, ◌%◌}
 use Rattle.point_normalise.proofs.linalg.bad_length.Goals as goal
 
 pub returns-then-n-ne0 : goal.returns-then-n-ne0

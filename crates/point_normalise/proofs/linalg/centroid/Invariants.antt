@@ -1,12 +1,8 @@
--- `point_normalise::linalg::centroid` meets its contract. The loop's invariant: the sum from here is the whole sum. Assumes nothing.
-use borrow.Author.Rules.{rules}
-use mathlib.Core.Path.{◌≡◌, refl, sym, ◌∙◌}
-use Prim.Native.Nat.{◌≤◌, ◌-◌}
-use lib.ListN.{length, drop}
+-- `point_normalise::linalg::centroid`: the loop's invariant: the sum from here is the whole sum.
+use Rattle.std.proofs.Common.{◌≡◌, ◌≤◌, ◌-◌, length, drop}
 use Rattle.float.specs.Literals.{plus_zero}
 use Rattle.point_normalise.specs.Points.{fold_points}
-use Rattle.point_normalise.specs.Linalg.{add_point, centroid_of}
-use Rattle.point_normalise.specs.Walk.{fold_next, fold_end, count_fits}
+use Rattle.point_normalise.specs.Linalg.{add_point}
 use Rattle.point_normalise.proofs.linalg.centroid.Given as goal
 
 abbrev pub invariant-loop-i : goal.invariant-loop-i

@@ -1,7 +1,5 @@
 -- `point_normalise::linalg::hartley` meets its contract: its tests are the definition's. Assumes nothing.
-use borrow.Author.Rules.{rules}
-use borrow.Author.Tests.{eq-eqb, ne_eqb}
-use lib.ListN.{length}
+use Rattle.std.proofs.Common.{eq-eqb, ne_eqb, length}
 use Rattle.point_normalise.specs.Linalg.{degenerate, similarity_of, hartley_of}
 use Rattle.point_normalise.proofs.linalg.hartley.Goals as goal
 

@@ -1,10 +1,5 @@
--- `point_normalise::linalg::mean_distance` meets its contract. The loop's invariant: the sum from here is the whole sum. Assumes nothing.
-use borrow.Author.Rules.{rules}
-use mathlib.Core.Path.{◌≡◌, refl, sym, ◌∙◌}
-use Prim.Native.Nat.{◌≤◌, ◌-◌}
-use lib.ListN.{length, drop}
-use Rattle.float.specs.Literals.{plus_zero}
-use Rattle.point_normalise.specs.Points.{fold_points}
+-- `point_normalise::linalg::mean_distance` meets its contract. Assumes nothing.
+use Rattle.std.proofs.Common.{rules, refl, sym, ◌∙◌}
 use Rattle.point_normalise.specs.Linalg.{add_distance, mean_distance}
 use Rattle.point_normalise.specs.Walk.{fold_next, fold_end, count_fits}
 use Rattle.point_normalise.proofs.linalg.mean_distance.Goals as goal

@@ -1,16 +1,5 @@
 -- `point_normalise::linalg::normalize_points_2d` meets its contract: the refusals in their order, and the moved points. Assumes nothing.
--- ---- the reply, and what is written
--- ---- the tests that were passed
-use borrow.Author.Rules.{rules}
-use borrow.Author.Tests.{lt-ltb, le-ltb, ne_eqb}
-use mathlib.Core.Bool.{false}
-use mathlib.Core.List.{List, ◌++◌}
-use mathlib.Core.Path.{◌≡◌, sym, ◌∙◌}
-use Prim.Native.Nat.{ℕ}
-use native.Mathlib.Omega.{arith}
-use lib.Dec.{ltb}
-use lib.ListN.{length, drop}
-use lib.Ieee.{Float}
+use Rattle.std.proofs.Common.{lt-ltb, le-ltb, ne_eqb, false, List, ◌++◌, ◌≡◌, sym, ◌∙◌, ℕ, arith, ltb, length, drop, Float}
 use Rattle.common.specs.RefusalLaws.{refuses, passes}
 use Rattle.point_normalise.specs.declared.linalg.Normalized.TheVariants.{Refused}
 use Rattle.point_normalise.specs.Points.{bad_length}
@@ -18,6 +7,7 @@ use Rattle.point_normalise.specs.Linalg.{similarity_of, move_points, transform_o
 use Rattle.point_normalise.specs.Hartley.{no_similarity, similarity, good_length}
 use Rattle.point_normalise.proofs.linalg.normalize_points_2d.Goals as goal
 
+-- ---- the reply, and what is written
 module _ (s d : List Float) where
   refused : (n : ℕ) → normalize_refusal s (length d) ≡ n → (n ≡ 0 → ⊥) → (Refused n ≡ normalize_reply s (length d)) × (d ≡ normalize_into s d)
   unfolding normalize_reply normalize_into

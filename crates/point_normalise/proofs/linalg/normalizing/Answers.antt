@@ -1,5 +1,4 @@
 -- `point_normalise::linalg::normalizing` meets its contract. Assumes nothing.
-use borrow.Author.Rules.{rules}
 use Rattle.point_normalise.specs.Linalg.{similarity_of}
 use Rattle.point_normalise.proofs.linalg.normalizing.Goals as goal
 

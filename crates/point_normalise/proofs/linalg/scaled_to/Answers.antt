@@ -1,5 +1,4 @@
 -- `point_normalise::linalg::scaled_to` meets its contract. Assumes nothing.
-use borrow.Author.Rules.{rules}
 use Rattle.point_normalise.proofs.linalg.scaled_to.Goals as goal
 
 pub returns : goal.returns

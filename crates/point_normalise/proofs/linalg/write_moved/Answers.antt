@@ -1,10 +1,6 @@
--- `point_normalise::linalg::write_moved` meets its contract. The loop's invariant: what is yet to be written, written from here, gives what the whole gives. Assumes nothing.
-use borrow.Author.Rules.{rules}
-use mathlib.Core.Path.{◌≡◌, refl, sym, ap, ◌∙◌}
-use Prim.Native.Nat.{◌+◌, ◌-◌, ◌*◌, ◌/◌, ◌≤◌}
-use native.Mathlib.Omega.{arith}
-use lib.ListN.{length, drop, length-set}
-use lib.Seq.{sets, lt-length-set}
+-- `point_normalise::linalg::write_moved` meets its contract. Assumes nothing.
+use Rattle.std.proofs.Common.{rules, ◌≡◌, refl, sym, ap, ◌∙◌, ◌+◌, ◌*◌, ◌/◌, arith, length, drop, length-set, lt-length-set}
+use lib.Seq.{sets}
 use Rattle.point_normalise.specs.Points.{point_at}
 use Rattle.point_normalise.specs.Linalg.{move_by, move_xy, move_points}
 use Rattle.point_normalise.specs.Walk.{each_next, each_end, each_length, sets_two, sets_front}

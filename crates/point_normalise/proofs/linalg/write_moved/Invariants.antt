@@ -1,13 +1,7 @@
--- `point_normalise::linalg::write_moved` meets its contract. The loop's invariant: what is yet to be written, written from here, gives what the whole gives. Assumes nothing.
-use borrow.Author.Rules.{rules}
-use mathlib.Core.Path.{◌≡◌, refl, sym, ap, ◌∙◌}
-use Prim.Native.Nat.{◌+◌, ◌-◌, ◌*◌, ◌/◌, ◌≤◌}
-use native.Mathlib.Omega.{arith}
-use lib.ListN.{length, drop, length-set}
-use lib.Seq.{sets, lt-length-set}
-use Rattle.point_normalise.specs.Points.{point_at}
-use Rattle.point_normalise.specs.Linalg.{move_by, move_xy, move_points}
-use Rattle.point_normalise.specs.Walk.{each_next, each_end, each_length, sets_two, sets_front}
+-- `point_normalise::linalg::write_moved`: the loop's invariant: what is yet to be written, written from here, gives what the whole gives.
+use Rattle.std.proofs.Common.{◌≡◌, ◌-◌, ◌≤◌, length, drop}
+use lib.Seq.{sets}
+use Rattle.point_normalise.specs.Linalg.{move_points}
 use Rattle.point_normalise.proofs.linalg.write_moved.Given as goal
 
 abbrev pub invariant-loop-i : goal.invariant-loop-i

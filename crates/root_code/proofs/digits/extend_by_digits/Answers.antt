@@ -1,5 +1,5 @@
 -- `root_code::digits::extend_by_digits` meets its contract. Assumes nothing.
-use Rattle.std.proofs.Common.{◌≡◌, ◌+◌, ◌-◌, ◌*◌, ◌^◌, ◌≤◌, ap, arith, rules}
+use Rattle.std.proofs.Common.{◌≡◌, ◌+◌, ◌*◌, ◌^◌, ap, arith}
 use Rattle.root_code.proofs.Steps.{small_2, four_times, square}
 use Rattle.root_code.proofs.digits.extend_by_digits.Goals as goal
 

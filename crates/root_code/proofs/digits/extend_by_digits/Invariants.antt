@@ -1,6 +1,5 @@
--- `root_code::digits::extend_by_digits` meets its contract. Assumes nothing.
-use Rattle.std.proofs.Common.{◌≡◌, ◌+◌, ◌-◌, ◌*◌, ◌^◌, ◌≤◌, ap, arith, rules}
-use Rattle.root_code.proofs.Steps.{small_2, four_times, square}
+-- `root_code::digits::extend_by_digits`: the loop's invariant and its measure.
+use Rattle.std.proofs.Common.{◌≡◌, ◌+◌, ◌-◌, ◌*◌, ◌^◌, ◌≤◌}
 use Rattle.root_code.proofs.digits.extend_by_digits.Given as goal
 
 abbrev pub invariant-loop-i : goal.invariant-loop-i

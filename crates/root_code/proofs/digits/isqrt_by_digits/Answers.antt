@@ -1,5 +1,5 @@
 -- `root_code::digits::isqrt_by_digits` meets its contract. Assumes nothing.
-use Rattle.std.proofs.Common.{◌≡◌, ◌+◌, ◌*◌, ◌/◌, ◌%◌, ◌^◌, ◌≤◌, arith, rules}
+use Rattle.std.proofs.Common.{arith}
 use Rattle.root_code.proofs.Steps.{small, next, no_shift}
 use Rattle.root_code.proofs.digits.isqrt_by_digits.Goals as goal
 

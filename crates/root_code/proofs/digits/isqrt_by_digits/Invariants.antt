@@ -1,6 +1,5 @@
--- `root_code::digits::isqrt_by_digits` meets its contract. Assumes nothing.
-use Rattle.std.proofs.Common.{◌≡◌, ◌+◌, ◌*◌, ◌/◌, ◌%◌, ◌^◌, ◌≤◌, arith, rules}
-use Rattle.root_code.proofs.Steps.{small, next, no_shift}
+-- `root_code::digits::isqrt_by_digits`: the loop's invariant and its measure.
+use Rattle.std.proofs.Common.{◌≡◌, ◌+◌, ◌*◌, ◌/◌, ◌%◌, ◌^◌, ◌≤◌}
 use Rattle.root_code.proofs.digits.isqrt_by_digits.Given as goal
 
 abbrev pub invariant-loop-s : goal.invariant-loop-s

@@ -1,5 +1,5 @@
 -- `root_code::estimate::first_estimate` meets its contract. Assumes nothing.
-use Rattle.std.proofs.Common.{◌+◌, ◌-◌, ◌*◌, ◌/◌, ◌%◌, ◌^◌, arith, rules}
+use Rattle.std.proofs.Common.{◌+◌, ◌-◌, ◌*◌, ◌/◌, ◌%◌, ◌^◌, arith}
 use Rattle.root_code.proofs.Steps.{product}
 use Rattle.root_code.proofs.estimate.first_estimate.Goals as goal
 

@@ -1,5 +1,5 @@
 -- `root_code::from_guess::guessed_root` meets its contract. Assumes nothing.
-use Rattle.std.proofs.Common.{◌^◌, lt_of_lt_of_le, arith, rules}
+use Rattle.std.proofs.Common.{◌^◌, lt_of_lt_of_le, arith}
 use Rattle.root_code.specs.Or.{both_below}
 use Rattle.root_code.proofs.Steps.{product, near_sum, right}
 use Rattle.root_code.proofs.from_guess.guessed_root.Goals as goal

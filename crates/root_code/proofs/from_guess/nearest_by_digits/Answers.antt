@@ -1,10 +1,10 @@
 -- `root_code::from_guess::nearest_by_digits` meets its contract. Assumes nothing.
--- what the two parts of the root's digits make together
-use Rattle.std.proofs.Common.{◌≡◌, ℕ, ◌+◌, ◌*◌, ◌^◌, ap, ◌∙◌, arith, rules}
+use Rattle.std.proofs.Common.{◌≡◌, ℕ, ◌+◌, ◌*◌, ◌^◌, ap, ◌∙◌, arith}
 use Rattle.root_code.proofs.Steps.{root_27, nearest_of}
 use Rattle.root.specs.IntegerRoot.{square_lt_back}
 use Rattle.root_code.proofs.from_guess.nearest_by_digits.Goals as goal
 
+-- what the two parts of the root's digits make together
 whole : (c : goal.After-extend_by_digits-p) → c.extend_by_digits-p.result.root * c.extend_by_digits-p.result.root + c.extend_by_digits-p.result.remainder ≡ c.args.m * 4 ^ 26
 whole c = c.extend_by_digits-p.ensures.0 ∙ ap (λ (x : ℕ). x * 4 ^ 26) c.isqrt_by_digits.ensures.0
 

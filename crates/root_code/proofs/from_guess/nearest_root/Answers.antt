@@ -1,5 +1,5 @@
 -- `root_code::from_guess::nearest_root` meets its contract. Assumes nothing.
-use Rattle.std.proofs.Common.{◌+◌, ◌*◌, ◌^◌, arith, rules}
+use Rattle.std.proofs.Common.{◌+◌, ◌*◌, ◌^◌, arith}
 use Rattle.root_code.proofs.Steps.{product, joined, nearest_of}
 use Rattle.root_code.proofs.from_guess.nearest_root.Goals as goal
 

@@ -1,5 +1,5 @@
 -- `root_code::from_guess::nearest_whole` meets its contract. Assumes nothing.
-use Rattle.std.proofs.Common.{rules, le-ltb, lt-ltb}
+use Rattle.std.proofs.Common.{le-ltb, lt-ltb}
 use Rattle.root_code.proofs.from_guess.nearest_whole.Goals as goal
 
 pub returns-then-root-remainder : goal.returns-then-root-remainder

@@ -1,12 +1,12 @@
 -- `root_code::operand::as_normal` meets its contract. Assumes nothing.
--- a number and, in the odd case, the number again
-use Rattle.std.proofs.Common.{◌≡◌, ℕ, zero, suc, ◌+◌, ◌*◌, ◌/◌, ◌%◌, ◌^◌, ◌<◌, ◌≤◌, sym, ap, ◌∙◌, lt_of_le_of_lt, arith, rules}
-use lib.Ieee.{binary64}
+use Rattle.std.proofs.Common.{◌≡◌, ℕ, zero, suc, ◌+◌, ◌*◌, ◌/◌, ◌%◌, ◌^◌, ◌<◌, ◌≤◌, sym, ap, ◌∙◌, lt_of_le_of_lt, arith}
+use Rattle.std.specs.Float.{binary64}
 use Rattle.root.specs.Root.{root_of}
 use Rattle.root_code.proofs.Exponents.{shift_lo, shift_hi, halved}
 use Rattle.root_code.proofs.Patterns.{root_mid}
 use Rattle.root_code.proofs.operand.as_normal.Goals as goal
 
+-- a number and, in the odd case, the number again
 twice : (m x : ℕ) → x < 2 → m + m * x ≡ m * 2 ^ x
 twice m zero h = omega arith
 twice m (suc zero) h = omega arith

@@ -1,13 +1,14 @@
 -- `root_code::operand::decompose` meets its contract. Assumes nothing.
--- the argument is what its bits say
-use Rattle.std.proofs.Common.{◌≡◌, true, T, sym, ap, ◌∙◌, subst, arith, rules}
-use lib.Ieee.{Float, fits, of_bits, to_bits, binary64}
+use Rattle.std.proofs.Common.{◌≡◌, true, T, sym, ap, ◌∙◌, subst, arith, Float}
+use Rattle.std.specs.Float.{binary64}
+use Rattle.std.specs.Float.Ieee.{fits, of_bits, to_bits}
 use lib.Ieee.Bits.{of_bits-to_bits, to_bits-lt}
 use Rattle.float.specs.Nan.{not_nan}
 use Rattle.root.specs.Root.{root}
 use Rattle.root_code.proofs.Patterns.{at_nan, at_zero, at_minus_zero, root_top, root_neg}
 use Rattle.root_code.proofs.operand.decompose.Goals as goal
 
+-- the argument is what its bits say
 held : (x : Float) → fits binary64 x ≡ true → T (fits binary64 x)
 held x e = subst T (sym e) tt
 

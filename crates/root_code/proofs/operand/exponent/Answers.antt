@@ -1,5 +1,5 @@
 -- `root_code::operand::exponent` meets its contract. Assumes nothing.
-use Rattle.std.proofs.Common.{◌≡◌, ℕ, ◌+◌, ◌-◌, ◌^◌, ℤ, pos, ◌-ℤ◌, ap, ◌∙◌, arith, to_z-of_z, w64, SFits, to_z, rules}
+use Rattle.std.proofs.Common.{◌≡◌, ℕ, ◌+◌, ◌-◌, ◌^◌, ℤ, pos, ◌-ℤ◌, ap, ◌∙◌, arith, to_z-of_z, w64, SFits, to_z}
 use lib.IntN.{sub_ℕ}
 use mir.Facts.{to_z_pos}
 use Rattle.root_code.specs.Exponent.{shifted}

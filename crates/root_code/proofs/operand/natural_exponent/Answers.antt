@@ -1,10 +1,10 @@
 -- `root_code::operand::natural_exponent` meets its contract. Assumes nothing.
--- the sum is the natural number
 use Rattle.std.proofs.Common.{◌≡◌, ℕ, ◌^◌, ◌<◌, ℤ, pos, ◌+ℤ◌, ap, ◌∙◌, arith, to_z-of_z, w64, SFits, to_z, of_z}
 use Rattle.root_code.specs.Exponent.{shifted}
 use Rattle.root_code.proofs.Exponents.{shifted_is, mag_sum, mag_shifted}
 use Rattle.root_code.proofs.operand.natural_exponent.Goals as goal
 
+-- the sum is the natural number
 sum : (c : goal.Start) → to_z w64 (of_z w64 c.args.e) +ℤ pos 2148 ≡ pos (shifted c.args.e)
 sum c = ap (λ (z : ℤ). z +ℤ pos 2148) (to_z-of_z c.ranges.e) ∙ shifted_is c.args.e c.requires.0
 

@@ -1,6 +1,6 @@
 -- `root_code::operand::normal` meets its contract. Assumes nothing.
-use Rattle.std.proofs.Common.{◌≡◌, ℕ, ◌+◌, ◌*◌, ◌/◌, ◌%◌, ◌^◌, sym, ap, ◌∙◌, arith, w64, to_z, of_z, rules}
-use lib.Ieee.{binary64}
+use Rattle.std.proofs.Common.{◌≡◌, ℕ, ◌+◌, ◌*◌, ◌/◌, ◌%◌, ◌^◌, sym, ap, ◌∙◌, arith, w64, to_z, of_z}
+use Rattle.std.specs.Float.{binary64}
 use Rattle.root.specs.Root.{root_of}
 use Rattle.root_code.specs.Exponent.{shifted}
 use Rattle.root_code.proofs.Exponents.{read}

@@ -1,14 +1,14 @@
 -- `root_code::operand::subnormal` meets its contract. Assumes nothing.
--- the leading digit
-use Rattle.std.proofs.Common.{◌≡◌, ℕ, ◌+◌, ◌-◌, ◌*◌, ◌%◌, ◌^◌, ◌≤◌, ap, ◌∙◌, arith, w64, to_z, of_z, rules}
+use Rattle.std.proofs.Common.{◌≡◌, ℕ, ◌+◌, ◌-◌, ◌*◌, ◌%◌, ◌^◌, ◌≤◌, ap, ◌∙◌, arith, w64, to_z, of_z}
+use Rattle.std.specs.Float.{binary64}
 use lib.Count.{count_leading_zeros}
-use lib.Ieee.{binary64}
 use Rattle.root.specs.Root.{root_of}
 use Rattle.root_code.specs.Exponent.{shifted}
 use Rattle.root_code.proofs.Exponents.{read}
 use Rattle.root_code.proofs.Patterns.{root_moved, lz_in, moved_is, moved_lo, moved_hi}
 use Rattle.root_code.proofs.operand.subnormal.Goals as goal
 
+-- the leading digit
 digit : (c : goal.Start) → (12 ≤ count_leading_zeros 64 c.args.b) × (count_leading_zeros 64 c.args.b ≤ 63)
 digit c = lz_in c.args.b c.requires.0 c.requires.1
 

@@ -1,5 +1,5 @@
 -- `root_code::operand::with_even_exponent` meets its contract. Assumes nothing.
-use Rattle.std.proofs.Common.{◌≡◌, ap, ◌∙◌, arith, to_z-of_z, rules}
+use Rattle.std.proofs.Common.{◌≡◌, ap, ◌∙◌, arith, to_z-of_z}
 use Rattle.root_code.specs.Exponent.{shifted}
 use Rattle.root_code.proofs.Exponents.{shift_exact, shift_lo, shift_hi, halved}
 use Rattle.root_code.proofs.operand.with_even_exponent.Goals as goal

@@ -1,10 +1,11 @@
 -- `root_code::quick::bits_of` meets its contract. Assumes nothing.
--- the bits of a number above 0 are its own, and those of 0 are 0
-use Rattle.std.proofs.Common.{◌≡◌, ◌<◌, Bool, true, false, cond, T, sym, refl, ap, ◌∙◌, subst, arith, rules}
-use lib.Ieee.{Float, binary64, of_bits, to_bits, lt, fits}
+use Rattle.std.proofs.Common.{◌≡◌, ◌<◌, Bool, true, false, cond, T, sym, refl, ap, ◌∙◌, subst, arith, Float}
+use Rattle.std.specs.Float.{binary64}
+use Rattle.std.specs.Float.Ieee.{of_bits, to_bits, lt, fits}
 use lib.Ieee.Bits.{of_bits-to_bits}
 use Rattle.root_code.proofs.quick.bits_of.Goals as goal
 
+-- the bits of a number above 0 are its own, and those of 0 are 0
 zero_bits : to_bits binary64 (of_bits binary64 0) ≡ 0
 unfolding to_bits of_bits
 zero_bits = refl

@@ -1,9 +1,10 @@
 -- `root_code::quick::larger` meets its contract. Assumes nothing.
--- what lies above something is a number
-use Rattle.std.proofs.Common.{◌≡◌, true, not, T, sym, true≢false, rules}
-use lib.Ieee.{Float, nan, inf, fin, lt, is_nan}
+use Rattle.std.proofs.Common.{◌≡◌, true, not, T, sym, true≢false, rules, Float}
+use Rattle.std.specs.Float.{nan, inf, fin}
+use Rattle.std.specs.Float.Ieee.{lt, is_nan}
 use Rattle.root_code.proofs.quick.larger.Goals as goal
 
+-- what lies above something is a number
 above : (y x : Float) → lt y x ≡ true → T (not (is_nan x))
 unfolding lt is_nan
 above nan nan h = absurd (true≢false (sym h))

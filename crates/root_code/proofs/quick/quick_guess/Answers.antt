@@ -1,5 +1,5 @@
 -- `root_code::quick::quick_guess` meets its contract. Assumes nothing.
-use Rattle.std.proofs.Common.{arith, rules}
+use Rattle.std.proofs.Common.{arith}
 use Rattle.root_code.specs.Bits.{no_nan, number_bits}
 use Rattle.root_code.proofs.quick.quick_guess.Goals as goal
 

@@ -1,9 +1,8 @@
 -- `root_code::quick::quick_sqrt` meets its contract. Assumes nothing.
--- the two signs leave the bits of a normal number alone
--- the digits of the signs that are looked at
-use Rattle.std.proofs.Common.{◌≡◌, ℕ, ◌+◌, ◌-◌, ◌*◌, ◌/◌, ◌%◌, ◌^◌, ◌<◌, ◌≤◌, ap, ◌∙◌, arith, rules}
+use Rattle.std.proofs.Common.{◌≡◌, ℕ, ◌+◌, ◌-◌, ◌*◌, ◌/◌, ◌%◌, ◌^◌, ◌<◌, ◌≤◌, ap, ◌∙◌, arith, Float}
+use Rattle.std.specs.Float.{binary64}
+use Rattle.std.specs.Float.Ieee.{of_bits}
 use lib.Bits.{bit_or}
-use lib.Ieee.{Float, binary64, of_bits}
 use Rattle.root.specs.Root.{root}
 use Rattle.root_code.specs.NearestRoot.{NearestRoot}
 use Rattle.root_code.specs.Operand.{AsNormal}
@@ -13,9 +12,11 @@ use Rattle.root_code.specs.Quick.{Quick}
 use Rattle.root_code.proofs.Rounds.{answer}
 use Rattle.root_code.proofs.quick.quick_sqrt.Goals as goal
 
+-- the two signs leave the bits of a normal number alone
 normal_bits : (b u v : ℕ) → b < 2 ^ 64 → u < 2 ^ 63 → v < 2 ^ 63 → (u + 2 ^ 52) % 2 ^ 64 ≡ b → v ≡ (b + 2 ^ 52) % 2 ^ 64 → (2 ^ 52 ≤ b) × (b < 0x7ff0_0000_0000_0000)
 normal_bits b u v B U V< p q = (omega arith, omega arith)
 
+-- the digits of the signs that are looked at
 signs_below : (s : ℕ) → s / 2 ^ 26 < 2 ^ 37 → s < 2 ^ 63
 signs_below s h = omega arith
 

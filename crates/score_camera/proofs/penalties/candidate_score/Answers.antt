@@ -1,5 +1,4 @@
 -- `score_camera::penalties::candidate_score` meets its contract, by those of its callees. Assumes nothing.
-use borrow.Author.Rules.{rules}
 use Rattle.score_camera.specs.Penalties.{score_of}
 use Rattle.score_camera.proofs.penalties.candidate_score.Goals as goal
 

@@ -1,5 +1,4 @@
 -- `score_camera::penalties::distortion_complexity` meets its contract, by that of `radial_complexity`. Assumes nothing.
-use borrow.Author.Rules.{rules}
 use Rattle.score_camera.specs.Penalties.{distortion_penalty}
 use Rattle.score_camera.proofs.penalties.distortion_complexity.Goals as goal
 

@@ -1,5 +1,4 @@
 -- `score_camera::penalties::principal_point_complexity` meets its contract, by that of `relative_offset`. Assumes nothing.
-use borrow.Author.Rules.{rules}
 use Rattle.score_camera.specs.Penalties.{centre_penalty}
 use Rattle.score_camera.proofs.penalties.principal_point_complexity.Goals as goal
 

@@ -1,5 +1,4 @@
 -- `score_camera::penalties::relative_offset` meets its contract, by that of `max`. Assumes nothing.
-use borrow.Author.Rules.{rules}
 use Rattle.score_camera.proofs.penalties.relative_offset.Goals as goal
 
 pub returns : goal.returns

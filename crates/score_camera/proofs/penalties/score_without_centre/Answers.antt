@@ -1,5 +1,4 @@
 -- `score_camera::penalties::score_without_centre` meets its contract, by those of the two penalties. Assumes nothing.
-use borrow.Author.Rules.{rules}
 use Rattle.score_camera.proofs.penalties.score_without_centre.Goals as goal
 
 pub returns : goal.returns

@@ -1,5 +1,4 @@
 -- `score_camera::penalties::tilt_complexity` meets its contract, by that of `squared_tilt`. Assumes nothing.
-use borrow.Author.Rules.{rules}
 use Rattle.score_camera.specs.Penalties.{tilt_penalty}
 use Rattle.score_camera.proofs.penalties.tilt_complexity.Goals as goal
 

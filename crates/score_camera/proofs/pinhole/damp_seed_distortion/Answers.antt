@@ -1,5 +1,4 @@
 -- `score_camera::pinhole::damp_seed_distortion` meets its contract: its operations are the definition's. Assumes nothing.
-use borrow.Author.Rules.{rules}
 use Rattle.score_camera.specs.Camera.{damped}
 use Rattle.score_camera.proofs.pinhole.damp_seed_distortion.Goals as goal
 

@@ -1,6 +1,5 @@
 -- `score_camera::pinhole::damped_camera` meets its contract: only the lens changes. Assumes nothing.
-use mathlib.Core.Path.{ap}
-use borrow.Author.Rules.{rules}
+use Rattle.std.proofs.Common.{ap}
 use Rattle.camera_models.specs.declared.distortion.BrownConrady5.{BrownConrady5}
 use Rattle.score_camera.proofs.pinhole.damped_camera.Goals as goal
 

@@ -1,5 +1,4 @@
 -- `score_camera::pinhole::finite_distortion` meets its contract: its operations are the definition's. Assumes nothing.
-use borrow.Author.Rules.{rules}
 use Rattle.score_camera.specs.Camera.{finite_distortion}
 use Rattle.score_camera.proofs.pinhole.finite_distortion.Goals as goal
 

@@ -1,5 +1,4 @@
 -- `score_camera::pinhole::validate_camera` meets its contract: its operations are the definition's. Assumes nothing.
-use borrow.Author.Rules.{rules}
 use Rattle.score_camera.specs.Camera.{valid_camera}
 use Rattle.score_camera.proofs.pinhole.validate_camera.Goals as goal
 

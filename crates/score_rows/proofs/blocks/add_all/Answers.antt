@@ -1,7 +1,7 @@
--- `score_rows::blocks::add_all` meets its contract. The loop's invariant: the sum and count have the first j rows of the block.
--- The measure is what is left of the block. Assumes nothing.
-use Rattle.std.proofs.Common.{◌≡◌, ◌-◌, ◌≤◌, true, get_or, refl, ap, ◌∙◌, add-one, arith, rules}
-use lib.Ieee.{binary64, of_bits}
+-- `score_rows::blocks::add_all` meets its contract. Assumes nothing.
+use Rattle.std.proofs.Common.{◌≡◌, true, get_or, refl, ap, ◌∙◌, add-one, arith}
+use Rattle.std.specs.Float.{binary64}
+use Rattle.std.specs.Float.Ieee.{of_bits}
 use Rattle.root_code.specs.Bits.{no_nan}
 use Rattle.score_rows.specs.Steps.{add_error, add_all}
 use Rattle.score_rows.specs.declared.ErrorSum.{ErrorSum}

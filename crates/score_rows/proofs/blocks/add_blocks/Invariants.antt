@@ -1,13 +1,7 @@
--- `score_rows::blocks::add_blocks` meets its contract. The loop's invariant: the sum and count have the first rows, as many as are done.
--- The measure is what is left of the rows. Assumes nothing.
--- a turn takes some rows: dense ones, or some of what they leave
-use Rattle.std.proofs.Common.{◌≡◌, ℕ, ◌+◌, ◌-◌, ◌<◌, ◌≤◌, Bool, true, false, not, T, ltb, List, sym, refl, ap, ◌∙◌, subst, ⊎_elim, arith, ltb→lt, nltb→le, rules}
-use lib.Ieee.{Float}
-use Rattle.camera_tilt.specs.Matrix.{Matrix}
-use Rattle.score_camera.specs.declared.pinhole.PinholeCamera.{PinholeCamera}
-use Rattle.score_rows.specs.Steps.{add_rows, rows_more}
-use Rattle.score_rows.specs.declared.ErrorSum.{ErrorSum}
-use Rattle.score_rows.specs.declared.blocks.Part.{Part}
+-- `score_rows::blocks::add_blocks`: the loop's invariant: the sum and count have the first rows, as many as are done. The measure is what is left of the
+-- rows.
+use Rattle.std.proofs.Common.{◌≡◌, ◌-◌, ◌≤◌}
+use Rattle.score_rows.specs.Steps.{add_rows}
 use Rattle.score_rows.proofs.blocks.add_blocks.Given as goal
 
 abbrev pub invariant-loop-done : goal.invariant-loop-done

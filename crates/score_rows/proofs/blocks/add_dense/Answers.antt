@@ -1,7 +1,7 @@
--- `score_rows::blocks::add_dense` meets its contract. The loop's invariant: the sum and count have the first rows, as many as are done.
--- The measure is what is left of the rows. Assumes nothing.
-use Rattle.std.proofs.Common.{◌≡◌, ◌+◌, ◌-◌, ◌≤◌, length, refl, ap, ◌∙◌, arith, rules}
-use Rattle.score_rows.specs.Steps.{add_rows, rows_more, from_bits}
+-- `score_rows::blocks::add_dense` meets its contract. Assumes nothing.
+use Rattle.std.proofs.Common.{◌+◌, refl, ap, ◌∙◌, arith}
+use Rattle.score_rows.specs.Steps.{add_rows}
+use Rattle.score_rows.proofs.Steps.{rows_more, from_bits}
 use Rattle.score_rows.specs.declared.ErrorSum.{ErrorSum}
 use Rattle.score_rows.proofs.blocks.add_dense.Goals as goal
 

@@ -1,8 +1,7 @@
--- `score_rows::blocks::add_dense` meets its contract. The loop's invariant: the sum and count have the first rows, as many as are done.
--- The measure is what is left of the rows. Assumes nothing.
-use Rattle.std.proofs.Common.{◌≡◌, ◌+◌, ◌-◌, ◌≤◌, length, refl, ap, ◌∙◌, arith, rules}
-use Rattle.score_rows.specs.Steps.{add_rows, rows_more, from_bits}
-use Rattle.score_rows.specs.declared.ErrorSum.{ErrorSum}
+-- `score_rows::blocks::add_dense`: the loop's invariant: the sum and count have the first rows, as many as are done. The measure is what is left of the
+-- rows.
+use Rattle.std.proofs.Common.{◌≡◌, ◌+◌, ◌-◌, ◌≤◌, length}
+use Rattle.score_rows.specs.Steps.{add_rows}
 use Rattle.score_rows.proofs.blocks.add_dense.Given as goal
 
 abbrev pub invariant-loop-block : goal.invariant-loop-block

@@ -1,6 +1,6 @@
 -- `score_rows::blocks::add_roots` meets its contract: where all rows lie in front, their flags say nothing more. Assumes nothing.
-use Rattle.std.proofs.Common.{sym, ◌∙◌, arith, rules}
-use Rattle.score_rows.specs.Steps.{all_bits}
+use Rattle.std.proofs.Common.{sym, ◌∙◌, arith}
+use Rattle.score_rows.proofs.Steps.{all_bits}
 use Rattle.score_rows.proofs.blocks.add_roots.Goals as goal
 
 pub add_all-requires : goal.add_all-requires

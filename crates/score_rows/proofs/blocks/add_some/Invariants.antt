@@ -1,10 +1,6 @@
--- `score_rows::blocks::add_some` meets its contract. The loop's invariant: the sum and count have the first j rows of the block.
--- The measure is what is left of the block. Assumes nothing.
-use Rattle.std.proofs.Common.{◌≡◌, ◌+◌, ◌-◌, ◌≤◌, eqb, get_or, refl, ap, ◌∙◌, add-one, arith, rules}
-use lib.Ieee.{binary64, of_bits}
-use Rattle.root_code.specs.Bits.{no_nan}
-use Rattle.score_rows.specs.Steps.{add_error, add_bits}
-use Rattle.score_rows.specs.declared.ErrorSum.{ErrorSum}
+-- `score_rows::blocks::add_some`: the loop's invariant: the sum and count have the first j rows of the block. The measure is what is left of the block.
+use Rattle.std.proofs.Common.{◌≡◌, ◌-◌, ◌≤◌}
+use Rattle.score_rows.specs.Steps.{add_bits}
 use Rattle.score_rows.proofs.blocks.add_some.Given as goal
 
 abbrev pub invariant-loop-j : goal.invariant-loop-j

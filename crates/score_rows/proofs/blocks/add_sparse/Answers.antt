@@ -1,6 +1,6 @@
 -- `score_rows::blocks::add_sparse` meets its contract: rows behind the camera leave sum and count as they are. Assumes nothing.
-use Rattle.std.proofs.Common.{sym, ◌∙◌, rules}
-use Rattle.score_rows.specs.Steps.{none_counted}
+use Rattle.std.proofs.Common.{sym, ◌∙◌}
+use Rattle.score_rows.proofs.Steps.{none_counted}
 use Rattle.score_rows.proofs.blocks.add_sparse.Goals as goal
 
 pub returns-then-in_front-eq0 : goal.returns-then-in_front-eq0

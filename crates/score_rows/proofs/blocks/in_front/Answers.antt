@@ -1,7 +1,7 @@
--- `score_rows::blocks::in_front` meets its contract. The loop's invariant: the count is that of the first j rows.
--- The measure is what is left of the rows. Assumes nothing.
-use Rattle.std.proofs.Common.{◌≡◌, ℕ, ◌+◌, ◌-◌, ◌^◌, ◌<◌, ◌≤◌, get_or, refl, ap, ◌∙◌, add-one, arith, rules}
-use Rattle.score_rows.specs.Steps.{in_front, one_at_most, front_at_most}
+-- `score_rows::blocks::in_front` meets its contract. Assumes nothing.
+use Rattle.std.proofs.Common.{◌≡◌, ℕ, ◌+◌, ◌^◌, ◌<◌, ◌≤◌, get_or, refl, ap, ◌∙◌, add-one, arith}
+use Rattle.score_rows.specs.Steps.{in_front}
+use Rattle.score_rows.proofs.Steps.{one_at_most, front_at_most}
 use Rattle.score_rows.proofs.blocks.in_front.Goals as goal
 
 few : (count one j : ℕ) → count ≤ j → one ≤ 1 → j < 16 → count + one < 2 ^ 8

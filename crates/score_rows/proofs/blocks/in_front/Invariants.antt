@@ -1,7 +1,6 @@
--- `score_rows::blocks::in_front` meets its contract. The loop's invariant: the count is that of the first j rows.
--- The measure is what is left of the rows. Assumes nothing.
-use Rattle.std.proofs.Common.{◌≡◌, ℕ, ◌+◌, ◌-◌, ◌^◌, ◌<◌, ◌≤◌, get_or, refl, ap, ◌∙◌, add-one, arith, rules}
-use Rattle.score_rows.specs.Steps.{in_front, one_at_most, front_at_most}
+-- `score_rows::blocks::in_front`: the loop's invariant: the count is that of the first j rows. The measure is what is left of the rows.
+use Rattle.std.proofs.Common.{◌≡◌, ◌-◌, ◌≤◌}
+use Rattle.score_rows.specs.Steps.{in_front}
 use Rattle.score_rows.proofs.blocks.in_front.Given as goal
 
 abbrev pub invariant-loop-j : goal.invariant-loop-j

@@ -1,6 +1,5 @@
--- `score_rows::blocks::quick_guesses` meets its contract. The loop's invariant: the array keeps its length.
--- The measure is what is left of the numbers. Assumes nothing.
-use Rattle.std.proofs.Common.{◌≡◌, ◌-◌, ◌≤◌, length, rules}
+-- `score_rows::blocks::quick_guesses`: the loop's invariant: the array keeps its length. The measure is what is left of the numbers.
+use Rattle.std.proofs.Common.{◌≡◌, ◌-◌, ◌≤◌, length}
 use Rattle.score_rows.proofs.blocks.quick_guesses.Given as goal
 
 abbrev pub invariant-loop-j : goal.invariant-loop-j

@@ -1,11 +1,9 @@
--- `score_rows::blocks::quick_roots` meets its contract. The loop's invariant: the first j roots are right where `wrong` says so.
--- The measure is what is left of the numbers. Assumes nothing.
-use Rattle.std.proofs.Common.{◌≡◌, ◌-◌, ◌^◌, ◌≤◌, length, get_or, ◌∙◌, arith, length-set, rules}
+-- `score_rows::blocks::quick_roots` meets its contract. Assumes nothing.
+use Rattle.std.proofs.Common.{◌^◌, get_or, ◌∙◌, arith, length-set}
+use Rattle.std.specs.Float.{nan}
 use lib.Bits.{bit_or}
-use lib.Ieee.{nan}
 use Rattle.root_code.specs.Or.{both_below}
 use Rattle.root_code.specs.Quick.{Quick}
-use Rattle.score_rows.specs.Steps.{QuickRoots}
 use Rattle.score_rows.proofs.Filled.{one_more}
 use Rattle.score_rows.proofs.blocks.quick_roots.Goals as goal
 

@@ -1,12 +1,6 @@
--- `score_rows::blocks::quick_roots` meets its contract. The loop's invariant: the first j roots are right where `wrong` says so.
--- The measure is what is left of the numbers. Assumes nothing.
-use Rattle.std.proofs.Common.{◌≡◌, ◌-◌, ◌^◌, ◌≤◌, length, get_or, ◌∙◌, arith, length-set, rules}
-use lib.Bits.{bit_or}
-use lib.Ieee.{nan}
-use Rattle.root_code.specs.Or.{both_below}
-use Rattle.root_code.specs.Quick.{Quick}
+-- `score_rows::blocks::quick_roots`: the loop's invariant: the first j roots are right where `wrong` says so. The measure is what is left of the numbers.
+use Rattle.std.proofs.Common.{◌≡◌, ◌-◌, ◌≤◌, length}
 use Rattle.score_rows.specs.Steps.{QuickRoots}
-use Rattle.score_rows.proofs.Filled.{one_more}
 use Rattle.score_rows.proofs.blocks.quick_roots.Given as goal
 
 abbrev pub invariant-loop-j : goal.invariant-loop-j

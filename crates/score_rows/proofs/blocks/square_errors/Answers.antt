@@ -1,9 +1,8 @@
--- `score_rows::blocks::square_errors` meets its contract. The loop's invariant: the first j squares are those of the rows from row i on.
--- The measure is what is left of the block. Assumes nothing.
-use Rattle.std.proofs.Common.{◌≡◌, ◌+◌, ◌-◌, ◌≤◌, length, ◌∙◌, arith, length-set, rules}
+-- `score_rows::blocks::square_errors` meets its contract. Assumes nothing.
+use Rattle.std.proofs.Common.{◌≡◌, ◌+◌, ◌∙◌, arith, length-set}
+use Rattle.std.specs.Float.{nan}
 use Rattle.score_rows.proofs.Filled.{one_more}
-use lib.Ieee.{nan}
-use Rattle.score_rows.specs.Steps.{Squares, square_at}
+use Rattle.score_rows.specs.Steps.{square_at}
 use Rattle.score_rows.proofs.blocks.square_errors.Goals as goal
 
 pub loop-j-init : goal.loop-j-init

@@ -1,9 +1,7 @@
--- `score_rows::blocks::square_errors` meets its contract. The loop's invariant: the first j squares are those of the rows from row i on.
--- The measure is what is left of the block. Assumes nothing.
-use Rattle.std.proofs.Common.{◌≡◌, ◌+◌, ◌-◌, ◌≤◌, length, ◌∙◌, arith, length-set, rules}
-use Rattle.score_rows.proofs.Filled.{one_more}
-use lib.Ieee.{nan}
-use Rattle.score_rows.specs.Steps.{Squares, square_at}
+-- `score_rows::blocks::square_errors`: the loop's invariant: the first j squares are those of the rows from row i on. The measure is what is left of the
+-- block.
+use Rattle.std.proofs.Common.{◌≡◌, ◌-◌, ◌≤◌, length}
+use Rattle.score_rows.specs.Steps.{Squares}
 use Rattle.score_rows.proofs.blocks.square_errors.Given as goal
 
 abbrev pub invariant-loop-j : goal.invariant-loop-j

@@ -1,5 +1,4 @@
 -- `search_calls::last::has_line` meets its contract. Assumes nothing.
-use borrow.Author.Rules.{rules}
 use Rattle.search_calls.specs.Last.{has_line}
 use Rattle.search_calls.proofs.last.has_line.Goals as goal
 

@@ -1,7 +1,5 @@
 -- `search_calls::last::last_line` meets its contract. Assumes nothing.
-use mathlib.Core.Path.{sym, ◌∙◌}
-use borrow.Author.Rules.{rules}
-use borrow.Author.Tests.{not-true, not-false}
+use Rattle.std.proofs.Common.{sym, ◌∙◌}
 use Rattle.search_calls.specs.Last.{last_def}
 use Rattle.search_calls.proofs.last.last_line.Goals as goal
 

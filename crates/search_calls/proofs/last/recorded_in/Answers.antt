@@ -1,5 +1,5 @@
 -- `search_calls::last::recorded_in` meets its contract. Assumes nothing.
-use borrow.Author.Tests.{ne_eqb}
+use Rattle.std.proofs.Common.{ne_eqb}
 use Rattle.search_calls.specs.Last.{recorded_in}
 use Rattle.search_calls.proofs.last.recorded_in.Goals as goal
 

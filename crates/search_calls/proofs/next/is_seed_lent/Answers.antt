@@ -1,5 +1,4 @@
 -- `search_calls::next::is_seed_lent` meets its contract. Assumes nothing.
-use borrow.Author.Rules.{rules}
 use Rattle.search_calls.specs.Next.{seed_lent}
 use Rattle.search_calls.proofs.next.is_seed_lent.Goals as goal
 

@@ -1,7 +1,6 @@
 -- `search_calls::next::next` meets its contract: the list is long enough where no refusal holds. Assumes nothing.
-use mathlib.Core.Path.{sym, ◌∙◌}
-use borrow.Author.Rules.{rules}
-use borrow.Author.Tests.{eqb-true, not-true}
+use Rattle.std.proofs.Common.{sym, ◌∙◌, eqb-true}
+use borrow.Author.Tests.{not-true}
 use Rattle.common.specs.Tests.{both_true}
 use Rattle.search_calls.specs.NextLaws.{next_in_list, next_hands, next_keeps}
 use Rattle.search_calls.proofs.next.next.Goals as goal

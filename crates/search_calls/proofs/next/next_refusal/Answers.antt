@@ -1,8 +1,5 @@
 -- `search_calls::next::next_refusal` meets its contract. Assumes nothing.
-use mathlib.Core.Path.{sym}
-use borrow.Author.Rules.{rules}
-use borrow.Author.Tests.{lt-ltb, le-ltb}
-use Rattle.std.proofs.Common.{ap, not}
+use Rattle.std.proofs.Common.{sym, lt-ltb, le-ltb, ap, not}
 use Rattle.search_calls.proofs.next.next_refusal.Goals as goal
 
 pub returns-then-not-is_sound : goal.returns-then-not-is_sound

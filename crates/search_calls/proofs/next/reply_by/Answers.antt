@@ -1,5 +1,5 @@
 -- `search_calls::next::reply_by` meets its contract. Assumes nothing.
-use borrow.Author.Tests.{ne_eqb}
+use Rattle.std.proofs.Common.{ne_eqb}
 use Rattle.search_calls.proofs.next.reply_by.Goals as goal
 
 pub returns-then-refusal-ne0 : goal.returns-then-refusal-ne0

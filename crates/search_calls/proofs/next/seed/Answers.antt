@@ -1,10 +1,5 @@
 -- `search_calls::next::seed` meets its contract: the part lies within the list, since a seed waits. Assumes nothing.
-use Prim.Native.Nat.{ℕ, ◌+◌, ◌*◌, ◌-◌, ◌≤◌, ◌<◌}
-use mathlib.Core.Path.{◌≡◌, sym, ◌∙◌}
-use native.Mathlib.Omega.{arith}
-use borrow.Author.Rules.{rules}
-use borrow.Author.Tests.{not-true, not-false}
-use lib.ListN.{length}
+use Rattle.std.proofs.Common.{ℕ, ◌+◌, ◌*◌, ◌-◌, ◌≤◌, ◌<◌, ◌≡◌, sym, ◌∙◌, arith, rules, length}
 use Rattle.search_calls.specs.Next.{seed_part}
 use Rattle.search_calls.specs.NextLaws.{seed_in_list}
 use Rattle.search_calls.proofs.next.seed.Goals as goal

@@ -1,7 +1,5 @@
 -- `search_calls::progress::progress` meets its contract. Assumes nothing.
-use mathlib.Core.Path.{sym, ◌∙◌}
-use borrow.Author.Rules.{rules}
-use borrow.Author.Tests.{not-true, not-false}
+use Rattle.std.proofs.Common.{sym, ◌∙◌}
 use Rattle.search_calls.specs.Progress.{progress_def}
 use Rattle.search_calls.proofs.progress.progress.Goals as goal
 

@@ -1,7 +1,5 @@
 -- `search_calls::result::result` meets its contract. Assumes nothing.
-use mathlib.Core.Path.{sym}
-use borrow.Author.Rules.{rules}
-use borrow.Author.Tests.{ne_eqb}
+use Rattle.std.proofs.Common.{sym, ne_eqb}
 use Rattle.search_calls.specs.Result.{result_def}
 use Rattle.search_calls.proofs.result.result.Goals as goal
 

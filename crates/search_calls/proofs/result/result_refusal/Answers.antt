@@ -1,7 +1,5 @@
 -- `search_calls::result::result_refusal` meets its contract. Assumes nothing.
-use mathlib.Core.Path.{sym}
-use borrow.Author.Rules.{rules}
-use Rattle.std.proofs.Common.{ap, not}
+use Rattle.std.proofs.Common.{sym, ap, not}
 use Rattle.search_calls.proofs.result.result_refusal.Goals as goal
 
 pub returns-then-not-is_sound : goal.returns-then-not-is_sound

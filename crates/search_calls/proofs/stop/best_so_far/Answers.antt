@@ -1,7 +1,5 @@
 -- `search_calls::stop::best_so_far` meets its contract. Assumes nothing.
-use mathlib.Core.Path.{◌≡◌, ◌∙◌}
-use mathlib.Core.Bool.{true, false}
-use borrow.Author.Rules.{rules}
+use Rattle.std.proofs.Common.{◌≡◌, ◌∙◌, true, false}
 use borrow.Author.Tests.{not-true, not-false}
 use Rattle.score_best.specs.Best.{no_best}
 use Rattle.search_record.specs.declared.run.Run.{Run}

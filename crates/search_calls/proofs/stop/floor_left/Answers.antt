@@ -1,11 +1,6 @@
 -- `search_calls::stop::floor_left` meets its contract: the waiting seed first, or the list's seeds alone. Assumes nothing.
-use Prim.Native.Nat.{◌+◌}
-use mathlib.Core.Path.{◌≡◌, ◌∙◌}
-use mathlib.Core.Bool.{true, false}
-use mathlib.Core.List.{List}
-use borrow.Author.Rules.{rules}
+use Rattle.std.proofs.Common.{◌+◌, ◌≡◌, ◌∙◌, true, false, List, Float}
 use borrow.Author.Tests.{not-true, not-false}
-use lib.Ieee.{Float}
 use Rattle.float.specs.Float.{min_of}
 use Rattle.score_floor.specs.Floor.{counted_penalty, floor_of, seeds_between}
 use Rattle.search_record.specs.declared.run.Run.{Run}

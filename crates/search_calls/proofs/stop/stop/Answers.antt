@@ -1,12 +1,9 @@
 -- `search_calls::stop::stop` meets its contract, by the four ways that the call goes. Assumes nothing.
-use native.Mathlib.Omega.{arith}
-use mathlib.Core.Path.{refl, sym, ap, ◌∙◌}
-use borrow.Author.Rules.{rules}
-use borrow.Author.Tests.{not-true, not-false}
+use Rattle.std.proofs.Common.{arith, refl, sym, ap, ◌∙◌}
 use Rattle.search_record.specs.Laws.{bounds}
 use Rattle.search_calls.specs.declared.stop.Stopped.TheVariants.{Standing}
 use Rattle.search_calls.specs.Stop.{nothing_left}
-use Rattle.search_calls.specs.StopLaws.{stop_unsound, stop_short, stop_none, stop_some}
+use Rattle.search_calls.proofs.StopLaws.{stop_unsound, stop_short, stop_none, stop_some}
 use Rattle.search_calls.proofs.stop.stop.Goals as goal
 
 pub returns-then-not-is_sound : goal.returns-then-not-is_sound

@@ -1,5 +1,4 @@
 -- `search_record::counts::add_up` meets its contract: the sum that it compares is the total, or both are above 656. Assumes nothing.
-use borrow.Author.Rules.{rules}
 use Rattle.search_record.specs.Laws.{add_up_by}
 use Rattle.search_record.proofs.counts.add_up.Goals as goal
 

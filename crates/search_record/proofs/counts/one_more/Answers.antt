@@ -1,7 +1,5 @@
 -- `search_record::counts::one_more` meets its contract. Assumes nothing.
-use native.Mathlib.Omega.{arith}
-use borrow.Author.Rules.{rules}
-use borrow.Author.Tests.{eq-eqb, ne_eqb}
+use Rattle.std.proofs.Common.{arith, eq-eqb, ne_eqb}
 use Rattle.search_record.proofs.counts.one_more.Goals as goal
 
 pub returns-then-kind-k : goal.returns-then-kind-k

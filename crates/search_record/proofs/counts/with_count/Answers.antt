@@ -1,5 +1,5 @@
 -- `search_record::counts::with_count` meets its contract, by those of `kind_of` and `one_more`. Assumes nothing.
-use borrow.Author.Rules.{rules}
+use Rattle.std.proofs.Common.{rules}
 use Rattle.journal_line.specs.Report.{total}
 use Rattle.search_record.proofs.counts.with_count.Goals as goal
 

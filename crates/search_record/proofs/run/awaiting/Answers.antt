@@ -1,5 +1,5 @@
 -- `search_record::run::awaiting` meets its contract. Assumes nothing.
-use mathlib.Core.Path.{refl}
+use Rattle.std.proofs.Common.{refl}
 use Rattle.search_record.specs.Record.{awaiting}
 use Rattle.search_record.proofs.run.awaiting.Goals as goal
 

@@ -1,5 +1,5 @@
 -- `search_record::run::ended` meets its contract. Assumes nothing.
-use mathlib.Core.Path.{refl}
+use Rattle.std.proofs.Common.{refl}
 use Rattle.search_record.specs.Record.{ended}
 use Rattle.search_record.proofs.run.ended.Goals as goal
 

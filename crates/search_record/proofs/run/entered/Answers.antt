@@ -1,6 +1,5 @@
 -- `search_record::run::entered` meets its contract. Assumes nothing.
-use native.Mathlib.Omega.{arith}
-use borrow.Author.Rules.{rules}
+use Rattle.std.proofs.Common.{arith}
 use Rattle.search_record.specs.Record.{entered}
 use Rattle.search_record.proofs.run.entered.Goals as goal
 

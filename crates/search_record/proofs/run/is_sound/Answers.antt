@@ -1,6 +1,6 @@
 -- `search_record::run::is_sound` meets its contract. Assumes nothing.
-use borrow.Author.Rules.{rules}
-use borrow.Author.Tests.{le-leb, lt-leb}
+use Rattle.std.proofs.Common.{le-leb}
+use borrow.Author.Tests.{lt-leb}
 use Rattle.search_record.specs.Record.{sound}
 use Rattle.search_record.proofs.run.is_sound.Goals as goal
 

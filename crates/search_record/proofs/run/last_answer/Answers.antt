@@ -1,5 +1,4 @@
 -- `search_record::run::last_answer` meets its contract. Assumes nothing.
-use borrow.Author.Rules.{rules}
 use Rattle.search_record.proofs.run.last_answer.Goals as goal
 
 pub returns-in-Scored : goal.returns-in-Scored

@@ -1,5 +1,5 @@
 -- `search_record::run::next_step` meets its contract. Assumes nothing.
-use borrow.Author.Tests.{eq-eqb, ne_eqb}
+use Rattle.std.proofs.Common.{eq-eqb, ne_eqb}
 use Rattle.search_record.specs.Record.{next_step}
 use Rattle.search_record.proofs.run.next_step.Goals as goal
 

@@ -1,5 +1,4 @@
 -- `search_record::run::no_answer` meets its contract. Assumes nothing.
-use borrow.Author.Rules.{rules}
 use Rattle.search_record.proofs.run.no_answer.Goals as goal
 
 pub returns : goal.returns

@@ -1,5 +1,4 @@
 -- `search_record::run::nobody` meets its contract. Assumes nothing.
-use borrow.Author.Rules.{rules}
 use Rattle.search_record.proofs.run.nobody.Goals as goal
 
 pub returns : goal.returns

@@ -1,5 +1,4 @@
 -- `search_record::run::opened` meets its contract: the step and the empty best are those of the functions that it calls. Assumes nothing.
-use borrow.Author.Rules.{rules}
 use Rattle.search_record.specs.Record.{round_opened}
 use Rattle.search_record.proofs.run.opened.Goals as goal
 

@@ -1,5 +1,4 @@
 -- `search_record::run::with_outcome` meets its contract. Assumes nothing.
-use borrow.Author.Rules.{rules}
 use Rattle.search_record.specs.Record.{with_outcome}
 use Rattle.search_record.proofs.run.with_outcome.Goals as goal
 

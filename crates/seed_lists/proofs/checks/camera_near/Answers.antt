@@ -1,5 +1,4 @@
 -- `seed_lists::checks::camera_near` meets its contract: all four numbers are closer than the limit. Assumes nothing.
-use borrow.Author.Rules.{rules}
 use Rattle.seed_rules.specs.Rules.{camera_near}
 use Rattle.seed_lists.proofs.checks.camera_near.Goals as goal
 

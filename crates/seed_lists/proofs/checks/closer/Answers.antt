@@ -1,17 +1,13 @@
 -- `seed_lists::checks::closer` meets its contract: the magnitude of the difference is below the limit where the difference and its negative are. Assumes nothing.
--- what a number is below, its negative is below too, where the number is not negative
-use mathlib.Core.Path.{◌≡◌, refl, sym, ◌∙◌}
-use mathlib.Core.Bool.{Bool, true, false, true≢false}
-use Prim.Native.Nat.{ℕ, ◌+◌, ◌*◌}
-use native.Mathlib.Omega.{arith}
-use borrow.Author.Tests.{lt-ltb, ltb-true}
-use lib.IntN.{ℤ}
-use lib.Ieee.{Float, nan, inf, fin, up, down, lt, neg}
+use Rattle.std.proofs.Common.{◌≡◌, refl, sym, ◌∙◌, Bool, true, false, true≢false, ℕ, ◌+◌, ◌*◌, arith, lt-ltb, ltb-true, ℤ, Float}
+use Rattle.std.specs.Float.{nan, inf, fin}
+use Rattle.std.specs.Float.Ieee.{up, down, lt, neg}
 use Rattle.float.specs.Float.{abs_of}
 use Rattle.float.specs.Binary64.{◌-₆₄◌}
 use Rattle.seed_rules.specs.Rules.{closer}
 use Rattle.seed_lists.proofs.checks.closer.Goals as goal
 
+-- what a number is below, its negative is below too, where the number is not negative
 below_too : (m : ℕ) (e : ℤ) (l : Float) → lt (fin false m e) l ≡ true → lt (fin true m e) l ≡ true
 unfolding lt
 below_too m e nan h = h

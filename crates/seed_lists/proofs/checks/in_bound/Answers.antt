@@ -1,5 +1,4 @@
 -- `seed_lists::checks::in_bound` meets its contract: both magnitudes are at most the bound. Assumes nothing.
-use borrow.Author.Rules.{rules}
 use Rattle.seed_rules.specs.Rules.{in_bound, within}
 use Rattle.seed_lists.proofs.checks.in_bound.Goals as goal
 

@@ -1,8 +1,7 @@
 -- `seed_lists::checks::near` meets its contract: tilts and camera are near. Assumes nothing.
-use mathlib.Core.Path.{sym, ◌∙◌}
+use Rattle.std.proofs.Common.{sym, ◌∙◌}
 use Rattle.seed_rules.specs.Rules.{near}
-use Rattle.seed_rules.specs.Steps.{and_right, and_left}
-use borrow.Author.Rules.{rules}
+use Rattle.seed_rules.proofs.Steps.{and_right, and_left}
 use Rattle.seed_lists.proofs.checks.near.Goals as goal
 
 pub returns-then-tilt_near : goal.returns-then-tilt_near

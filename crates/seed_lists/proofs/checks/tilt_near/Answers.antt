@@ -1,8 +1,7 @@
 -- `seed_lists::checks::tilt_near` meets its contract: both tilts are closer than the limit. Assumes nothing.
-use mathlib.Core.Path.{sym, ◌∙◌}
+use Rattle.std.proofs.Common.{sym, ◌∙◌}
 use Rattle.seed_rules.specs.Rules.{tilt_near}
-use Rattle.seed_rules.specs.Steps.{and_right, and_left}
-use borrow.Author.Rules.{rules}
+use Rattle.seed_rules.proofs.Steps.{and_right, and_left}
 use Rattle.seed_lists.proofs.checks.tilt_near.Goals as goal
 
 pub returns-then-closer : goal.returns-then-closer

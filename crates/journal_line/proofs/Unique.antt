@@ -1,0 +1,201 @@
+-- Each line has one reading, and each reading one line; so have whole journals. Assumes nothing.
+use Prim.Native.Nat.{ℕ, zero, suc, ◌+◌, ◌<◌, ◌≤◌}
+use Rattle.std.specs.Prelude.{◌≡◌, true, false, ◌&&◌, leb, ltb, eqb, length, get_or, drop, Float}
+use Rattle.std.proofs.Math.Path.{refl, sym}
+use Rattle.std.proofs.Common.{ap, ap₂, ◌∙◌, arith, length-append, length-drop, drop-drop}
+use Rattle.std.proofs.Math.Bool.{true≢false}
+use mathlib.Core.List.{List, [], ◌∷◌, ◌++◌, map, append_assoc}
+use borrow.Author.Tests.{leb-true, lt-ltb, ltb-true, ltb-false, eq-eqb, eqb-true}
+use Rattle.std.proofs.Math.Seq.{drop_at, drop-append_seam}
+use Rattle.std.specs.Float.Ieee.Bits.{of_bits-fits}
+use Rattle.common.specs.Each.{All}
+use Rattle.common.specs.Tests.{case, both_true}
+use Rattle.seed_rules.specs.Layout.{six, seed_at}
+use Rattle.journal_line.specs.declared.Recorded.{Recorded}
+use Rattle.journal_line.specs.declared.Recorded.TheVariants.{Scored, Skipped}
+use Rattle.journal_line.specs.declared.Line.{Line}
+use Rattle.journal_line.specs.declared.Read.{Read}
+use Rattle.journal_line.specs.declared.Read.TheVariants.{Got, End, Refused}
+use Rattle.journal_line.specs.Line.{decimal_width, decimal, real, reason_letter, eight, outcome_fields, rest_of_line, line_bytes, recordable, writable, Fits, recorded_numbers, LineFits, Writable}
+use Rattle.journal_line.specs.Reading.{real_at, reals, scored_at, reason_of, outcome_at, from_round, from_seed, unchecked_line, begins, of_form, line_number_of, read_line}
+use Rattle.journal_line.proofs.DigitLaws.{width_back, number_back, decimal_length, width_fits}
+use Rattle.journal_line.proofs.FieldLaws.{next_field, reals_back, past_reals, wide, rest_length, reals_wide}
+
+-- ---- what was written is what the bytes would be
+reason_back : (r : ℕ) → (leb 1 r && leb r 4) ≡ true → (eqb (reason_letter r) 83 ≡ false) × (reason_of (reason_letter r) ≡ r)
+unfolding reason_letter reason_of
+reason_back zero h = absurd (true≢false (sym h))
+reason_back (suc zero) h = (refl, refl)
+reason_back (suc (suc zero)) h = (refl, refl)
+reason_back (suc (suc (suc zero))) h = (refl, refl)
+reason_back (suc (suc (suc (suc zero)))) h = (refl, refl)
+reason_back (suc (suc (suc (suc (suc r))))) h =
+    let k = leb-true (suc (suc (suc (suc (suc r))))) 4 (both_true (leb 1 (suc (suc (suc (suc (suc r)))))) (leb (suc (suc (suc (suc (suc r))))) 4) h).1 in
+    absurd (omega arith)
+
+outcome_back : (o : Recorded) (s : List ℕ) → recordable o ≡ true → All Fits (recorded_numbers o) → outcome_at (rest_of_line (outcome_fields o) ++ s) ≡ o
+unfolding outcome_at outcome_fields rest_of_line recordable
+outcome_back (Scored r) s h k = ap (λ (l : List Float). Scored (scored_at l)) (reals_back [] s (eight r) k)
+outcome_back (Skipped r) s h k = let e = reason_back r h in rw (e.0, e.1)
+
+pub past_comma : (f s : List ℕ) (n : ℕ) → length f ≡ n → drop (n + 1) (f ++ 44 ∷ s) ≡ s
+past_comma f s n e = sym (drop-drop 1 n (f ++ 44 ∷ s)) ∙ ap (drop 1) (drop_at f (44 ∷ s) n e)
+
+module _ (n r : ℕ) (hn : n < 1000) (hr : r < 1000) where
+  head_at : (t : List ℕ) → unchecked_line (decimal n ++ 44 ∷ (decimal r ++ 44 ∷ t)) ≡ record { number = n; round = r; seed = seed_at (reals 6 (44 ∷ t)) 0; outcome = outcome_at (drop 102 (44 ∷ t)) }
+  unfolding unchecked_line from_round from_seed
+  head_at t =
+      let x : List ℕ = decimal r ++ 44 ∷ t in
+      rw (width_back n hn x, number_back n hn x, past_comma (decimal n) x (decimal_width n) (decimal_length n), width_back r hr t, number_back r hr t, drop_at (decimal r) (44 ∷ t) (decimal_width r) (decimal_length r))
+
+  head_back : (u t : List ℕ) → u ≡ 44 ∷ t → unchecked_line (decimal n ++ 44 ∷ (decimal r ++ u)) ≡ record { number = n; round = r; seed = seed_at (reals 6 u) 0; outcome = outcome_at (drop 102 u) }
+  head_back u t e = rw e (head_at t)
+
+-- the bytes of a line in front of others
+line_then : (l : Line) (s : List ℕ) → line_bytes l ++ s ≡ decimal l.number ++ 44 ∷ (decimal l.round ++ (rest_of_line (map real (six l.seed) ++ outcome_fields l.outcome) ++ s))
+unfolding line_bytes
+line_then l s =
+    append_assoc (decimal l.number) (rest_of_line (decimal l.round ∷ (map real (six l.seed) ++ outcome_fields l.outcome))) s
+    ∙ ap (λ (r : List ℕ). decimal l.number ++ r) (next_field (decimal l.round) (map real (six l.seed) ++ outcome_fields l.outcome) s)
+
+-- what the writer takes
+pub can_write : (l : Line) → Writable l → (l.number ≤ 655) × (l.round ≤ 16) × (recordable l.outcome ≡ true)
+unfolding writable
+can_write l can =
+    let a = both_true (leb l.number 655 && leb l.round 16) (recordable l.outcome) can in
+    let b = both_true (leb l.number 655) (leb l.round 16) a.0 in
+    (leb-true l.number 655 b.0, leb-true l.round 16 b.1, a.1)
+
+module _ (l : Line) (ok : LineFits l) (can : Writable l) (s : List ℕ) where
+  abbrev rest : List ℕ
+  rest = rest_of_line (map real (six l.seed) ++ outcome_fields l.outcome) ++ s
+
+  pub unchecked_back : unchecked_line (line_bytes l ++ s) ≡ l
+  unchecked_back =
+      let bounds = can_write l can in
+      let fs = outcome_fields l.outcome in
+      let q = next_field (real l.seed.reference_k.fx) (drop 1 (map real (six l.seed)) ++ fs) s in
+      let a : reals 6 rest ≡ six l.seed = reals_back fs s (six l.seed) ok.seed_fits in
+      let b : drop 102 rest ≡ rest_of_line fs ++ s = past_reals fs s (six l.seed) in
+      let c : outcome_at (drop 102 rest) ≡ l.outcome = ap outcome_at b ∙ outcome_back l.outcome s bounds.2 ok.outcome_fits in
+      ap unchecked_line (line_then l s) ∙ head_back l.number l.round (omega arith) (omega arith) rest _ q ∙ rw (a, c)
+
+-- ---- beginning with
+begins_own : (w s : List ℕ) → begins w (w ++ s) ≡ true
+unfolding begins
+begins_own [] s = refl
+begins_own (c ∷ w) s = rw (eq-eqb c c refl) (begins_own w s)
+
+pub begins_is : (w s : List ℕ) → begins w s ≡ true → s ≡ w ++ drop (length w) s
+unfolding begins
+begins_is [] s h = refl
+begins_is (c ∷ w) [] h = absurd (true≢false (sym h))
+begins_is (c ∷ w) (d ∷ s) h =
+    let p = both_true (eqb c d) (begins w s) h in
+    rw (eqb-true c d p.0) (ap (λ (r : List ℕ). d ∷ r) (begins_is w s p.1))
+
+-- ---- of the form: the bytes begin with a line that can be written
+pub form_own : (l : Line) → LineFits l → Writable l → (s : List ℕ) → of_form (line_bytes l ++ s) ≡ true
+unfolding of_form
+form_own l ok can s = rw (unchecked_back l ok can s, can, begins_own (line_bytes l) s)
+
+pub record Begins (s : List ℕ) (l : Line) : Type 0 where
+  pub can_be_written : Writable l
+  pub line_fits : LineFits l
+  pub written_so : s ≡ line_bytes l ++ drop (length (line_bytes l)) s
+
+reals_fits : (n : ℕ) (s : List ℕ) → All Fits (reals n s)
+unfolding reals real_at
+reals_fits zero s = tt
+reals_fits (suc n) s = (of_bits-fits _ _, reals_fits n (drop 17 s))
+
+outcome_fits : (s : List ℕ) → All Fits (recorded_numbers (outcome_at s))
+unfolding outcome_at reals
+outcome_fits s = case (eqb (get_or s 1 0) 83) (λ e. rw e (reals_fits 8 (drop 2 s))) (λ e. rw e tt)
+
+pub unchecked_fits : (s : List ℕ) → LineFits (unchecked_line s)
+unfolding unchecked_line reals
+unchecked_fits s = record { seed_fits = reals_fits 6 (from_seed s); outcome_fits = outcome_fits (drop 102 (from_seed s)) }
+
+pub form_is : (s : List ℕ) → of_form s ≡ true → Begins s (unchecked_line s)
+unfolding of_form
+form_is s h =
+    let p = both_true (writable (unchecked_line s)) (begins (line_bytes (unchecked_line s)) s) h in
+    record { can_be_written = p.0; line_fits = unchecked_fits s; written_so = begins_is (line_bytes (unchecked_line s)) s p.1 }
+
+-- ---- how long a line is
+outcome_wide : (o : Recorded) → (19 ≤ wide (outcome_fields o)) × (wide (outcome_fields o) ≤ 139)
+unfolding outcome_fields wide
+outcome_wide (Scored r) = omega (arith, reals_wide (eight r) [])
+outcome_wide (Skipped r) = (omega arith, omega arith)
+
+pub line_length : (l : Line) → length (line_bytes l) ≡ decimal_width l.number + (suc (decimal_width l.round) + (102 + wide (outcome_fields l.outcome)))
+unfolding line_bytes wide
+line_length l =
+    let fs = map real (six l.seed) ++ outcome_fields l.outcome in
+    omega (
+      arith,
+      length-append (decimal l.number) (rest_of_line (decimal l.round ∷ fs)),
+      decimal_length l.number,
+      decimal_length l.round,
+      rest_length (decimal l.round ∷ fs),
+      reals_wide (six l.seed) (outcome_fields l.outcome),
+    )
+
+two_digits : (r : ℕ) → r ≤ 16 → decimal_width r ≤ 2
+unfolding decimal_width
+two_digits r h = case (ltb r 10) (λ e. rw e (omega arith)) (λ e. rw (e, lt-ltb r 100 (omega arith)) (omega arith))
+
+pub line_bounds : (l : Line) → Writable l → (124 ≤ length (line_bytes l)) × (length (line_bytes l) ≤ 247)
+line_bounds l can =
+    let b = can_write l can in
+    let d = width_fits l.number (omega arith) in
+    let e = width_fits l.round (omega arith) in
+    let f = two_digits l.round b.1 in
+    let g = outcome_wide l.outcome in
+    let h = line_length l in
+    (omega arith, omega arith)
+
+-- ---- each line has one reading
+-- no line's bytes begin another's
+pub line_injective : (l m : Line) → LineFits l → Writable l → LineFits m → Writable m → (s t : List ℕ) → line_bytes l ++ s ≡ line_bytes m ++ t → (l ≡ m) × (s ≡ t)
+line_injective l m a b c d s t e =
+    let p : l ≡ m = sym (unchecked_back l a b s) ∙ ap unchecked_line e ∙ unchecked_back m c d t in
+    (p, sym (drop-append_seam (line_bytes l) s) ∙ ap₂ (λ (k : Line) (r : List ℕ). drop (length (line_bytes k)) r) p e ∙ drop-append_seam (line_bytes m) t)
+
+pub one_reading_at : (s : List ℕ) (at : ℕ) (l : Line) (rest : List ℕ) → LineFits l → Writable l → drop at s ≡ line_bytes l ++ rest → read_line s at ≡ Got l (at + length (line_bytes l))
+unfolding read_line
+one_reading_at s at l rest ok can e =
+    let k : at < length s = omega (arith, ap length e, length-drop at s, length-append (line_bytes l) rest, line_bounds l can) in
+    rw (lt-ltb at (length s) k, e, form_own l ok can rest, unchecked_back l ok can rest)
+
+pub one_reading : (l : Line) → LineFits l → Writable l → (before rest : List ℕ)
+    → read_line (before ++ (line_bytes l ++ rest)) (length before) ≡ Got l (length before + length (line_bytes l))
+one_reading l ok can before rest = one_reading_at (before ++ (line_bytes l ++ rest)) (length before) l rest ok can (drop-append_seam before (line_bytes l ++ rest))
+
+-- ---- each reading has one line
+pub record LineAt (s : List ℕ) (at next : ℕ) (l : Line) : Type 0 where
+  pub can_be_written : Writable l
+  pub line_fits : LineFits l
+  pub next_is : next ≡ at + length (line_bytes l)
+  pub bytes_are : drop at s ≡ line_bytes l ++ drop next s
+
+module _ (s : List ℕ) (at : ℕ) where
+  found : of_form (drop at s) ≡ true → LineAt s at (at + length (line_bytes (unchecked_line (drop at s)))) (unchecked_line (drop at s))
+  found h =
+      let b = form_is (drop at s) h in
+      record { can_be_written = b.can_be_written; line_fits = b.line_fits; next_is = refl; bytes_are = b.written_so ∙ ap (λ (r : List ℕ). line_bytes (unchecked_line (drop at s)) ++ r) (drop-drop (length (line_bytes (unchecked_line (drop at s)))) at s) }
+
+  -- what an answer tells
+  abbrev pub Correct : Read → Type 0
+  Correct (Got l next) = LineAt s at next l
+  Correct End = length s ≤ at
+  Correct (Refused k n) = (k ≡ 29) × (n ≡ line_number_of s at) × (at < length s) × ((l : Line) (rest : List ℕ) → LineFits l → Writable l → drop at s ≡ line_bytes l ++ rest → ⊥)
+
+  pub read_correct : Correct (read_line s at)
+  unfolding read_line
+  read_correct =
+      case (ltb at (length s)) (λ e. case (of_form (drop at s)) (λ f. rw (e, f) (found f)) (λ f. rw (e, f) (refl, refl, ltb-true at (length s) e, λ l rest ok can q. true≢false (sym (form_own l ok can rest) ∙ sym (ap of_form q) ∙ f)))) (λ e. rw e (ltb-false at (length s) e))
+
+  pub one_line : (l : Line) (next : ℕ) → read_line s at ≡ Got l next → LineAt s at next l
+  one_line l next e = rw e at read_correct

@@ -1,0 +1,36 @@
+-- What follows of Spread. Assumes nothing.
+use Rattle.std.specs.Prelude.{◌≡◌, true, false, ℕ, ◌≤◌, length, Float}
+use Rattle.std.proofs.Common.{sym, ◌∙◌, arith, ne_eqb}
+use Rattle.std.proofs.Math.Bool.{true≢false}
+use mathlib.Core.List.{List, [], ◌∷◌, ◌++◌}
+use Rattle.std.specs.Float.Ieee.{le}
+use Rattle.common.specs.Refusal.{◌when◌, first_refusal}
+use Rattle.common.specs.RefusalLaws.{refuses_no_more}
+use Rattle.common.specs.Tests.{case}
+use Rattle.camera_models.specs.declared.math.Pt2.{Pt2}
+use Rattle.point_normalise.specs.Linalg.{epsilon, mean_distance, centroid_of, degenerate}
+use Rattle.point_homography.specs.Line.{collinear_of}
+use Rattle.point_homography.specs.Rows.{design_conditions, rows_refusal}
+use Rattle.point_homography.specs.RowsLaws.{Fine, fine}
+use Rattle.point_homography.specs.Spread.{mean_close, close_collinear}
+
+-- ---- so the mean distance of 3 to 400 points that aren't collinear, from any point, is not at most 2^-52
+module _ (s : List Float) (n : 6 ≤ length s) (m : length s ≤ 800) where
+  pub mean_above : (c : Pt2) → collinear_of s ≡ false → le (mean_distance c s) epsilon ≡ false
+  mean_above c h = case (le (mean_distance c s) epsilon) (λ e. absurd (true≢false (sym (close_collinear c s n (mean_close c s m e)) ∙ h))) (λ e. e)
+
+  pub not_degenerate : collinear_of s ≡ false → degenerate s ≡ false
+  unfolding degenerate
+  not_degenerate h = rw (ne_eqb (length s) 0 (λ e. omega arith), mean_above (centroid_of s) h)
+
+-- ---- Rows: what its refusals let pass is normalised, the source points and the destination points alike
+pub normalised : (src dst : List Float) (room : ℕ) → rows_refusal src dst room ≡ 0 → (degenerate src ≡ false) × (degenerate dst ≡ false)
+normalised src dst room h =
+    let f : Fine src dst room = fine src dst room h in (
+      not_degenerate src (omega (arith, f.least)) f.source f.source_off,
+      not_degenerate dst (omega (arith, f.least, f.count)) (omega (arith, f.source, f.count)) f.target_off,
+    )
+
+-- so the Rust's two checks after its line tests, with whatever number, refuse nothing
+pub checks_refuse_nothing : (n : ℕ) (src dst : List Float) (room : ℕ) → first_refusal (design_conditions src dst room ++ (n when degenerate src) ∷ (n when degenerate dst) ∷ []) ≡ rows_refusal src dst room
+checks_refuse_nothing n src dst room = refuses_no_more (design_conditions src dst room) ((n when degenerate src) ∷ (n when degenerate dst) ∷ []) (λ h. let f = normalised src dst room h in rw (f.0, f.1))

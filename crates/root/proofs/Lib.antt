@@ -1,0 +1,6 @@
+pub mod Laws
+pub mod Nearest
+pub mod NearestWhole
+pub mod RootReaches
+pub mod Squares
+pub mod Summary

@@ -1,0 +1,2 @@
+pub mod FloorLaws
+pub mod Penalty

@@ -1,0 +1,18 @@
+-- What follows of Penalty. Assumes nothing.
+use Rattle.std.specs.Prelude.{◌≡◌}
+use Rattle.std.proofs.Math.Bool.{false}
+use Rattle.std.specs.Float.Ieee.{lt, is_nan}
+use Rattle.camera_models.specs.declared.math.Pt2.{Pt2}
+use Rattle.camera_tilt.specs.declared.sensor.ScheimpflugParams.{ScheimpflugParams}
+use Rattle.score_camera.specs.Penalties.{tilt_penalty}
+use Rattle.score_outcome.specs.declared.Scoring.{Scoring}
+use Rattle.score_outcome.specs.Facts.{ScoredFacts}
+use Rattle.score_floor.specs.Penalty.{score_not_below, tilt_number_lem}
+
+-- ---- of whatever is scored: by what holds of every scored finding, whichever camera and rows the host sent
+module _ (sensor : ScheimpflugParams) (center : Pt2) (g : Scoring) (s : ScoredFacts sensor center g) where
+  pub scored_not_below : lt g.score (tilt_penalty sensor) ≡ false
+  scored_not_below = rw s.score_is (score_not_below g.mean g.camera sensor center s.mean_not_below)
+
+  pub penalty_number : is_nan (tilt_penalty sensor) ≡ false
+  penalty_number = tilt_number_lem g.mean g.camera sensor center (rw s.score_is at s.score_number)

@@ -1,0 +1,181 @@
+-- What follows of Steps. Assumes nothing.
+use Rattle.std.specs.Prelude.{◌≡◌, ℕ, zero, suc, ◌+◌, ◌*◌, ◌%◌, ◌^◌, ◌<◌, ◌≤◌, Bool, true, false, cond, ◌&&◌, List, [], ◌∷◌, length, drop, ◌==◌, slice_index, slice_index_or, refl, Float}
+use Rattle.std.proofs.Common.{sym, ap, ap₂, subst, ◌∙◌, arith, mod-eq_of_lt, add-one, drop-cons}
+use Rattle.std.proofs.Math.Seq.{drop-length}
+use Rattle.std.specs.Float.{nan, binary64}
+use Rattle.std.specs.Float.Ieee.{of_bits}
+use Rattle.float.specs.Binary64.{◌+₆₄◌}
+use Rattle.float.specs.Float.{is_finite}
+use Rattle.root.specs.Root.{root}
+use Rattle.root_code.specs.Bits.{finite_bits}
+use Rattle.camera_tilt.specs.Matrix.{Matrix}
+use Rattle.score_rows.specs.Rows.{rows_of, row_error, is_counted, counted_errors, no_errors, summed, error_sum}
+use Rattle.score_camera.specs.declared.pinhole.PinholeCamera.{PinholeCamera}
+use Rattle.score_rows.specs.declared.Row.{Row}
+use Rattle.score_rows.specs.declared.ErrorSum.{ErrorSum}
+use Rattle.score_rows.specs.Steps.{add_error, squared_distance, square_at, add_row, add_rows, add_bits, add_all, one_in_front, in_front, Squares, QuickRoots, row_at}
+
+-- ---- row by row: s has the errors of the first i rows, and adding those of the rest to it gives the whole
+pub record Passed (c : PinholeCamera) (h : Matrix) (rows : List Row) (i : ℕ) (s : ErrorSum) : Type 0 where
+  few : s.count ≤ i
+  rest : summed s (counted_errors c h (drop i rows)) ≡ error_sum c h rows
+
+-- ---- how many rows there are
+-- as many as the flags, where there are four numbers for each
+pub rows_by_flags : (ns : List Float) (fs : List ℕ) → 4 * length fs ≤ length ns → length (rows_of ns fs) ≡ length fs
+unfolding rows_of
+rows_by_flags [] [] h = refl
+rows_by_flags (x ∷ []) [] h = refl
+rows_by_flags (x ∷ y ∷ []) [] h = refl
+rows_by_flags (x ∷ y ∷ u ∷ []) [] h = refl
+rows_by_flags (x ∷ y ∷ u ∷ v ∷ ns) [] h = refl
+rows_by_flags [] (f ∷ fs) h = absurd (omega arith)
+rows_by_flags (x ∷ []) (f ∷ fs) h = absurd (omega arith)
+rows_by_flags (x ∷ y ∷ []) (f ∷ fs) h = absurd (omega arith)
+rows_by_flags (x ∷ y ∷ u ∷ []) (f ∷ fs) h = absurd (omega arith)
+rows_by_flags (x ∷ y ∷ u ∷ v ∷ ns) (f ∷ fs) h = ap suc (rows_by_flags ns fs (omega arith))
+
+-- as many as the numbers' fours, where there is a flag for each
+pub rows_by_fours : (ns : List Float) (fs : List ℕ) (n : ℕ) → 4 * n ≤ length ns → length ns < 4 * n + 4 → n ≤ length fs → length (rows_of ns fs) ≡ n
+unfolding rows_of
+rows_by_fours [] fs n a b c = omega arith
+rows_by_fours (x ∷ []) fs n a b c = omega arith
+rows_by_fours (x ∷ y ∷ []) fs n a b c = omega arith
+rows_by_fours (x ∷ y ∷ u ∷ []) fs n a b c = omega arith
+rows_by_fours (x ∷ y ∷ u ∷ v ∷ ns) [] n a b c = absurd (omega arith)
+rows_by_fours (x ∷ y ∷ u ∷ v ∷ ns) (f ∷ fs) zero a b c = absurd (omega arith)
+rows_by_fours (x ∷ y ∷ u ∷ v ∷ ns) (f ∷ fs) (suc n) a b c = ap suc (rows_by_fours ns fs n (omega arith) (omega arith) (omega arith))
+
+-- ---- each row is the one that stands at its place
+past_four : (x y u v : Float) (ns : List Float) (n m : ℕ) → n ≡ suc (suc (suc (suc m))) → slice_index_or (x ∷ y ∷ u ∷ v ∷ ns) n nan ≡ slice_index_or ns m nan
+past_four x y u v ns n m e = rw e
+
+row_at_lem : (ns : List Float) (fs : List ℕ) (i : ℕ) (r : Row) → i < length (rows_of ns fs) → slice_index_or (rows_of ns fs) i r ≡ row_at ns fs i
+unfolding rows_of row_at
+row_at_lem [] fs i r h = absurd (omega arith)
+row_at_lem (x ∷ []) fs i r h = absurd (omega arith)
+row_at_lem (x ∷ y ∷ []) fs i r h = absurd (omega arith)
+row_at_lem (x ∷ y ∷ u ∷ []) fs i r h = absurd (omega arith)
+row_at_lem (x ∷ y ∷ u ∷ v ∷ ns) [] i r h = absurd (omega arith)
+row_at_lem (x ∷ y ∷ u ∷ v ∷ ns) (f ∷ fs) zero r h = refl
+row_at_lem (x ∷ y ∷ u ∷ v ∷ ns) (f ∷ fs) (suc i) r h =
+    let p = past_four x y u v ns in
+    simp (p (4 * suc i) (4 * i) (omega arith), p (4 * suc i + 1) (4 * i + 1) (omega arith), p (4 * suc i + 2) (4 * i + 2) (omega arith), p (4 * suc i + 3) (4 * i + 3) (omega arith))
+    (row_at_lem ns fs i r (omega arith))
+
+-- ---- blocks of rows
+pub rows_more : (s : ErrorSum) (c : PinholeCamera) (h : Matrix) (ns : List Float) (fs : List ℕ) (i m n : ℕ)
+    → add_rows (add_rows s c h ns fs i m) c h ns fs (i + m) n ≡ add_rows s c h ns fs i (m + n)
+unfolding add_rows
+rows_more s c h ns fs i m zero = let e : m + 0 ≡ m = omega arith in rw e
+rows_more s c h ns fs i m (suc j) =
+    let e : m + suc j ≡ suc (m + j) = omega arith in
+    let z : i + (m + j) ≡ i + m + j = omega arith in
+    rw (e, z, rows_more s c h ns fs i m j)
+
+-- a root whose bits are a finite number's is counted by its flag alone
+bits_row : (s : ErrorSum) (flag b : ℕ) (x : Float) → b < 0x7ff0_0000_0000_0000 → of_bits binary64 b ≡ root binary64 x
+    → add_error s (flag == 1) (of_bits binary64 b) ≡ add_error s (flag == 1 && is_finite (root binary64 x)) (root binary64 x)
+bits_row s flag b x small e =
+    let finite : is_finite (root binary64 x) ≡ true = ap is_finite (sym e) ∙ finite_bits b small in
+    ap₂ (add_error s) (sym (ap (λ (t : Bool). (flag == 1) && t) finite ∙ and-true (flag == 1))) e
+  where
+    and-true : (t : Bool) → (t && true) ≡ t
+    and-true true = refl
+    and-true false = refl
+
+pub from_bits : (s : ErrorSum) (c : PinholeCamera) (h : Matrix) (ns : List Float) (fs : List ℕ) (xs : List Float) (bits : List ℕ) (wrong i n : ℕ)
+    → Squares c h ns i n xs → QuickRoots n bits wrong xs → wrong < 2 ^ 37 → add_bits s fs bits i n ≡ add_rows s c h ns fs i n
+unfolding add_bits add_rows add_row
+from_bits s c h ns fs xs bits wrong i zero squares quick z = refl
+from_bits s c h ns fs xs bits wrong i (suc j) squares quick z =
+    let q = quick j (omega arith) z in
+    let x = squares j (omega arith) in
+    rw (from_bits s c h ns fs xs bits wrong i j (λ k l. squares k (omega (arith, l))) (λ k l. quick k (omega (arith, l))) z)
+    (bits_row (add_rows s c h ns fs i j) (slice_index fs (i + j)) (slice_index bits j) (square_at c h ns (i + j)) q.0 (q.1 ∙ ap (root binary64) x))
+
+-- ---- how many rows lie in front
+pub one_at_most : (flag : ℕ) → one_in_front flag ≤ 1
+unfolding one_in_front
+one_at_most flag = go (flag == 1)
+  where
+    go : (v : Bool) → cond v 1 0 ≤ 1
+    go true = omega arith
+    go false = omega arith
+
+pub front_at_most : (fs : List ℕ) (i n : ℕ) → in_front fs i n ≤ n
+unfolding in_front
+front_at_most fs i zero = omega arith
+front_at_most fs i (suc j) = omega (arith, front_at_most fs i j, one_at_most (slice_index fs (i + j)))
+
+-- all of them: their flags say nothing more
+all_step : (v : Bool) (m j : ℕ) → m ≤ j → m + cond v 1 0 ≡ suc j → (v ≡ true) × (m ≡ j)
+all_step true m j l e = (refl, omega (arith, e))
+all_step false m j l e = absurd (omega (arith, e))
+
+pub all_bits : (s : ErrorSum) (fs bits : List ℕ) (i n : ℕ) → in_front fs i n ≡ n → add_all s bits n ≡ add_bits s fs bits i n
+unfolding add_all add_bits in_front one_in_front
+all_bits s fs bits i zero all = refl
+all_bits s fs bits i (suc j) all =
+    let step = all_step (slice_index fs (i + j) == 1) (in_front fs i j) j (front_at_most fs i j) all in
+    rw (step.0, all_bits s fs bits i j step.1)
+
+-- none of them: nothing is added
+none_step : (v : Bool) (m : ℕ) → m + cond v 1 0 ≡ 0 → (v ≡ false) × (m ≡ 0)
+none_step true m e = absurd (omega (arith, e))
+none_step false m e = (refl, omega (arith, e))
+
+pub none_counted : (s : ErrorSum) (c : PinholeCamera) (h : Matrix) (ns : List Float) (fs : List ℕ) (i n : ℕ) → in_front fs i n ≡ 0 → s ≡ add_rows s c h ns fs i n
+unfolding add_rows add_row add_error in_front one_in_front
+none_counted s c h ns fs i zero none = refl
+none_counted s c h ns fs i (suc j) none =
+    let step = none_step (slice_index fs (i + j) == 1) (in_front fs i j) none in
+    rw step.0 (none_counted s c h ns fs i j step.1)
+
+one_more : (s : ErrorSum) (c : PinholeCamera) (h : Matrix) (r : Row) (rs : List Row)
+    → s.count + 1 < 2 ^ 64 → summed (add_error s (is_counted c h r) (row_error c h r)) (counted_errors c h rs) ≡ summed s (counted_errors c h (r ∷ rs))
+unfolding add_error counted_errors summed
+one_more s c h r rs small =
+    let e = row_error c h r in
+    let es = counted_errors c h rs in
+    elim (is_counted c h r) as (λ (v : Bool). summed (cond v (record { sum = s.sum +₆₄ e; count = (s.count + 1) % 2 ^ 64 }) s) es ≡ summed s (cond v (e ∷ es) es)) [
+      | true ↦ rw (mod-eq_of_lt small)
+      | false ↦ refl
+    ]
+
+count_more : (s : ErrorSum) (v : Bool) (e : Float) → (add_error s v e).count ≤ s.count + 1
+unfolding add_error
+count_more s true e = omega arith
+count_more s false e = omega arith
+
+passed_more : (c : PinholeCamera) (h : Matrix) (rows : List Row) (i : ℕ) (s : ErrorSum) (r : Row)
+    → i < length rows → i + 1 < 2 ^ 64 → slice_index_or rows i r ≡ r → Passed c h rows i s → Passed c h rows (i + 1) (add_error s (is_counted c h r) (row_error c h r))
+passed_more c h rows i s r below small at p =
+    record {
+      few = omega (arith, count_more s (is_counted c h r) (row_error c h r));
+      rest = rw (add-one i) (one_more s c h r (drop (suc i) rows) (omega arith) ∙ (rw (drop-cons rows i r below, at) at p.rest));
+    }
+
+-- as the rules have it
+add_row_at : (s : ErrorSum) (c : PinholeCamera) (h : Matrix) (ns : List Float) (fs : List ℕ) (k : ℕ)
+    → add_row s c h ns fs k ≡ add_error s (is_counted c h (row_at ns fs k)) (row_error c h (row_at ns fs k))
+unfolding add_row square_at squared_distance row_at is_counted row_error
+add_row_at s c h ns fs k = let last : 4 * k + 2 + 1 ≡ 4 * k + 3 = omega arith in rw last
+
+passed : (c : PinholeCamera) (h : Matrix) (ns : List Float) (fs : List ℕ) (n : ℕ)
+    → n ≤ length (rows_of ns fs) → n < 2 ^ 64 → Passed c h (rows_of ns fs) n (add_rows no_errors c h ns fs 0 n)
+unfolding add_rows error_sum
+passed c h ns fs zero inside small = record { few = omega arith; rest = refl }
+passed c h ns fs (suc k) inside small =
+    let s = add_rows no_errors c h ns fs 0 k in
+    let r = row_at ns fs k in
+    let below : k < length (rows_of ns fs) = omega arith in
+    let z : 0 + k ≡ k = omega arith in
+    rw (z, add_row_at s c h ns fs k)
+    (subst (λ (j : ℕ). Passed c h (rows_of ns fs) j (add_error s (is_counted c h r) (row_error c h r))) (add-one k)
+    (passed_more c h (rows_of ns fs) k s r below (omega arith) (row_at_lem ns fs k r below) (passed c h ns fs k (omega arith) (omega arith))))
+
+pub all_rows : (c : PinholeCamera) (h : Matrix) (ns : List Float) (fs : List ℕ) (n : ℕ) → n ≡ length (rows_of ns fs) → n < 2 ^ 64
+    → add_rows no_errors c h ns fs 0 n ≡ error_sum c h (rows_of ns fs)
+unfolding counted_errors summed
+all_rows c h ns fs n e small = rw e (rw drop-length at (passed c h ns fs (length (rows_of ns fs)) (omega arith) (rw e at small)).rest)

@@ -1,0 +1,94 @@
+-- When seeds are left, and what the floor of a reply means: it is the lowest penalty of the seeds left, and none of them can score below it, whatever list is lent.
+-- Assumes nothing.
+use Rattle.std.specs.Prelude.{ℕ, suc, ◌-◌, ◌≤◌, ◌<◌, ◌≡◌, refl, true, false, ltb, length, Float}
+use Rattle.std.proofs.Common.{arith, sym, ap, ◌∙◌, true≢false}
+use mathlib.Core.List.{List, [], ◌∷◌, Memᴰ}
+use borrow.Author.Tests.{lt-ltb, le-ltb}
+use Rattle.std.specs.Float.Ieee.{lt}
+use Rattle.common.specs.Tests.{case}
+use Rattle.camera_models.specs.declared.math.Pt2.{Pt2}
+use Rattle.seed_rules.specs.declared.CandidateSeed.{CandidateSeed}
+use Rattle.score_outcome.specs.declared.Finding.{Finding}
+use Rattle.score_outcome.specs.declared.Scoring.{Scoring}
+use Rattle.score_outcome.specs.declared.Outcome.TheVariants.{Scored}
+use Rattle.score_outcome.specs.Evaluation.{outcome_of}
+use Rattle.score_best.specs.declared.Best.{Best}
+use Rattle.score_best.specs.Best.{no_best}
+use Rattle.score_floor.specs.Floor.{floor_of, seeds_from, seeds_between}
+use Rattle.score_floor.proofs.FloorLaws.{floor_holds}
+use Rattle.search_record.specs.Record.{sound}
+use Rattle.search_record.specs.Laws.{bounds, waiting_at}
+use Rattle.search_record.specs.declared.run.Run.{Run}
+use Rattle.search_calls.specs.declared.stop.Outlook.{Outlook}
+use Rattle.search_calls.specs.declared.stop.Stopped.TheVariants.{Standing, Refused}
+use Rattle.search_calls.specs.Stop.{left_seeds, best_so_far, nothing_left, with_floor, outlook_of, stop_def}
+
+-- ---- whether a seed is left
+between_none : (l : List Float) (i n : ℕ) → n ≤ i → seeds_between l i n ≡ []
+unfolding seeds_from
+between_none l i n h = let e : n - i ≡ 0 = omega arith in rw e
+
+left_none : (r : Run) (l : List Float) → sound r ≡ true → r.place.len ≤ r.place.at → left_seeds r l ≡ []
+unfolding left_seeds
+left_none r l s h =
+    case r.waiting.is_waiting
+    (λ w. let k = waiting_at r (bounds r s) w in absurd (omega arith))
+    (λ w. rw w (between_none l r.place.at r.place.len h))
+
+some_between : (b : Best) (l : List Float) (i n : ℕ) → i < n → outlook_of b (seeds_between l i n) ≡ with_floor b (floor_of (seeds_between l i n))
+unfolding outlook_of seeds_from
+some_between b l i n h = let e : n - i ≡ suc (n - suc i) = omega arith in rw e
+
+left_some : (b : Best) (r : Run) (l : List Float) → r.place.at < r.place.len → outlook_of b (left_seeds r l) ≡ with_floor b (floor_of (left_seeds r l))
+unfolding left_seeds outlook_of
+left_some b r l h = case r.waiting.is_waiting (λ w. rw w) (λ w. rw w (some_between b l r.place.at r.place.len h))
+
+-- ---- the four ways that the call goes
+module _ (r : Run) (l : List Float) where
+  pub stop_unsound : sound r ≡ false → stop_def r l ≡ Standing (nothing_left no_best)
+  unfolding stop_def
+  stop_unsound s = simp s
+
+  module _ (s : sound r ≡ true) where
+    pub stop_short : length l < r.place.demand → stop_def r l ≡ Refused 10
+    unfolding stop_def
+    stop_short h = simp (s, lt-ltb (length l) r.place.demand h)
+
+    pub stop_none : r.place.demand ≤ length l → r.place.len ≤ r.place.at → stop_def r l ≡ Standing (nothing_left (best_so_far r))
+    unfolding stop_def outlook_of
+    stop_none h k = simp (s, le-ltb (length l) r.place.demand h, left_none r l s k)
+
+    pub stop_some : r.place.demand ≤ length l → r.place.at < r.place.len → stop_def r l ≡ Standing (with_floor (best_so_far r) (floor_of (left_seeds r l)))
+    unfolding stop_def
+    stop_some h k = simp (s, le-ltb (length l) r.place.demand h, left_some (best_so_far r) r l k)
+
+-- ---- the floor of a reply
+outlook_floor : (b : Best) (ss : List CandidateSeed) → (outlook_of b ss).has_floor ≡ true → (outlook_of b ss).floor ≡ floor_of ss
+unfolding outlook_of
+outlook_floor b [] h = absurd (true≢false (sym h))
+outlook_floor b (s ∷ ss) h = refl
+
+same_outlook : (o p : Outlook) → Standing o ≡ Standing p → o ≡ p
+same_outlook o p h = cc
+
+never : (n : ℕ) (o : Outlook) → Refused n ≡ Standing o → ⊥
+never n o h = let z : ◌≡◌ {A = ℕ} 0 1 = cc in omega arith
+
+pub stop_floor : (r : Run) (l : List Float) (o : Outlook) → stop_def r l ≡ Standing o → o.has_floor ≡ true → o.floor ≡ floor_of (left_seeds r l)
+unfolding stop_def
+stop_floor r l o e h =
+    case (sound r)
+    (λ s. case (ltb (length l) r.place.demand)
+    (λ t. absurd (never 10 o (simp (s, t) at e)))
+    (λ t.
+    let q = same_outlook (outlook_of (best_so_far r) (left_seeds r l)) o (simp (s, t) at e) in
+    ap (λ (p : Outlook). p.floor) (sym q) ∙ outlook_floor (best_so_far r) (left_seeds r l) (ap (λ (p : Outlook). p.has_floor) q ∙ h)))
+    (λ s.
+    let q = same_outlook (nothing_left no_best) o (simp s at e) in
+    absurd (true≢false (sym (ap (λ (p : Outlook). p.has_floor) q ∙ h))))
+
+-- 02, E9: no candidate from the seeds left can score below the floor, whichever camera the host finds
+pub none_below : (r : Run) (l : List Float) (o : Outlook) → stop_def r l ≡ Standing o → o.has_floor ≡ true → {s : CandidateSeed} → Memᴰ s (left_seeds r l)
+    → (share : ℕ) (f : Finding) (center : Pt2) (rows : List Float) (flags : List ℕ) (g : Scoring) → outcome_of share f s.sensor center rows flags ≡ Scored g → lt g.score o.floor ≡ false
+none_below r l o e h {s} m share f center rows flags g k =
+    ap (lt g.score) (stop_floor r l o e h) ∙ floor_holds (left_seeds r l) m share f center rows flags g k

@@ -1,0 +1,86 @@
+-- How long a later round's list is, for any two lists of offsets: the admissible x tilts times the admissible y tilts, where no two of either are near. Assumes nothing.
+use Rattle.std.specs.Prelude.{◌≡◌, refl, false, ◌&&◌, cond, Float}
+use Rattle.std.proofs.Math.Path.{ap}
+use Rattle.std.proofs.Common.{◌∙◌}
+use Rattle.std.proofs.Math.Bool.{and-false}
+use mathlib.Core.List.{List, [], ◌∷◌, ◌++◌, map}
+use Rattle.std.proofs.Math.ListN.{length, length-map}
+use Rattle.common.specs.Each.{All}
+use Rattle.common.specs.All.{all_append, all_mapped}
+use Rattle.common.specs.Tests.{case}
+use Rattle.camera_models.specs.declared.intrinsics.FxFyCxCy.{FxFyCxCy}
+use Rattle.camera_tilt.specs.declared.sensor.ScheimpflugParams.{ScheimpflugParams}
+use Rattle.seed_rules.specs.Merge.{keep, merged}
+use Rattle.seed_rules.proofs.MergeLaws.{keep_append}
+use Rattle.seed_rules.specs.Rules.{closer, tilt_limit, tilt_near, near, within, in_bound, tilts, pairs, seed_with, moved, next_list}
+use Rattle.seed_rules.proofs.RulesLaws.{pairs_length}
+use Rattle.seed_rules.proofs.Unmerged.{Apart, merged_apart, append_apart, map_apart}
+use Rattle.seed_counts.specs.Admissible.{admitted, seed_count}
+
+-- no tilt is nearer than 1e-12 to a later one, as the rounded difference says
+abbrev pub TiltsApart : List Float → Type 0
+TiltsApart ts = Apart (closer tilt_limit) ts
+
+-- ---- those of all pairs that lie within the bound are the pairs of those that do
+row_within : (max x : Float) (ys : List Float) → keep (in_bound max) (map (tilts x) ys) ≡ cond (within max x) (map (tilts x) (keep (within max) ys)) []
+unfolding keep in_bound
+row_within max x [] = case (within max x) (λ e. rw e) (λ e. rw e)
+row_within max x (y ∷ ys) =
+    let r = row_within max x ys in
+    case (within max x)
+    (λ e. case (within max y) (λ f. simp (e, f) (ap (λ (l : List ScheimpflugParams). tilts x y ∷ l) (simp e at r))) (λ f. simp (e, f) (simp e at r)))
+    (λ e. simp e (simp e at r))
+
+pairs_within : (max : Float) (xs ys : List Float) → keep (in_bound max) (pairs xs ys) ≡ pairs (keep (within max) xs) (keep (within max) ys)
+unfolding pairs keep
+pairs_within max [] ys = refl
+pairs_within max (x ∷ xs) ys =
+    let r = pairs_within max xs ys in
+    keep_append (in_bound max) (map (tilts x) ys) (pairs xs ys)
+    ∙ ap (λ (l : List ScheimpflugParams). l ++ keep (in_bound max) (pairs xs ys)) (row_within max x ys)
+    ∙ case (within max x) (λ e. simp (e, r)) (λ e. simp (e, r))
+
+-- ---- pairs of tilts that are apart are apart
+row_apart : (x y : Float) (xs ys : List Float) → All (λ z. closer tilt_limit x z ≡ false) xs → All (λ t. tilt_near (tilts x y) t ≡ false) (pairs xs ys)
+unfolding pairs tilt_near
+row_apart x y [] ys h = tt
+row_apart x y (z ∷ xs) ys h =
+    all_append (λ t. tilt_near (tilts x y) t ≡ false) (map (tilts z) ys) (pairs xs ys)
+    (all_mapped (tilts z) (λ t. tilt_near (tilts x y) t ≡ false) ys (every ys)) (row_apart x y xs ys h.1)
+  where
+    every : (l : List Float) → All (λ w. (closer tilt_limit x z && closer tilt_limit y w) ≡ false) l
+    every [] = tt
+    every (w ∷ l) = (rw h.0, every l)
+
+pairs_apart : (xs ys : List Float) → TiltsApart xs → TiltsApart ys → Apart tilt_near (pairs xs ys)
+unfolding pairs tilt_near
+pairs_apart [] ys a b = tt
+pairs_apart (x ∷ xs) ys a b =
+    append_apart tilt_near (map (tilts x) ys) (pairs xs ys)
+    (map_apart (closer tilt_limit) tilt_near (tilts x) (λ y z h. rw h (and-false (closer tilt_limit x x))) ys b)
+    (pairs_apart xs ys a.1 b)
+    (all_mapped (tilts x) (λ s. All (λ t. tilt_near s t ≡ false) (pairs xs ys)) ys (every ys))
+  where
+    every : (l : List Float) → All (λ y. All (λ t. tilt_near (tilts x y) t ≡ false) (pairs xs ys)) l
+    every [] = tt
+    every (y ∷ l) = (row_apart x y xs ys a.0, every l)
+
+-- ---- the list and its length, whatever the camera's four numbers are; what the bound drops needn't be apart
+module _ (dxs dys : List Float) (centre : ScheimpflugParams) (camera : FxFyCxCy) (max : Float) where
+  unmerged : TiltsApart (admitted max centre.tilt_x dxs) → TiltsApart (admitted max centre.tilt_y dys)
+      → next_list dxs dys centre camera max ≡ map (seed_with camera) (pairs (admitted max centre.tilt_x dxs) (admitted max centre.tilt_y dys))
+  unfolding next_list admitted near
+  unmerged a b =
+      let xs = admitted max centre.tilt_x dxs in
+      let ys = admitted max centre.tilt_y dys in
+      ap (λ (ts : List ScheimpflugParams). merged near (map (seed_with camera) ts)) (pairs_within max (moved centre.tilt_x dxs) (moved centre.tilt_y dys))
+      ∙ merged_apart near (map (seed_with camera) (pairs xs ys))
+      (map_apart tilt_near near (seed_with camera) (λ s t h. rw h) (pairs xs ys) (pairs_apart xs ys a b))
+
+  pub exact_length : TiltsApart (admitted max centre.tilt_x dxs) → TiltsApart (admitted max centre.tilt_y dys)
+      → length (next_list dxs dys centre camera max) ≡ seed_count dxs dys centre max
+  unfolding seed_count
+  exact_length a b =
+      let xs = admitted max centre.tilt_x dxs in
+      let ys = admitted max centre.tilt_y dys in
+      ap length (unmerged a b) ∙ length-map (pairs xs ys) (seed_with camera) ∙ pairs_length xs ys

@@ -1,0 +1,33 @@
+-- 02, E10: with a bound of at most 0.5 and a step from 1e-11 to 1, a later round's list has exactly as many seeds as there are admissible x tilts times admissible y
+-- tilts, in two-axis and in one-axis runs, around any centre and with any camera. Both are instances of one law over any two lists of offsets, `exact-length`
+-- (Counts.antt). Assumes nothing.
+use Rattle.std.specs.Prelude.{◌≡◌, Bool, true, false, [], ◌∷◌, length, Float}
+use Rattle.std.specs.Float.Ieee.{lt, le}
+use Rattle.float.specs.Literals.{plus_zero, half₆₄}
+use Rattle.camera_models.specs.declared.intrinsics.FxFyCxCy.{FxFyCxCy}
+use Rattle.camera_tilt.specs.declared.sensor.ScheimpflugParams.{ScheimpflugParams}
+use Rattle.seed_rules.specs.Rules.{closer, tilt_limit, within, offsets, y_offsets, moved, next_list}
+use Rattle.seed_rules.proofs.Unmerged.{keep_apart}
+use Rattle.seed_counts.specs.Admissible.{admitted, seed_count, least_step, most_step}
+use Rattle.seed_counts.proofs.Counts.{TiltsApart, exact_length}
+use Rattle.seed_counts.proofs.Offsets.{step_of}
+use Rattle.seed_counts.proofs.Anywhere.{offsets_admitted}
+
+-- ---- the two lists of offsets that a run has: -s, 0, s, and 0 alone
+three_apart : (max c s : Float) → lt half₆₄ max ≡ false → le least_step s ≡ true → le s most_step ≡ true → TiltsApart (admitted max c (offsets s))
+three_apart max c s h l u = offsets_admitted max c s h (step_of s l u)
+
+one_apart : (max c d : Float) → TiltsApart (admitted max c (d ∷ []))
+unfolding admitted
+one_apart max c d = keep_apart (closer tilt_limit) (within max) (moved c (d ∷ [])) (tt, tt)
+
+-- the offsets of tilt_y, in either kind of run
+y_apart : (one_axis : Bool) (max c s : Float) → lt half₆₄ max ≡ false → le least_step s ≡ true → le s most_step ≡ true → TiltsApart (admitted max c (y_offsets one_axis s))
+unfolding y_offsets
+y_apart true max c s h l u = one_apart max c plus_zero
+y_apart false max c s h l u = three_apart max c s h l u
+
+pub round_length : (one_axis : Bool) (s : Float) (centre : ScheimpflugParams) (camera : FxFyCxCy) (max : Float) → lt half₆₄ max ≡ false → le least_step s ≡ true → le s most_step ≡ true
+    → length (next_list (offsets s) (y_offsets one_axis s) centre camera max) ≡ seed_count (offsets s) (y_offsets one_axis s) centre max
+round_length one_axis s centre camera max h l u =
+    exact_length (offsets s) (y_offsets one_axis s) centre camera max (three_apart max centre.tilt_x s h l u) (y_apart one_axis max centre.tilt_y s h l u)

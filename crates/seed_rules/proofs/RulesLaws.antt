@@ -1,0 +1,97 @@
+-- Laws of the rules about seeds: how the lists of a round are made up part by part, and how long they are. Assumes nothing.
+use Rattle.std.specs.Prelude.{◌≡◌, refl, List, [], ◌∷◌, ◌++◌, map, ℕ, suc, ◌+◌, ◌*◌, ◌≤◌, ◌<◌, length, get_or, take, Float}
+use Rattle.std.proofs.Common.{ap, ◌∙◌, append_assoc, append-nil, arith, suc-mul, length-append, take-suc}
+use Rattle.std.proofs.lemmas.List.{map-append, length-map}
+use Rattle.std.specs.Float.{nan}
+use Rattle.float.specs.Binary64.{◌+₆₄◌}
+use Rattle.camera_models.specs.declared.intrinsics.FxFyCxCy.{FxFyCxCy}
+use Rattle.camera_tilt.specs.declared.sensor.ScheimpflugParams.{ScheimpflugParams}
+use Rattle.seed_rules.specs.declared.CandidateSeed.{CandidateSeed}
+use Rattle.seed_rules.specs.Merge.{keep}
+use Rattle.seed_rules.proofs.MergeLaws.{keep_append, keep_length, merged_length}
+use Rattle.seed_rules.specs.Rules.{tilt_near, near, in_bound, tilts, pairs, seed_with, seeds_within, seed_grid, initial_list, moved, next_list}
+
+pub within_append : (max : Float) (k : FxFyCxCy) (ss ts : List ScheimpflugParams) → seeds_within max k (ss ++ ts) ≡ seeds_within max k ss ++ seeds_within max k ts
+within_append max k ss ts = ap (map (seed_with k)) (keep_append (in_bound max) ss ts) ∙ map-append (seed_with k) (keep (in_bound max) ss) (keep (in_bound max) ts)
+
+pub within_length : (max : Float) (k : FxFyCxCy) (ts : List ScheimpflugParams) → length (seeds_within max k ts) ≤ length ts
+within_length max k ts = omega (arith, length-map (keep (in_bound max) ts) (seed_with k), keep_length (in_bound max) ts)
+
+pub pairs_append : (xs zs ys : List Float) → pairs (xs ++ zs) ys ≡ pairs xs ys ++ pairs zs ys
+unfolding pairs
+pairs_append [] zs ys = refl
+pairs_append (x ∷ xs) zs ys = rw (pairs_append xs zs ys, append_assoc)
+
+pub pairs_length : (xs ys : List Float) → length (pairs xs ys) ≡ length xs * length ys
+unfolding pairs
+pairs_length [] ys = omega arith
+pairs_length (x ∷ xs) ys =
+    omega (arith, length-append (map (tilts x) ys) (pairs xs ys), length-map ys (tilts x), pairs_length xs ys, suc-mul (length xs) (length ys))
+
+pairs_one : (x : Float) (ys : List Float) → pairs (x ∷ []) ys ≡ map (tilts x) ys
+unfolding pairs
+pairs_one x ys = append-nil (map (tilts x) ys)
+
+-- ---- one more of the typed tilts
+pub row_more : (max x : Float) (ys : List Float) (j : ℕ) → j < length ys
+    → keep (in_bound max) (map (tilts x) (take (suc j) ys)) ≡ keep (in_bound max) (map (tilts x) (take j ys)) ++ keep (in_bound max) (tilts x (get_or ys j nan) ∷ [])
+row_more max x ys j h =
+    ap (λ (zs : List Float). keep (in_bound max) (map (tilts x) zs)) (take-suc ys j nan h)
+    ∙ ap (keep (in_bound max)) (map-append (tilts x) (take j ys) (get_or ys j nan ∷ []))
+    ∙ keep_append (in_bound max) (map (tilts x) (take j ys)) (tilts x (get_or ys j nan) ∷ [])
+
+pub grid_more : (max : Float) (xs ys : List Float) (i : ℕ) → i < length xs
+    → keep (in_bound max) (pairs (take (suc i) xs) ys) ≡ keep (in_bound max) (pairs (take i xs) ys) ++ keep (in_bound max) (map (tilts (get_or xs i nan)) ys)
+grid_more max xs ys i h =
+    let x = get_or xs i nan in
+    ap (λ (zs : List Float). keep (in_bound max) (pairs zs ys)) (take-suc xs i nan h)
+    ∙ ap (keep (in_bound max)) (pairs_append (take i xs) (x ∷ []) ys)
+    ∙ keep_append (in_bound max) (pairs (take i xs) ys) (pairs (x ∷ []) ys)
+    ∙ ap (λ (zs : List ScheimpflugParams). keep (in_bound max) (pairs (take i xs) ys) ++ keep (in_bound max) zs) (pairs_one x ys)
+
+-- ---- one more of the offsets
+moved_more : (centre : Float) (ds : List Float) (j : ℕ) → j < length ds → moved centre (take (suc j) ds) ≡ moved centre (take j ds) ++ ((centre +₆₄ get_or ds j nan) ∷ [])
+moved_more centre ds j h = ap (moved centre) (take-suc ds j nan h) ∙ map-append (λ d. centre +₆₄ d) (take j ds) (get_or ds j nan ∷ [])
+
+module _ (max : Float) (k : FxFyCxCy) where
+  pub local_row_more : (x centre : Float) (ds : List Float) (j : ℕ) → j < length ds
+      → seeds_within max k (map (tilts x) (moved centre (take (suc j) ds)))
+      ≡ seeds_within max k (map (tilts x) (moved centre (take j ds))) ++ seeds_within max k (tilts x (centre +₆₄ get_or ds j nan) ∷ [])
+  local_row_more x centre ds j h =
+      ap (λ (zs : List Float). seeds_within max k (map (tilts x) zs)) (moved_more centre ds j h)
+      ∙ ap (seeds_within max k) (map-append (tilts x) (moved centre (take j ds)) ((centre +₆₄ get_or ds j nan) ∷ []))
+      ∙ within_append max k (map (tilts x) (moved centre (take j ds))) (tilts x (centre +₆₄ get_or ds j nan) ∷ [])
+
+  pub local_grid_more : (centre : Float) (ds ys : List Float) (i : ℕ) → i < length ds
+      → seeds_within max k (pairs (moved centre (take (suc i) ds)) ys)
+      ≡ seeds_within max k (pairs (moved centre (take i ds)) ys) ++ seeds_within max k (map (tilts (centre +₆₄ get_or ds i nan)) ys)
+  local_grid_more centre ds ys i h =
+      let x = centre +₆₄ get_or ds i nan in
+      ap (λ (zs : List Float). seeds_within max k (pairs zs ys)) (moved_more centre ds i h)
+      ∙ ap (seeds_within max k) (pairs_append (moved centre (take i ds)) (x ∷ []) ys)
+      ∙ within_append max k (pairs (moved centre (take i ds)) ys) (pairs (x ∷ []) ys)
+      ∙ ap (λ (zs : List ScheimpflugParams). seeds_within max k (pairs (moved centre (take i ds)) ys) ++ seeds_within max k zs) (pairs_one x ys)
+
+-- ---- at most one seed for each pair
+pub grid_length : (xs ys : List Float) (max : Float) → length (seed_grid xs ys max) ≤ length xs * length ys
+unfolding seed_grid
+grid_length xs ys max =
+    omega (arith, merged_length tilt_near [] (keep (in_bound max) (pairs xs ys)), keep_length (in_bound max) (pairs xs ys), pairs_length xs ys)
+
+pub initial_length : (ds : List CandidateSeed) (xs ys : List Float) (base : FxFyCxCy) (max : Float)
+    → length (initial_list ds xs ys base max) ≤ length ds + length xs * length ys
+unfolding initial_list
+initial_length ds xs ys base max =
+    let g = map (seed_with base) (seed_grid xs ys max) in
+    omega (arith, merged_length near [] (ds ++ g), length-append ds g, length-map (seed_grid xs ys max) (seed_with base), grid_length xs ys max)
+
+pub next_length : (dxs dys : List Float) (centre : ScheimpflugParams) (camera : FxFyCxCy) (max : Float)
+    → length (next_list dxs dys centre camera max) ≤ length dxs * length dys
+unfolding next_list
+next_length dxs dys centre camera max =
+    let xs = moved centre.tilt_x dxs in
+    let ys = moved centre.tilt_y dys in
+    let ex : length xs ≡ length dxs = length-map dxs (λ d. centre.tilt_x +₆₄ d) in
+    let ey : length ys ≡ length dys = length-map dys (λ d. centre.tilt_y +₆₄ d) in
+    let e : length (pairs xs ys) ≡ length dxs * length dys = rw (ex, ey) at (pairs_length xs ys) in
+    omega (arith, merged_length near [] (seeds_within max camera (pairs xs ys)), within_length max camera (pairs xs ys))

@@ -1,0 +1,102 @@
+-- Steps of the loops, for records of any width and any relation of nearness: a search from the last record back, and a merge in parts on a lent list. Assumes nothing.
+use Rattle.std.specs.Prelude.{◌≡◌, refl, Bool, true, false, ◌&&◌, cond, List, [], ◌∷◌, ◌++◌, ℕ, suc, ◌+◌, ◌-◌, ◌*◌, ◌≤◌, ◌<◌, length, take, drop, Float}
+use Rattle.std.proofs.Math.Path.{sym}
+use Rattle.std.proofs.Common.{ap, ◌∙◌, true≢false, zero-add, arith, length-append, length-take-le}
+use Rattle.std.proofs.lemmas.List.Edits.{sets}
+use Rattle.seed_rules.specs.declared.Found.TheVariants.{At, Nothing}
+use Rattle.seed_rules.specs.Layout.{read_from, written_by, Leaves}
+use Rattle.seed_rules.specs.LayoutLaws.{Layout, read_length, read_written, written_own, written_over, stored}
+use Rattle.seed_rules.specs.Merge.{is_found, newest_near, push, merged_into}
+use Rattle.seed_rules.proofs.MergeLaws.{newest_snoc, same_kept, merged_append, merged_longer, merged_length}
+
+-- ---- the search, with the first `left` records still to be looked at
+module _ {A : Type 0} (near : A → A → Bool) (ks : List A) (left : ℕ) (s : A) where
+  pub found_none : left ≡ 0 → newest_near near 0 (take left ks) s ≡ Nothing
+  unfolding newest_near
+  found_none h = rw h
+
+  module _ (k : A) (some : 0 < left) (last : take (suc (left - 1)) ks ≡ take (left - 1) ks ++ (k ∷ [])) where
+    looks : newest_near near 0 (take left ks) s ≡ cond (near k s) (At (0 + length (take (left - 1) ks))) (newest_near near 0 (take (left - 1) ks) s)
+    looks =
+        let e : left ≡ suc (left - 1) = omega arith in
+        ap (λ (n : ℕ). newest_near near 0 (take n ks) s) e ∙ ap (λ (l : List A). newest_near near 0 l s) last ∙ newest_snoc near 0 (take (left - 1) ks) k s
+
+    pub found_here : left ≤ length ks → near k s ≡ true → newest_near near 0 (take left ks) s ≡ At (left - 1)
+    found_here h t = looks ∙ simp (t, length-take-le (left - 1) ks (omega arith), zero-add (left - 1))
+
+    pub found_before : near k s ≡ false → newest_near near 0 (take left ks) s ≡ newest_near near 0 (take (left - 1) ks) s
+    found_before t = looks ∙ simp t
+
+-- ---- one record pushed, and the merge
+module _ {A : Type 0} {numbers : A → List Float} {first : List Float → A} {w : ℕ} (y : Layout numbers first w) (near : A → A → Bool) where
+  pub push_drops : (l : List Float) (n : ℕ) (s : A) → w * n ≤ length l → is_found (newest_near near 0 (read_from first w n l) s) ≡ true
+      → Leaves numbers w (push near (read_from first w n l) s) l l n
+  push_drops l n s h e = rw (← same_kept near (read_from first w n l) s, e) (record { count_is = sym (read_length first w n l); list_is = sym (written_own y n l h) })
+
+  pub push_stores : (l m : List Float) (n : ℕ) (s : A) → w * n + w ≤ length l → is_found (newest_near near 0 (read_from first w n l) s) ≡ false → m ≡ sets l (w * n) (numbers s)
+      → Leaves numbers w (push near (read_from first w n l) s) l m (n + 1)
+  push_stores l m n s h e q =
+      rw (← same_kept near (read_from first w n l) s, e) (record {
+        count_is = omega (arith, length-append (read_from first w n l) (s ∷ []), read_length first w n l);
+        list_is = q ∙ stored y n l s h;
+      })
+
+-- what is left, read back
+pub leaves_read : {A : Type 0} {numbers : A → List Float} {first : List Float → A} {w : ℕ} (y : Layout numbers first w)
+    (xs : List A) (l m : List Float) (n : ℕ) → Leaves numbers w xs l m n → read_from first w n m ≡ xs
+leaves_read {first} {w} y xs l m n a =
+    ap (λ (j : ℕ). read_from first w j m) a.count_is
+    ∙ ap (read_from first w (length xs)) a.list_is
+    ∙ read_written y xs (drop (w * length xs) l)
+
+-- A merge under way: from the records ks at the front of l, those of xs have been offered; m is the list now, and it has n records, at most `most`.
+pub record Merging {A : Type 0} (numbers : A → List Float) (w : ℕ) (near : A → A → Bool) (ks xs : List A) (l m : List Float) (n most : ℕ) : Type 0 where
+  pub leaves : Leaves numbers w (merged_into near ks xs) l m n
+  pub few : n ≤ most
+  pub same : length m ≡ length l
+
+module _ {A : Type 0} {numbers : A → List Float} {first : List Float → A} {w : ℕ} (y : Layout numbers first w) (near : A → A → Bool) where
+  pub merging_start : (l : List Float) (n : ℕ) → w * n ≤ length l → Merging numbers w near (read_from first w n l) [] l l n n
+  unfolding merged_into
+  merging_start l n h = record {
+    leaves = record { count_is = sym (read_length first w n l); list_is = sym (written_own y n l h) };
+    few = omega arith;
+    same = refl;
+  }
+
+  -- those of zs, offered to the list as it is now, come behind xs
+  pub merging_more : (ks xs zs ys : List A) (l m m' : List Float) (n n' most most' : ℕ)
+      → Merging numbers w near ks xs l m n most
+      → Leaves numbers w (merged_into near (read_from first w n m) zs) m m' n'
+      → length m' ≡ length m → most + length zs ≤ most' → ys ≡ xs ++ zs
+      → Merging numbers w near ks ys l m' n' most'
+  merging_more ks xs zs ys l m m' n n' most most' a b same room e =
+      let k = merged_into near ks xs in
+      let k' = merged_into near k zs in
+      let g : merged_into near (read_from first w n m) zs ≡ k' = ap (λ (q : List A). merged_into near q zs) (leaves_read y k l m n a.leaves) in
+      let h : merged_into near ks ys ≡ k' = ap (merged_into near ks) e ∙ merged_append near ks xs zs in
+      let i : length k ≡ n = sym a.leaves.count_is in
+      let f : length k' ≤ length k + length zs = merged_length near k zs in
+      let o : n' ≡ length k' = b.count_is ∙ ap length g in
+      record {
+        leaves = rw h (record {
+          count_is = o;
+          list_is =
+              b.list_is
+              ∙ ap (λ (q : List A). written_by numbers w q m) g
+              ∙ ap (written_by numbers w k') a.leaves.list_is
+              ∙ written_over y k k' l (merged_longer near k zs);
+        });
+        few = let u = a.few in omega arith;
+        same = same ∙ a.same;
+      }
+
+-- ---- a test that stops at its first part
+
+pub and_right : (a b : Bool) → a ≡ true → b ≡ (a && b)
+and_right true b h = refl
+and_right false b h = absurd (true≢false (sym h))
+
+pub and_left : (a b : Bool) → a ≡ false → a ≡ (a && b)
+and_left true b h = absurd (true≢false h)
+and_left false b h = refl

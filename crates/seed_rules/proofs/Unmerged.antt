@@ -1,0 +1,70 @@
+-- Where no element of a list lies near a later one, merging drops nothing, whatever the relation is. Assumes nothing.
+use Rattle.std.specs.Prelude.{◌≡◌, refl, Bool, true, false, cond}
+use Rattle.std.proofs.Math.Path.{sym, ap}
+use Rattle.std.proofs.Common.{◌∙◌}
+use mathlib.Core.List.{List, [], ◌∷◌, ◌++◌, map, append_assoc, append-nil}
+use Rattle.common.specs.Each.{All}
+use Rattle.common.specs.All.{all_append, all_map, all_mapped}
+use Rattle.common.specs.Tests.{both_false}
+use Rattle.seed_rules.specs.Merge.{keep, has_near, push, merged_into, merged}
+use Rattle.seed_rules.proofs.MergeLaws.{keep_all}
+
+-- no element lies near a later one
+abbrev pub Apart : {A : Type 0} → (A → A → Bool) → List A → Type 0
+Apart near [] = Unit {0}
+Apart near (x ∷ xs) = All (λ y. near x y ≡ false) xs × Apart near xs
+
+module _ {A : Type 0} (near : A → A → Bool) where
+  -- ---- merging
+  none_more : (ks : List A) (k s : A) → has_near near ks s ≡ false → near k s ≡ false → has_near near (ks ++ k ∷ []) s ≡ false
+  unfolding has_near
+  none_more [] k s h e = rw e
+  none_more (l ∷ ks) k s h e = let p = both_false (near l s) (has_near near ks s) h in rw p.0 (none_more ks k s p.1 e)
+
+  all_none_more : (ks : List A) (k : A) (ss : List A) → All (λ s. has_near near ks s ≡ false) ss → All (λ s. near k s ≡ false) ss
+      → All (λ s. has_near near (ks ++ k ∷ []) s ≡ false) ss
+  all_none_more ks k [] h a = tt
+  all_none_more ks k (s ∷ ss) h a = (none_more ks k s h.0 a.0, all_none_more ks k ss h.1 a.1)
+
+  push_new : (ks : List A) (s : A) → has_near near ks s ≡ false → push near ks s ≡ ks ++ s ∷ []
+  unfolding push
+  push_new ks s h = rw h
+
+  merged_onto : (ks ss : List A) → All (λ s. has_near near ks s ≡ false) ss → Apart near ss → merged_into near ks ss ≡ ks ++ ss
+  unfolding merged_into
+  merged_onto ks [] h a = sym (append-nil ks)
+  merged_onto ks (s ∷ ss) h a =
+      ap (λ (q : List A). merged_into near q ss) (push_new ks s h.0)
+      ∙ merged_onto (ks ++ s ∷ []) ss (all_none_more ks s ss h.1 a.0) a.1
+      ∙ append_assoc ks (s ∷ []) ss
+
+  near_none : (ss : List A) → All (λ s. has_near near [] s ≡ false) ss
+  unfolding has_near
+  near_none [] = tt
+  near_none (s ∷ ss) = (refl, near_none ss)
+
+  pub merged_apart : (ss : List A) → Apart near ss → merged near ss ≡ ss
+  merged_apart ss a = merged_onto [] ss (near_none ss) a
+
+  -- ---- parts of such a list, and two of them in a row
+  cond_apart : (c : Bool) (x : A) (xs : List A) → All (λ y. near x y ≡ false) xs → Apart near xs → Apart near (cond c (x ∷ xs) xs)
+  cond_apart true x xs h a = (h, a)
+  cond_apart false x xs h a = a
+
+  pub keep_apart : (p : A → Bool) (xs : List A) → Apart near xs → Apart near (keep p xs)
+  unfolding keep
+  keep_apart p [] a = tt
+  keep_apart p (x ∷ xs) a =
+      cond_apart (p x) x (keep p xs)
+      (all_map (λ y. (near x y ≡ false) × (p y ≡ true)) (λ y. near x y ≡ false) (λ y h. h.0) (keep p xs) (keep_all (λ y. near x y ≡ false) p xs a.0))
+      (keep_apart p xs a.1)
+
+  pub append_apart : (xs ys : List A) → Apart near xs → Apart near ys → All (λ x. All (λ y. near x y ≡ false) ys) xs → Apart near (xs ++ ys)
+  append_apart [] ys a b h = b
+  append_apart (x ∷ xs) ys a b h = (all_append (λ y. near x y ≡ false) xs ys a.0 h.0, append_apart xs ys a.1 b h.1)
+
+pub map_apart : {A B : Type 0} (near : A → A → Bool) (close : B → B → Bool) (f : A → B) → ((x y : A) → near x y ≡ false → close (f x) (f y) ≡ false)
+    → (xs : List A) → Apart near xs → Apart close (map f xs)
+map_apart near close f g [] a = tt
+map_apart near close f g (x ∷ xs) a =
+    (all_mapped f (λ z. close (f x) z ≡ false) xs (all_map (λ y. near x y ≡ false) (λ y. close (f x) (f y) ≡ false) (λ y h. g x y h) xs a.0), map_apart near close f g xs a.1)
