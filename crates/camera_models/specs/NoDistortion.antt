@@ -1,4 +1,4 @@
--- What the distortion does where all five coefficients are 0, each +0 or −0: `withoutDistortion`. Assumes nothing.
+-- What the distortion does where all five coefficients are 0, each +0 or −0: `without_distortion`. Assumes nothing.
 use Rattle.std.specs.Prelude.{◌≡◌, Bool, true, cond, ◌&&◌, Float}
 use Rattle.std.specs.Bool.{beq}
 use Rattle.std.specs.Float.{nan}
