@@ -11,7 +11,7 @@ use Rattle.book.specs.Conditions.{NoneHolds, conditions}
 use Rattle.seed_rules.specs.Layout.{written}
 use Rattle.book_journal.specs.Replay.{buffer_after, walked}
 
--- ---- Start's book, or the one in which the lines that Resume keeps were entered. The seed buffer doesn't matter to it (`any-buffer`).
+-- ---- Start's book, or the one in which the lines that Resume keeps were entered. The seed buffer doesn't matter to it (`any_buffer`).
 pub data Opening : Type 0 where
   fresh : Opening
   from : List ℕ → Opening

@@ -65,7 +65,7 @@ abbrev pub all_kept : ℕ → List ℕ → Report
 all_kept n j = record { lines = n; kept = length j; dropped = 0; ended_by = by.Nothing }
 
 -- ---- a history of the plain book, however it was opened and whatever the calls: its journal gives back the record of the run, no seed waiting; cut after any byte,
--- the record that goes with the book of the kept lines (`CutAt.book-is`, `GoesOn.stands-there`)
+-- the record that goes with the book of the kept lines (`CutAt.book_is`, `GoesOn.stands_there`)
 abbrev pub ResumedRecord : (i : Inputs) → History i → List Float → Type 0
 ResumedRecord i h l = GivesRun i l (journal_of (book_at h)) (run_of (at_rest (book_at h))) (all_kept (number (book_at h)) (journal_of (book_at h))) (list_at h l)
 

@@ -1,4 +1,4 @@
--- What follows of NoDistortion. Assumes nothing.
+-- The theorems on specs/NoDistortion.antt: what the distortion does where all five coefficients are 0. Assumes nothing.
 use Rattle.std.specs.Prelude.{◌≡◌, refl, Bool, true, false, not, cond, ◌&&◌, zero, suc, ◌*◌, T, pos, Float}
 use Rattle.std.proofs.Common.{sym, ap, ◌∙◌, arith}
 use Rattle.std.specs.Bool.{beq}

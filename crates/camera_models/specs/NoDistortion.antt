@@ -1,5 +1,5 @@
--- What the distortion does where all five coefficients are 0, each +0 or −0: `withoutDistortion`. Assumes nothing.
-use Rattle.std.specs.Prelude.{◌≡◌, Bool, true, cond, ◌&&◌, ◌*◌, Float}
+-- What the distortion does where all five coefficients are 0, each +0 or −0: `without_distortion`. Assumes nothing.
+use Rattle.std.specs.Prelude.{◌≡◌, Bool, true, cond, ◌&&◌, Float}
 use Rattle.std.specs.Bool.{beq}
 use Rattle.std.specs.Float.{nan}
 use Rattle.std.specs.Float.Ieee.{binary64, of_bits, unlike, eq}

@@ -20,7 +20,7 @@ nan_not_below nan y h = refl
 nan_not_below (inf s) y h = absurd (true≢false (sym h))
 nan_not_below (fin s m e) y h = absurd (true≢false (sym h))
 
--- where one is at most another, both are numbers: `le-number` has the second
+-- where one is at most another, both are numbers: `le_number` has the second
 pub le_first : (x y : Float) → le x y ≡ true → is_nan x ≡ false
 unfolding is_nan le lt eq
 le_first nan y h = absurd (true≢false (sym h))

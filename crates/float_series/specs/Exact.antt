@@ -6,7 +6,7 @@ use Rattle.float_laws.specs.Fraction.{Fraction, ◌⊕◌, ◌⊗◌, size, Near
 use Rattle.float_laws.specs.Within.{Small}
 use Rattle.float_series.specs.Series.{factorial, negative, power, inverse, terms}
 
--- as `hornerOf`, and not rounded
+-- as `horner_of`, and not rounded
 unfoldable pub nested : Fraction → ℕ → ℕ → Fraction
 nested x zero n = inverse n
 nested x (suc j) n = (nested x j (suc (suc n)) ⊗ (x ⊗ x)) ⊕ inverse n

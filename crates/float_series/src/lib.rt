@@ -1,5 +1,5 @@
 // Sine and cosine of a number of at most 0.5 in size, by eight terms of their power series: the same bits on every computer.
-// Any other argument, NaN too, is refused with 27. How near the answers are to the exact sums is `specs/Theorem.antt`.
+// Any other argument, NaN too, is refused with 27. How near the answers are to the exact sums is `proofs/Theorem.antt`.
 
 #![tactic(auto)]
 

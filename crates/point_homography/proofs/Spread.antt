@@ -1,5 +1,5 @@
--- What follows of Spread. Assumes nothing.
-use Rattle.std.specs.Prelude.{◌≡◌, true, false, ℕ, ◌≤◌, length, Float}
+-- The theorems on specs/Spread.antt: what the rows' refusals let pass is spread out enough to be normalised. Assumes nothing.
+use Rattle.std.specs.Prelude.{◌≡◌, false, ℕ, ◌≤◌, length, Float}
 use Rattle.std.proofs.Common.{sym, ◌∙◌, arith, ne_eqb}
 use Rattle.std.proofs.Math.Bool.{true≢false}
 use mathlib.Core.List.{List, [], ◌∷◌, ◌++◌}

@@ -1,4 +1,4 @@
--- What `hartleyOf` says of its list, and what a length that isn't refused says. Assumes nothing.
+-- What `hartley_of` says of its list, and what a length that isn't refused says. Assumes nothing.
 use Rattle.std.specs.Prelude.{◌≡◌, refl, Bool, true, false, not, ◌||◌, cond, List, ℕ, ◌≤◌, ◌%◌, eqb, ltb, Float}
 use Rattle.std.proofs.Common.{true≢false, arith, ltb-false, eqb-true}
 use Rattle.point_normalise.specs.declared.linalg.Similarity.{Similarity}

@@ -101,7 +101,7 @@ fn scaled_to(c: Pt2, mean: f64) -> Similarity
 }
 
 // The similarity that brings the centroid to the origin and the mean distance from it to √2. Of points that aren't collinear that
-// distance is never too small (point_homography/specs/Spread.antt), so Rows asks nothing more.
+// distance is never too small (point_homography/proofs/Spread.antt), so Rows asks nothing more.
 pub fn normalizing(points: &[f64]) -> Similarity
     requires { length points.now ≤ 800 }
     ensures { result ≡ similarity_of points.now }

@@ -1,4 +1,4 @@
--- Over whole numbers: the number that `rootOf f n` stands for is nearer to √n than any other of so many digits is, and √n is never in the middle. Assumes nothing.
+-- Over whole numbers: the number that `root_of f n` stands for is nearer to √n than any other of so many digits is, and √n is never in the middle. Assumes nothing.
 use Rattle.std.specs.Prelude.{◌≡◌, refl, not, T, eqb}
 use Rattle.std.proofs.Common.{sym, ap, ◌∙◌, subst, ⊎_elim, le_trans, le_of_eq, le_of_lt, lt_of_lt_of_le, lt_of_le_of_lt, lt_of_not-le, lt_irrefl, le_of_suc-le-suc, mul_assoc, mul_comm, mul-le-mul_right, mul-lt-mul_of_pos_right, lt_of_mul-lt-mul_right, mul-pos, div-mul-le_self, div-lt_iff_lt-mul, lt-suc_self, eq-zero-or-pos, arith, pow-add, pow_pos, pow_mono, leb→le, eqb→eq}
 use Prim.Native.Nat.{ℕ, suc, ◌+◌, ◌-◌, ◌*◌, ◌^◌, ◌≤◌, ◌<◌, compare, Ordering}

@@ -28,7 +28,7 @@ pub record SquareRootOf754 (f : Format) : Type 0 where
   pub of_negative : (x : Float) → lt x plus_zero ≡ true → root f x ≡ nan
   -- no root is below zero; it is NaN exactly for NaN and below zero, and finite exactly for what is finite and not below zero
   pub not_below : (x : Float) → lt (root f x) plus_zero ≡ false
-  pub is_nan : (x : Float) → is_nan (root f x) ≡ (is_nan x || lt x plus_zero)
+  pub is_nan_lem : (x : Float) → is_nan (root f x) ≡ (is_nan x || lt x plus_zero)
   pub is_finite_lem : (x : Float) → T (fits f x) → is_finite (root f x) ≡ (is_finite x && not (lt x plus_zero))
 
 pub square_root : (f : Format) → SquareRootOf754 f
@@ -43,6 +43,6 @@ square_root f =
       of_nan = root_nan f;
       of_negative = root_negative f;
       not_below = root_not_below f;
-      is_nan = root_is_nan f;
+      is_nan_lem = root_is_nan f;
       is_finite_lem = root_is_finite f;
     }

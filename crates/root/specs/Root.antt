@@ -1,5 +1,5 @@
 -- The square root that IEEE 754 asks for: the value of the format that is nearest to the true root, of two as near the one whose last digit is even. Definitions only.
--- It is worked out in whole numbers. specs/Summary.antt says in which sense it is the nearest.
+-- It is worked out in whole numbers. proofs/Summary.antt says in which sense it is the nearest.
 use Prim.Native.Nat.{ℕ, zero, suc, ◌+◌, ◌-◌, ◌*◌, ◌/◌, ◌^◌, compare}
 use Rattle.std.specs.Prelude.{true, false, cond, ℤ, ltb, Float}
 use Rattle.std.specs.Float.{nan, inf, fin, Format}

@@ -1,4 +1,4 @@
--- From the whole root of a number of 105 or 106 digits to the value that `rootOf` names and its bits. Assumes nothing.
+-- From the whole root of a number of 105 or 106 digits to the value that `root_of` names and its bits. Assumes nothing.
 use Rattle.std.proofs.Common.{◌≡◌, ℕ, zero, suc, ◌+◌, ◌-◌, ◌*◌, ◌/◌, ◌^◌, ◌<◌, ◌≤◌, Bool, true, false, cond, not, T, ltb, sym, ap, ◌∙◌, subst, le_trans, le_of_eq, lt_of_lt_of_le, le_of_suc-le-suc, lt_irrefl, mul-le-mul_right, mul_assoc, div-lt_iff_lt-mul, le_antisymm, mul-lt-mul_of_pos_right, mul-pos, lt_of_not-le, le-div_iff_mul-le, mul-div_cancel, add-one, arith, ltb→lt, lt→ltb, nltb→le, pow_pos, pow_mono, pow-add, shl_lt}
 use Rattle.std.specs.Float.{inf, Format, binary64}
 use Rattle.std.specs.Float.Ieee.{prec, emax, low, size, nearest, odd, units, fits, to_bits, of_bits}
@@ -23,7 +23,7 @@ size_is n a lo hi =
 pub quotient_is : (w u r : ℕ) → 0 < u → r * u ≤ w → w < suc r * u → w / u ≡ r
 quotient_is w u r p lo hi = le_antisymm (le_of_suc-le-suc ((div-lt_iff_lt-mul p).1 hi)) ((le-div_iff_mul-le p).1 lo)
 
--- ---- `rootOf` at v * u * u, for the root r of v with the rest t
+-- ---- `root_of` at v * u * u, for the root r of v with the rest t
 module _ (f : Format) (v k r t : ℕ) (P : 0 < prec f) (e : r * r + t ≡ v) (T≤ : t ≤ 2 * r) (lo : 2 ^ (prec f - 1) ≤ r) (hi : r < 2 ^ prec f) where
   abbrev u : ℕ
   u = 2 ^ k
@@ -55,7 +55,7 @@ module _ (f : Format) (v k r t : ℕ) (P : 0 < prec f) (e : r * r + t ≡ v) (T�
       grow : (p k : ℕ) → 0 < p → p + k ≡ suc (p - 1 + k)
       grow p k P = omega arith
 
-  -- `rootOf` from its w on, with the quotient and the digits as they are
+  -- `root_of` from its w on, with the quotient and the digits as they are
   opened : root_of f n ≡ units f false (nearest r (compare (4 * n) ((2 * r + 1) * u * ((2 * r + 1) * u)))) k
   unfolding root_of
   opened =

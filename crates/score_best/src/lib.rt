@@ -4,7 +4,7 @@
 #![tactic(auto)]
 
 ghost use Rattle.std.specs.Prelude.{◌≡◌};
-ghost use Rattle.score_best.specs.Best.{is_better, improved, no_best};
+ghost use Rattle.score_best.specs.Best.{is_better, no_best};
 ghost use Rattle.score_best.specs.Winners.{winner_of_bests};
 
 use camera_models::distortion::BrownConrady5;

@@ -1,4 +1,4 @@
--- What follows of Penalty. Assumes nothing.
+-- The theorems on specs/Penalty.antt: a scored candidate's score, beside the penalty of its tilt. Assumes nothing.
 use Rattle.std.specs.Prelude.{◌≡◌}
 use Rattle.std.proofs.Math.Bool.{false}
 use Rattle.std.specs.Float.Ieee.{lt, is_nan}

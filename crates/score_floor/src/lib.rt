@@ -1,4 +1,4 @@
-// The floor of the seeds that are left in a round: the lowest tilt penalty among them, below which none of them can score (specs/FloorLaws.antt).
+// The floor of the seeds that are left in a round: the lowest tilt penalty among them, below which none of them can score (proofs/FloorLaws.antt).
 
 #![tactic(auto)]
 

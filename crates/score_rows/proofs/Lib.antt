@@ -1,4 +1,3 @@
 mod Filled
-pub mod RowArguments
 pub mod Counted
 pub mod Steps

@@ -1,4 +1,4 @@
--- What follows of Steps. Assumes nothing.
+-- The theorems on specs/Steps.antt: rows added one by one, some at a time, and by their flags. Assumes nothing.
 use Rattle.std.specs.Prelude.{◌≡◌, ℕ, zero, suc, ◌+◌, ◌*◌, ◌%◌, ◌^◌, ◌<◌, ◌≤◌, Bool, true, false, cond, ◌&&◌, List, [], ◌∷◌, length, drop, ◌==◌, slice_index, slice_index_or, refl, Float}
 use Rattle.std.proofs.Common.{sym, ap, ap₂, subst, ◌∙◌, arith, mod-eq_of_lt, add-one, drop-cons}
 use Rattle.std.proofs.Math.Seq.{drop-length}

@@ -8,7 +8,6 @@ ghost use Rattle.common.specs.Each.{every};
 ghost use Rattle.float.specs.Float.{is_finite};
 ghost use Rattle.seed_rules.specs.Layout.{all_seeds};
 ghost use Rattle.search_start.specs.Start.{positive, good_seed, only_zero, untilted_seed, too_many, demand_of, opening_of, options_checks, last_checks, further_checks, start_refusal, start_reply, start_list};
-ghost use Rattle.search_start.specs.declared.Started.TheVariants.{Accepted};
 
 use camera_models::intrinsics::FxFyCxCy;
 use camera_models::math::Pt2;

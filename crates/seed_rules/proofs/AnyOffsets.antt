@@ -1,4 +1,4 @@
--- What follows of AnyOffsets. Assumes nothing.
+-- The theorems on specs/AnyOffsets.antt: a later round's list over any two lists of offsets. Assumes nothing.
 use Rattle.std.specs.Prelude.{◌≡◌, refl, Bool, true, false, ◌*◌, ◌≤◌, length, Float}
 use Rattle.std.proofs.Common.{⊎_elim, arith}
 use mathlib.Core.List.Memᴰ

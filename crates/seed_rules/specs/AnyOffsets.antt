@@ -1,7 +1,6 @@
 -- A later round's list over any two lists of offsets: its length, the bound, what it hands out, and what merging drops. A round of a two-axis run and one of a
 -- one-axis run are the two instances, and what holds of each rests on the one statement. Assumes nothing.
 use Rattle.std.specs.Prelude.{Bool, cond, ℕ, Float}
-use mathlib.Core.List.Memᴰ
 use Rattle.float.specs.Binary64.{◌+₆₄◌}
 use Rattle.camera_models.specs.declared.intrinsics.FxFyCxCy.{FxFyCxCy}
 use Rattle.camera_tilt.specs.declared.sensor.ScheimpflugParams.{ScheimpflugParams}

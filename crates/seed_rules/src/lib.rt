@@ -1,4 +1,4 @@
-// A seed, and what a search for a near one gives. The rules for lists of seeds, and their laws, are in specs/.
+// A seed, and what a search for a near one gives. The rules for lists of seeds, are in specs/, their laws in specs/ and proofs/.
 
 #![tactic(auto)]
 

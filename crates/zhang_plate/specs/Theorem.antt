@@ -1,4 +1,4 @@
--- 02, E12: what a plate with a known answer is. `PlateRight` is proved in proofs/Given.antt, as `plate-right`. Definitions only.
+-- 02, E12: what a plate with a known answer is. `PlateRight` is proved in proofs/Given.antt, as `plate_right`. Definitions only.
 use Rattle.std.specs.Prelude.{◌≡◌, ℕ, ◌≤◌, Bool, false}
 use Rattle.float.specs.Whole.{Num}
 use Rattle.camera_models.specs.declared.intrinsics.FxFyCxCy.{FxFyCxCy}

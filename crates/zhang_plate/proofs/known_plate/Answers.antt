@@ -1,6 +1,5 @@
 -- `zhang_plate::known_plate` meets its contract. Assumes nothing.
-use Rattle.std.proofs.Common.{◌≡◌, ◌-◌, ◌^◌, ◌≤◌, sym, ◌∙◌, arith, rules}
-use Rattle.zhang_plate.specs.Plate.{unit_from}
+use Rattle.std.proofs.Common.{sym, ◌∙◌, arith}
 use Rattle.zhang_plate.proofs.Turns.{in_range, castable, next_power, stops, goes_on, ends}
 use Rattle.zhang_plate.proofs.known_plate.Goals as goal
 

@@ -1,7 +1,6 @@
 -- `zhang_plate::known_plate`: the loop's invariant: the lowest unit of those that are left, from here on, is the lowest of all.
-use Rattle.std.proofs.Common.{◌≡◌, ◌-◌, ◌^◌, ◌≤◌, sym, ◌∙◌, arith, rules}
+use Rattle.std.proofs.Common.{◌≡◌, ◌-◌, ◌^◌, ◌≤◌}
 use Rattle.zhang_plate.specs.Plate.{unit_from}
-use Rattle.zhang_plate.proofs.Turns.{in_range, castable, next_power, stops, goes_on, ends}
 use Rattle.zhang_plate.proofs.known_plate.Given as goal
 
 abbrev pub invariant-loop-power : goal.invariant-loop-power

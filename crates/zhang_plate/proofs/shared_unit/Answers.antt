@@ -1,5 +1,4 @@
 -- `zhang_plate::shared_unit` meets its contract: its tests are the definition's, in their order. Assumes nothing.
-use Rattle.std.proofs.Common.{rules}
 use Rattle.zhang_plate.specs.Plate.{shared_unit}
 use Rattle.zhang_plate.proofs.shared_unit.Goals as goal
 

@@ -1,5 +1,5 @@
 -- `zhang_plate::times_unit` meets its contract, by the laws of `proofs/WholeNumber.antt`. Assumes nothing.
-use Rattle.std.proofs.Common.{rules, ap, not}
+use Rattle.std.proofs.Common.{ap, not}
 use Rattle.zhang_plate.proofs.WholeNumber.{too_large, castable, counted, has_fraction, counts}
 use Rattle.zhang_plate.proofs.times_unit.Goals as goal
 

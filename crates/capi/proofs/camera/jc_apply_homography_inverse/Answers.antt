@@ -1,5 +1,5 @@
 -- `capi::camera::jc_apply_homography_inverse` meets its contract, by those of `rows_of` and `apply_homography_inverse`. Assumes nothing.
-use Rattle.std.proofs.Common.{ap, ◌∙◌, rules}
+use Rattle.std.proofs.Common.{ap, ◌∙◌}
 use Rattle.camera_tilt.specs.Matrix.{Matrix}
 use Rattle.camera_tilt.specs.Sensor.{apply_homography_inverse}
 use Rattle.capi.proofs.camera.jc_apply_homography_inverse.Goals as goal

@@ -1,5 +1,5 @@
 -- `capi::camera::jc_conic_to_camera` meets its contract, by those of `from_homographies` and `estimate_reply`. Assumes nothing.
-use Rattle.std.proofs.Common.{ap, ◌∙◌, rules}
+use Rattle.std.proofs.Common.{ap, ◌∙◌}
 use Rattle.capi_records.specs.Camera.{flat_estimate}
 use Rattle.capi.proofs.camera.jc_conic_to_camera.Goals as goal
 

@@ -1,5 +1,5 @@
 -- `capi::camera::jc_inverse` meets its contract, by those of `rows_of` and `inverse_reply`. Assumes nothing.
-use Rattle.std.proofs.Common.{ap, ◌∙◌, rules}
+use Rattle.std.proofs.Common.{ap, ◌∙◌}
 use Rattle.capi_records.specs.Camera.{flat_inverse}
 use Rattle.capi.proofs.camera.jc_inverse.Goals as goal
 

@@ -1,5 +1,5 @@
 -- `capi::camera::jc_tilt_projection_matrix` meets its contract, by those of `tilt_projection_matrix` and `matrix_of`. Assumes nothing.
-use Rattle.std.proofs.Common.{ap, ◌∙◌, rules}
+use Rattle.std.proofs.Common.{ap, ◌∙◌}
 use Rattle.capi_records.specs.Camera.{flat_matrix}
 use Rattle.capi.proofs.camera.jc_tilt_projection_matrix.Goals as goal
 

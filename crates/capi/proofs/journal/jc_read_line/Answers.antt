@@ -1,5 +1,5 @@
 -- `capi::journal::jc_read_line` meets its contract, by those of `read_at` and `read_reply`. Assumes nothing.
-use Rattle.std.proofs.Common.{ap, ◌∙◌, rules}
+use Rattle.std.proofs.Common.{ap, ◌∙◌}
 use Rattle.journal_line.specs.declared.Read.{Read}
 use Rattle.capi_records.specs.Journal.{flat_read}
 use Rattle.capi.proofs.journal.jc_read_line.Goals as goal

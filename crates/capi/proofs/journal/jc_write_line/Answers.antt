@@ -1,5 +1,5 @@
 -- `capi::journal::jc_write_line` meets its contract, by those of `line_of`, `write_line` and `write_reply`. Assumes nothing.
-use Rattle.std.proofs.Common.{ap, ◌∙◌, rules}
+use Rattle.std.proofs.Common.{ap, ◌∙◌}
 use Rattle.journal_line.specs.declared.Line.{Line}
 use Rattle.journal_line.specs.Writing.{write_reply, write_into}
 use Rattle.capi_records.specs.Journal.{flat_written}

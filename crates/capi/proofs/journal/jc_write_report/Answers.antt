@@ -1,5 +1,5 @@
 -- `capi::journal::jc_write_report` meets its contract, by those of `write_report` and `write_reply`. Assumes nothing.
-use Rattle.std.proofs.Common.{ap, ◌∙◌, rules}
+use Rattle.std.proofs.Common.{ap, ◌∙◌}
 use Rattle.capi_records.specs.Journal.{flat_written}
 use Rattle.capi.proofs.journal.jc_write_report.Goals as goal
 

@@ -1,5 +1,5 @@
 -- `capi::lists::jc_design_rows` meets its contract, by those of `design_rows` and `rows_number`. Assumes nothing.
-use Rattle.std.proofs.Common.{ap, ◌∙◌, rules}
+use Rattle.std.proofs.Common.{ap, ◌∙◌}
 use Rattle.capi_records.specs.Lists.{rows_number}
 use Rattle.capi.proofs.lists.jc_design_rows.Goals as goal
 

@@ -1,5 +1,5 @@
 -- `capi::lists::jc_normalize_points_2d` meets its contract, by those of `normalize_points_2d` and `normalize_reply`. Assumes nothing.
-use Rattle.std.proofs.Common.{ap, ◌∙◌, rules}
+use Rattle.std.proofs.Common.{ap, ◌∙◌}
 use Rattle.capi_records.specs.Lists.{flat_normalized}
 use Rattle.capi.proofs.lists.jc_normalize_points_2d.Goals as goal
 

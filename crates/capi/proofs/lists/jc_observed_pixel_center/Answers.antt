@@ -1,5 +1,5 @@
 -- `capi::lists::jc_observed_pixel_center` meets its contract, by those of `observed_pixel_center` and `center_reply`. Assumes nothing.
-use Rattle.std.proofs.Common.{ap, ◌∙◌, rules}
+use Rattle.std.proofs.Common.{ap, ◌∙◌}
 use Rattle.capi_records.specs.Lists.{flat_center}
 use Rattle.capi.proofs.lists.jc_observed_pixel_center.Goals as goal
 

@@ -1,5 +1,5 @@
 -- `capi::lists::jc_untilt_points` meets its contract, by those of `untilt_points` and `mapped_number`. Assumes nothing.
-use Rattle.std.proofs.Common.{ap, ◌∙◌, rules}
+use Rattle.std.proofs.Common.{ap, ◌∙◌}
 use Rattle.capi_records.specs.Lists.{mapped_number}
 use Rattle.capi.proofs.lists.jc_untilt_points.Goals as goal
 

@@ -1,5 +1,5 @@
 -- `capi::replay::jc_replay` meets its contract, by those of `options_of`, `replay` and `replay_flat`. Assumes nothing.
-use Rattle.std.proofs.Common.{ap, ◌∙◌, rules}
+use Rattle.std.proofs.Common.{ap, ◌∙◌}
 use Rattle.capi_records.specs.Replay.{flat_replayed}
 use Rattle.capi.proofs.replay.jc_replay.Goals as goal
 

@@ -1,5 +1,5 @@
 -- `capi::replay::jc_resume` meets its contract, by those of `options_of`, `resume` and `resume_flat`. Assumes nothing.
-use Rattle.std.proofs.Common.{ap, ◌∙◌, rules}
+use Rattle.std.proofs.Common.{ap, ◌∙◌}
 use Rattle.capi_records.specs.Replay.{flat_resumed}
 use Rattle.capi.proofs.replay.jc_resume.Goals as goal
 

@@ -1,5 +1,5 @@
 -- `capi::run::jc_answer` meets its contract, by those of `run_of`, `finding_of`, `answer` and `answer_flat`. Assumes nothing.
-use Rattle.std.proofs.Common.{ap, ◌∙◌, rules}
+use Rattle.std.proofs.Common.{ap, ◌∙◌}
 use Rattle.score_outcome.specs.declared.Finding.{Finding}
 use Rattle.search_record.specs.declared.run.Run.{Run}
 use Rattle.search_answer.specs.Answer.{AnswerLeft, answer_def}

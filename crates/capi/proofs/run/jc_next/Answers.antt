@@ -1,5 +1,5 @@
 -- `capi::run::jc_next` meets its contract, by those of `run_of`, `next` and `next_flat`. Assumes nothing.
-use Rattle.std.proofs.Common.{ap, ◌∙◌, rules}
+use Rattle.std.proofs.Common.{ap, ◌∙◌}
 use Rattle.search_record.specs.declared.run.Run.{Run}
 use Rattle.search_calls.specs.Next.{next_def}
 use Rattle.capi_records.specs.Run.{flat_next}

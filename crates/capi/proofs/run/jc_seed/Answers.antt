@@ -1,5 +1,5 @@
 -- `capi::run::jc_seed` meets its contract, by those of `run_of`, `seed` and `copy_part`. Assumes nothing.
-use Rattle.std.proofs.Common.{ap, ◌∙◌, List, Float, rules}
+use Rattle.std.proofs.Common.{ap, ◌∙◌, List, Float}
 use Rattle.search_record.specs.declared.run.Run.{Run}
 use Rattle.search_calls.specs.Next.{seed_part}
 use Rattle.capi_records.specs.Run.{copied, copy_count}

@@ -1,5 +1,5 @@
 -- `capi::run::jc_start` meets its contract, by those of `options_of`, `start` and `start_flat`. Assumes nothing.
-use Rattle.std.proofs.Common.{ap, ◌∙◌, rules}
+use Rattle.std.proofs.Common.{ap, ◌∙◌}
 use Rattle.capi_records.specs.Run.{flat_started}
 use Rattle.capi.proofs.run.jc_start.Goals as goal
 

@@ -1,5 +1,5 @@
 -- `capi::run::jc_stop` meets its contract, by those of `run_of`, `stop` and `stop_flat`. Assumes nothing.
-use Rattle.std.proofs.Common.{ap, ◌∙◌, rules}
+use Rattle.std.proofs.Common.{ap, ◌∙◌}
 use Rattle.search_record.specs.declared.run.Run.{Run}
 use Rattle.search_calls.specs.Stop.{stop_def}
 use Rattle.capi_records.specs.Run.{flat_stopped}

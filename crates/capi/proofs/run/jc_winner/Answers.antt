@@ -1,5 +1,4 @@
 -- `capi::run::jc_winner` meets its contract, by those of `best_of`, `winner` and `best_record`. Assumes nothing.
-use Rattle.std.proofs.Common.{rules}
 use Rattle.capi.proofs.run.jc_winner.Goals as goal
 
 pub returns : goal.returns

@@ -1,5 +1,5 @@
 -- `capi::scoring::jc_count_errors` meets its contract, by those of `count_errors` and `error_count_reply`. Assumes nothing.
-use Rattle.std.proofs.Common.{ap, ◌∙◌, rules}
+use Rattle.std.proofs.Common.{ap, ◌∙◌}
 use Rattle.capi_records.specs.Scoring.{flat_error_count}
 use Rattle.capi.proofs.scoring.jc_count_errors.Goals as goal
 

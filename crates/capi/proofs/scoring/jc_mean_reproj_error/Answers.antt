@@ -1,5 +1,4 @@
 -- `capi::scoring::jc_mean_reproj_error` meets its contract, by that of `mean_of_rows`. Assumes nothing.
-use Rattle.std.proofs.Common.{rules}
 use Rattle.score_rows.specs.Rows.{tilt_matrix}
 use Rattle.capi.proofs.scoring.jc_mean_reproj_error.Goals as goal
 
