@@ -8,7 +8,8 @@ use Rattle.score_outcome.specs.declared.Finding.{Finding}
 use Rattle.score_outcome.specs.declared.Outcome.{Outcome}
 use Rattle.score_outcome.specs.declared.Outcome.TheVariants.{Skipped, Scored}
 use Rattle.score_outcome.specs.Evaluation.{outcome_of, finding_refusal}
-use Rattle.score_outcome.specs.Facts.{ScoredFacts, scored_facts, skipped_reason}
+use Rattle.score_outcome.specs.Facts.{ScoredFacts}
+use Rattle.score_outcome.proofs.Facts.{scored_facts, skipped_reason}
 use Rattle.score_best.specs.declared.Candidate.{Candidate}
 use Rattle.score_best.specs.Best.{nothing, chosen}
 use Rattle.book.specs.Calls.{Call, next, seed, answer, ask, progress, stop, last, counts}

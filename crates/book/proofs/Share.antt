@@ -8,7 +8,8 @@ use Rattle.score_outcome.specs.declared.Finding.TheVariants.{Failed, Solved}
 use Rattle.score_outcome.specs.declared.Outcome.{Outcome}
 use Rattle.score_outcome.specs.declared.Outcome.TheVariants.{Skipped, Scored}
 use Rattle.score_outcome.specs.Evaluation.{solved_at, evaluated, outcome_of, finding_refusal}
-use Rattle.score_outcome.specs.Share.{RestsOn, scored_rests}
+use Rattle.score_outcome.specs.Share.{RestsOn}
+use Rattle.score_outcome.proofs.Share.{scored_rests}
 use Rattle.score_best.specs.declared.Candidate.{Candidate}
 use Rattle.score_best.specs.Best.{candidate_of}
 use Rattle.search_record.specs.declared.run.Run.{Run}

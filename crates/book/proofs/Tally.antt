@@ -8,7 +8,7 @@ use Rattle.score_outcome.specs.declared.Finding.{Finding}
 use Rattle.score_outcome.specs.declared.Outcome.{Outcome}
 use Rattle.score_outcome.specs.declared.Outcome.TheVariants.{Skipped, Scored}
 use Rattle.score_outcome.specs.Evaluation.{outcome_of}
-use Rattle.score_outcome.specs.Facts.{skipped_reason}
+use Rattle.score_outcome.proofs.Facts.{skipped_reason}
 use Rattle.journal_line.specs.Counts.{kind_of, count_in, counts_in, with_count}
 use Rattle.journal_line.proofs.CountLaws.{counts_snoc, five_kinds}
 use Rattle.journal_line.specs.Outcome.{recorded_as}

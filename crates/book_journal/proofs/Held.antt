@@ -30,7 +30,7 @@ use Rattle.score_outcome.specs.declared.Scoring.{Scoring}
 use Rattle.score_outcome.specs.declared.Outcome.{Outcome}
 use Rattle.score_outcome.specs.declared.Outcome.TheVariants.{Skipped, Scored}
 use Rattle.score_outcome.specs.Evaluation.{solved_at, mean_with, scoring_of, evaluated, outcome_of, finding_refusal}
-use Rattle.score_outcome.specs.Outcomes.{scored_passed}
+use Rattle.score_outcome.proofs.Outcomes.{scored_passed}
 use Rattle.score_best.specs.declared.Candidate.{Candidate}
 use Rattle.score_best.specs.Best.{Chosen, nothing, chosen, best_of}
 use Rattle.score_best.proofs.Order.{found_leads}

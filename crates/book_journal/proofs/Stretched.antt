@@ -3,7 +3,7 @@ use Rattle.std.proofs.Common.{◌≡◌, refl, sym, ap, ◌∙◌, List, [], ◌
 use mathlib.Core.List.{flat_map}
 use Rattle.common.specs.Each.{All}
 use Rattle.score_outcome.specs.declared.Scoring.{Scoring}
-use Rattle.score_outcome.specs.Outcomes.{scored_same}
+use Rattle.score_outcome.proofs.Outcomes.{scored_same}
 use Rattle.score_best.specs.declared.Candidate.{Candidate}
 use Rattle.score_best.specs.Best.{Chosen, best_of, candidate_of}
 use Rattle.score_best.specs.Winners.{winner_of, joined}

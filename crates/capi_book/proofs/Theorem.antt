@@ -8,7 +8,7 @@ use Rattle.score_outcome.specs.declared.Finding.{Finding}
 use Rattle.score_outcome.specs.declared.Outcome.{Outcome}
 use Rattle.score_outcome.specs.declared.Outcome.TheVariants.{Skipped, Scored}
 use Rattle.score_outcome.specs.Evaluation.{outcome_of}
-use Rattle.score_outcome.specs.Facts.{skipped_reason}
+use Rattle.score_outcome.proofs.Facts.{skipped_reason}
 use Rattle.score_best.specs.Best.{no_best}
 use Rattle.search_record.specs.declared.run.Run.{Run}
 use Rattle.search_record.specs.Record.{sound}

@@ -20,7 +20,8 @@ use Rattle.score_outcome.specs.declared.Finding.{Finding}
 use Rattle.score_outcome.specs.declared.Scoring.{Scoring}
 use Rattle.score_outcome.specs.declared.Outcome.TheVariants.{Scored}
 use Rattle.score_outcome.specs.Evaluation.{outcome_of}
-use Rattle.score_outcome.specs.Facts.{ScoredFacts, scored_facts}
+use Rattle.score_outcome.specs.Facts.{ScoredFacts}
+use Rattle.score_outcome.proofs.Facts.{scored_facts}
 use Rattle.score_floor.specs.Floor.{counted_penalty, floor_of}
 use Rattle.score_floor.proofs.Penalty.{scored_not_below, penalty_number}
 

@@ -1,24 +1,13 @@
--- What holds of every scored finding, and which reasons a skipped one has. Assumes nothing.
-use Rattle.std.specs.Prelude.{ℕ, ◌≤◌, ◌≡◌, refl, true, false, ◌&&◌, List, Float}
-use Rattle.std.proofs.Common.{sym, subst, ◌∙◌, arith}
-use Rattle.std.specs.Float.Ieee.{is_nan, lt, le, of_bits}
-use Rattle.common.specs.Tests.{case, both_true}
-use Rattle.float.specs.Float.{abs_of, is_finite, sign_bit}
-use Rattle.float.specs.Finite.{finite_number}
-use Rattle.float.specs.Sign.{unsigned_not_below, clamp_magnitude}
+-- What holds of every scored finding. Definitions only.
+use Rattle.std.specs.Prelude.{◌≡◌, true, false}
+use Rattle.std.specs.Float.Ieee.{is_nan, lt, le}
+use Rattle.float.specs.Float.{abs_of, is_finite}
 use Rattle.float.specs.Literals.{plus_zero}
 use Rattle.camera_models.specs.declared.math.Pt2.{Pt2}
 use Rattle.camera_tilt.specs.declared.sensor.ScheimpflugParams.{ScheimpflugParams}
-use Rattle.score_camera.specs.Camera.{tangential_bound, damped, damped_camera, finite_intrinsics, finite_distortion, valid_camera}
+use Rattle.score_camera.specs.Camera.{tangential_bound, valid_camera}
 use Rattle.score_camera.specs.Penalties.{score_of}
-use Rattle.score_outcome.specs.Evaluation.{solved_at, mean_with, enough_with, scoring_of, evaluated, outcome_of}
-use Rattle.score_outcome.specs.Outcomes.{never, invalid_skips, few_skips, infinite_skips, nan_skips, number_scores, scored_passed}
-use Rattle.score_outcome.specs.Mean.{mean_unsigned}
-use Rattle.score_outcome.specs.declared.SolvedCamera.{SolvedCamera}
 use Rattle.score_outcome.specs.declared.Scoring.{Scoring}
-use Rattle.score_outcome.specs.declared.Finding.{Finding}
-use Rattle.score_outcome.specs.declared.Finding.TheVariants.{Failed, Solved}
-use Rattle.score_outcome.specs.declared.Outcome.TheVariants.{Skipped, Scored}
 
 -- The camera passes the check: a focal length is finite and above 0; a radial coefficient is +0, a tangential one finite and at most 0.05 in size, the mean
 -- finite and not below 0, and the score is that of mean, camera, the seed's tilts and the observed centre, and is a number.
@@ -39,78 +28,3 @@ pub record ScoredFacts (sensor : ScheimpflugParams) (center : Pt2) (g : Scoring)
   pub mean_not_below : lt g.mean plus_zero ≡ false
   pub score_is : g.score ≡ score_of g.mean g.camera sensor center
   pub score_number : is_nan g.score ≡ false
-
--- ---- what the camera check says
-scoring_facts : (s : SolvedCamera) (sensor : ScheimpflugParams) (center : Pt2) (rows : List Float) (flags : List ℕ)
-    → valid_camera (damped_camera s.camera) ≡ true → is_finite (mean_with s rows flags) ≡ true → is_nan (scoring_of s sensor center rows flags).score ≡ false
-    → ScoredFacts sensor center (scoring_of s sensor center rows flags)
-unfolding scoring_of damped valid_camera finite_intrinsics finite_distortion sign_bit of_bits is_nan
-scoring_facts s sensor center rows flags v f n =
-    let k = s.camera.k in
-    let d = damped s.camera.dist in
-    let y = both_true (finite_intrinsics k && finite_distortion d && lt plus_zero k.fx) (lt plus_zero k.fy) v in
-    let x = both_true (finite_intrinsics k && finite_distortion d) (lt plus_zero k.fx) y.0 in
-    let numbers = both_true (finite_intrinsics k) (finite_distortion d) x.0 in
-    let cy = both_true (is_finite k.fx && is_finite k.fy && is_finite k.cx) (is_finite k.cy) numbers.0 in
-    let cx = both_true (is_finite k.fx && is_finite k.fy) (is_finite k.cx) cy.0 in
-    let focal = both_true (is_finite k.fx) (is_finite k.fy) cx.0 in
-    let p2 = both_true (is_finite d.k1 && is_finite d.k2 && is_finite d.k3 && is_finite d.p1) (is_finite d.p2) numbers.1 in
-    let p1 = both_true (is_finite d.k1 && is_finite d.k2 && is_finite d.k3) (is_finite d.p1) p2.0 in
-    record {
-      camera_valid = v;
-      fx_finite = focal.0;
-      fy_finite = focal.1;
-      fx_above = x.1;
-      fy_above = y.1;
-      k1_zero = refl;
-      k2_zero = refl;
-      k3_zero = refl;
-      p1_finite = p1.1;
-      p2_finite = p2.1;
-      p1_within = clamp_magnitude s.camera.dist.p1 tangential_bound refl refl (finite_number d.p1 p1.1);
-      p2_within = clamp_magnitude s.camera.dist.p2 tangential_bound refl refl (finite_number d.p2 p2.1);
-      mean_finite = f;
-      mean_not_below = unsigned_not_below (mean_with s rows flags) (mean_unsigned s rows flags);
-      score_is = refl;
-      score_number = n;
-    }
-
--- ---- the outcome, taken apart
-skipped_same : (n m : ℕ) → Skipped n ≡ Skipped m → n ≡ m
-skipped_same n m h = cc
-
-pub scored_facts : (share : ℕ) (f : Finding) (sensor : ScheimpflugParams) (center : Pt2) (rows : List Float) (flags : List ℕ) (g : Scoring)
-    → outcome_of share f sensor center rows flags ≡ Scored g → ScoredFacts sensor center g
-unfolding outcome_of
-scored_facts share Failed sensor center rows flags g h = absurd (never 1 g h)
-scored_facts share (Solved c) sensor center rows flags g h =
-    let s = solved_at c sensor in
-    let p = scored_passed share s sensor center rows flags g h in
-    subst (λ (x : Scoring). ScoredFacts sensor center x) p.is (scoring_facts s sensor center rows flags p.valid p.finite p.number)
-
-solved_reason : (share : ℕ) (s : SolvedCamera) (sensor : ScheimpflugParams) (center : Pt2) (rows : List Float) (flags : List ℕ) (n : ℕ)
-    → evaluated share s sensor center rows flags ≡ Skipped n → (2 ≤ n) × (n ≤ 4)
-solved_reason share s sensor center rows flags n h =
-    case (valid_camera (damped_camera s.camera))
-    (λ v. case (enough_with share s rows flags)
-    (λ e. case (is_finite (mean_with s rows flags))
-    (λ m. case (is_nan (scoring_of s sensor center rows flags).score)
-    (λ k. let q = skipped_same 4 n (sym (nan_skips share s sensor center rows flags v e m k) ∙ h) in (omega arith, omega arith))
-    (λ k. absurd (never n (scoring_of s sensor center rows flags) (sym h ∙ number_scores share s sensor center rows flags v e m k))))
-    (λ m. let q = skipped_same 3 n (sym (infinite_skips share s sensor center rows flags v m) ∙ h) in (omega arith, omega arith)))
-    (λ e. let q = skipped_same 3 n (sym (few_skips share s sensor center rows flags v e) ∙ h) in (omega arith, omega arith)))
-    (λ v. let q = skipped_same 2 n (sym (invalid_skips share s sensor center rows flags v) ∙ h) in (omega arith, omega arith))
-
--- Reason 1, 2, 3 or 4.
-pub skipped_reason : (share : ℕ) (f : Finding) (sensor : ScheimpflugParams) (center : Pt2) (rows : List Float) (flags : List ℕ) (n : ℕ)
-    → outcome_of share f sensor center rows flags ≡ Skipped n → (1 ≤ n) × (n ≤ 4)
-unfolding outcome_of
-skipped_reason share Failed sensor center rows flags n h = let e = skipped_same 1 n h in (omega arith, omega arith)
-skipped_reason share (Solved c) sensor center rows flags n h = let e = solved_reason share (solved_at c sensor) sensor center rows flags n h in (omega arith, omega arith)
-
--- Reason 1 for Failed alone.
-pub skipped_failed : (share : ℕ) (f : Finding) (sensor : ScheimpflugParams) (center : Pt2) (rows : List Float) (flags : List ℕ)
-    → outcome_of share f sensor center rows flags ≡ Skipped 1 → f ≡ Failed
-unfolding outcome_of
-skipped_failed share Failed sensor center rows flags h = refl
-skipped_failed share (Solved c) sensor center rows flags h = let e = solved_reason share (solved_at c sensor) sensor center rows flags 1 h in absurd (omega arith)

@@ -1,95 +1,20 @@
--- 02, E11: what is scored rests on its share of the rows, and a share of 0 is 01's rule. Assumes nothing.
-use Rattle.std.specs.Prelude.{ℕ, zero, suc, ◌+◌, ◌*◌, ◌/◌, ◌%◌, ◌≤◌, ◌<◌, ◌≡◌, refl, true, false, not, cond, List, [], leb, eqb, length, Float}
-use Rattle.std.proofs.Common.{zero-mul, mul-zero, mul-le-mul_right, mul-add, mul_left_comm, arith, ap, ◌∙◌}
-use Rattle.std.proofs.Math.Path.{sym}
-use borrow.Author.Tests.{le-leb, lt-leb, leb-true, leb-false}
-use Rattle.std.proofs.Math.Dec.{eqb-suc-zero}
-use Rattle.std.specs.Float.Ieee.{div, of_bits}
-use Rattle.common.specs.Tests.{case}
+-- 02, E11: what it is to rest on a share of the rows, and 01's outcome, which asks for none. Definitions only.
+use Rattle.std.specs.Prelude.{ℕ, ◌*◌, ◌≤◌, ◌≡◌, not, cond, List, length, Float}
 use Rattle.float.specs.Float.{is_finite}
 use Rattle.camera_models.specs.declared.math.Pt2.{Pt2}
 use Rattle.camera_tilt.specs.declared.sensor.ScheimpflugParams.{ScheimpflugParams}
 use Rattle.score_camera.specs.Camera.{damped_camera, valid_camera}
-use Rattle.score_rows.specs.Rows.{rows_of, counted_errors, summed, error_sum, mean_of}
-use Rattle.score_outcome.specs.Evaluation.{solved_at, errors_with, mean_with, enough, enough_with, scoring_of, scored_as, evaluated, outcome_of}
-use Rattle.score_outcome.specs.Outcomes.{infinite_skips, scored_passed}
+use Rattle.score_outcome.specs.Evaluation.{solved_at, errors_with, mean_with, scoring_of, scored_as}
 use Rattle.score_outcome.specs.declared.SolvedCamera.{SolvedCamera}
-use Rattle.score_outcome.specs.declared.Scoring.{Scoring}
 use Rattle.score_outcome.specs.declared.Finding.{Finding}
 use Rattle.score_outcome.specs.declared.Finding.TheVariants.{Failed, Solved}
 use Rattle.score_outcome.specs.declared.Outcome.{Outcome}
-use Rattle.score_outcome.specs.declared.Outcome.TheVariants.{Skipped, Scored}
+use Rattle.score_outcome.specs.declared.Outcome.TheVariants.{Skipped}
 
 -- ---- a mean of these rows over at least this share of them, in whole numbers
 pub record RestsOn (share : ℕ) (s : SolvedCamera) (rows : List Float) (flags : List ℕ) (mean : Float) : Type 0 where
   pub mean_is : mean ≡ mean_with s rows flags
   pub enough_counted : share * length flags ≤ (errors_with s rows flags).count * 100
-
-mean_of_lem : (s : SolvedCamera) (sensor : ScheimpflugParams) (center : Pt2) (rows : List Float) (flags : List ℕ) → (scoring_of s sensor center rows flags).mean ≡ mean_with s rows flags
-unfolding scoring_of
-mean_of_lem s sensor center rows flags = refl
-
-counted_times : (share : ℕ) (s : SolvedCamera) (rows : List Float) (flags : List ℕ) → enough_with share s rows flags ≡ true → share * length flags ≤ (errors_with s rows flags).count * 100
-unfolding enough_with enough
-counted_times share s rows flags h = leb-true _ _ h
-
-pub scored_rests : (share : ℕ) (s : SolvedCamera) (sensor : ScheimpflugParams) (center : Pt2) (rows : List Float) (flags : List ℕ) (g : Scoring)
-    → evaluated share s sensor center rows flags ≡ Scored g → RestsOn share s rows flags g.mean
-scored_rests share s sensor center rows flags g h =
-    let p = scored_passed share s sensor center rows flags g h in
-    record {
-      mean_is = ap (λ (x : Scoring). x.mean) (sym p.is) ∙ mean_of_lem s sensor center rows flags;
-      enough_counted = counted_times share s rows flags p.enough_counted;
-    }
-
--- ---- which shares any rows have
-pub zero_enough : (counted all : ℕ) → enough 0 counted all ≡ true
-unfolding enough
-zero_enough counted all = rw (zero-mul all) (le-leb 0 (counted * 100) (omega arith))
-
-pub no_rows_enough : (share counted : ℕ) → enough share counted 0 ≡ true
-unfolding enough
-no_rows_enough share counted = rw (mul-zero share) (le-leb 0 (counted * 100) (omega arith))
-
--- where there are no rows the share is there, and a mean isn't
-no_mean_lem : (s : SolvedCamera) → is_finite (mean_with s [] []) ≡ false
-unfolding mean_with errors_with error_sum counted_errors summed rows_of mean_of is_finite div of_bits
-no_mean_lem s = refl
-
-pub no_rows : (share : ℕ) (s : SolvedCamera) (sensor : ScheimpflugParams) (center : Pt2)
-    → valid_camera (damped_camera s.camera) ≡ true → (enough_with share s [] [] ≡ true) × (evaluated share s sensor center [] [] ≡ Skipped 3)
-unfolding enough_with
-no_rows share s sensor center v = (no_rows_enough share (errors_with s [] []).count, infinite_skips share s sensor center [] [] v (no_mean_lem s))
-
--- more than 100 per cent is what no rows but none have
-few_of_many : (share counted n : ℕ) → 100 < share → counted ≤ suc n → counted * 100 < share * suc n
-few_of_many share counted n h k = let p = mul-le-mul_right (suc n) h in omega arith
-
-pub above_all : (share counted all : ℕ) → 100 < share → counted ≤ all → eqb all 0 ≡ enough share counted all
-unfolding enough
-above_all share counted zero h k = sym (no_rows_enough share counted)
-above_all share counted (suc n) h k = eqb-suc-zero n ∙ sym (lt-leb _ _ (few_of_many share counted n h k))
-
--- ---- at most 100 per cent, by whole hundreds of rows and the rest, as the code counts
-module _ (share all : ℕ) (h : share ≤ 100) where
-  pub hundreds_most : share * (all / 100) ≤ 100 * (all / 100)
-  hundreds_most = mul-le-mul_right (all / 100) h
-
-  pub rest_most : share * (all % 100) ≤ 100 * (all % 100)
-  rest_most = mul-le-mul_right (all % 100) h
-
-  parts : share * all ≡ 100 * (share * (all / 100)) + share * (all % 100)
-  parts =
-      let e : all ≡ 100 * (all / 100) + all % 100 = omega arith in
-      ap (λ (n : ℕ). share * n) e ∙ mul-add share (100 * (all / 100)) (all % 100) ∙ ap (λ (n : ℕ). n + share * (all % 100)) (mul_left_comm share 100 (all / 100))
-
-  pub by_hundreds : (counted : ℕ) → leb (share * (all / 100) + (share * (all % 100) + 99) / 100) counted ≡ enough share counted all
-  unfolding enough
-  by_hundreds counted =
-      let least = share * (all / 100) + (share * (all % 100) + 99) / 100 in
-      case (leb least counted)
-      (λ e. let k = leb-true least counted e in e ∙ sym (le-leb (share * all) (counted * 100) (omega (arith, parts))))
-      (λ e. let k = leb-false least counted e in e ∙ sym (lt-leb (share * all) (counted * 100) (omega (arith, parts))))
 
 -- ---- 01's outcome, with the reason 4 of 02, E3: it asks for no share
 abbrev pub evaluated01 : SolvedCamera → ScheimpflugParams → Pt2 → List Float → List ℕ → Outcome
@@ -100,27 +25,3 @@ evaluated01 s sensor center rows flags =
 abbrev pub outcome01 : Finding → ScheimpflugParams → Pt2 → List Float → List ℕ → Outcome
 outcome01 Failed sensor center rows flags = Skipped 1
 outcome01 (Solved c) sensor center rows flags = evaluated01 (solved_at c sensor) sensor center rows flags
-
-zero_evaluated : (s : SolvedCamera) (sensor : ScheimpflugParams) (center : Pt2) (rows : List Float) (flags : List ℕ)
-    → evaluated 0 s sensor center rows flags ≡ evaluated01 s sensor center rows flags
-unfolding evaluated enough_with
-zero_evaluated s sensor center rows flags = simp (zero_enough (errors_with s rows flags).count (length flags))
-
--- a share of 0 is that rule
-pub zero_share : (f : Finding) (sensor : ScheimpflugParams) (center : Pt2) (rows : List Float) (flags : List ℕ) → outcome_of 0 f sensor center rows flags ≡ outcome01 f sensor center rows flags
-unfolding outcome_of
-zero_share Failed sensor center rows flags = refl
-zero_share (Solved c) sensor center rows flags = zero_evaluated (solved_at c sensor) sensor center rows flags
-
--- ---- computed: one of three is 33 per cent and not 34, four of nine hundred aren't one, nine are; all are 100, and none but no rows has 101
-pub one_of_three : (enough 33 1 3 ≡ true) × (enough 34 1 3 ≡ false)
-unfolding enough
-one_of_three = (refl, refl)
-
-pub four_of_many : (enough 1 4 900 ≡ false) × (enough 1 9 900 ≡ true)
-unfolding enough
-four_of_many = (refl, refl)
-
-pub all_of_all : (enough 100 7 7 ≡ true) × (enough 101 7 7 ≡ false)
-unfolding enough
-all_of_all = (refl, refl)

@@ -8,7 +8,7 @@ use Rattle.score_rows.specs.Rows.{rows_of, tilt_matrix, error_sum, mean_of}
 use Rattle.score_rows.proofs.Counted.{counted_most}
 use Rattle.score_rows.specs.declared.ErrorSum.{ErrorSum}
 use Rattle.score_outcome.specs.Evaluation.{errors_with, mean_with, enough, enough_with, scored_as}
-use Rattle.score_outcome.specs.Outcomes.{invalid_skips, few_skips, infinite_skips, passed_scored, scoring_is}
+use Rattle.score_outcome.proofs.Outcomes.{invalid_skips, few_skips, infinite_skips, passed_scored, scoring_is}
 use Rattle.score_outcome.specs.declared.SolvedCamera.{SolvedCamera}
 use Rattle.score_outcome.proofs.evaluate_candidate.Goals as goal
 

@@ -1,6 +1,6 @@
 -- `score_outcome::is_enough` meets its contract: no part is above what it is a share of, so no product wraps. Assumes nothing.
 use Rattle.std.proofs.Common.{◌*◌, ◌/◌, ◌%◌, ◌≤◌, arith}
-use Rattle.score_outcome.specs.Share.{above_all, hundreds_most, rest_most, by_hundreds}
+use Rattle.score_outcome.proofs.Share.{above_all, hundreds_most, rest_most, by_hundreds}
 use Rattle.score_outcome.proofs.is_enough.Goals as goal
 
 hundreds : (c : goal.Else-share-gt100) → c.args.share * (c.args.all / 100) ≤ 100 * (c.args.all / 100)

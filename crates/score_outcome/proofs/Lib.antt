@@ -1,0 +1,4 @@
+pub mod Outcomes
+pub mod Share
+pub mod Invertible
+pub mod Facts
