@@ -1,10 +1,7 @@
 -- Going by cases on a value, with the case as an equation. Assumes nothing.
-use Rattle.std.proofs.Common.{ℕ, ◌≡◌, refl, List, [], ◌∷◌}
+use Rattle.std.proofs.Common.{◌≡◌, refl, List, [], ◌∷◌, Result, Ok, Err}
 use mathlib.Core.Option.{Option, none, some}
 use Rattle.seed_rules.specs.declared.CandidateSeed.{CandidateSeed}
-use Rattle.score_outcome.specs.declared.Scoring.{Scoring}
-use Rattle.score_outcome.specs.declared.Outcome.{Outcome}
-use Rattle.score_outcome.specs.declared.Outcome.TheVariants.{Skipped, Scored}
 use Rattle.score_best.specs.declared.Candidate.{Candidate}
 use Rattle.score_best.specs.Best.{Chosen, nothing, chosen}
 
@@ -20,6 +17,6 @@ pub case_option : {A : Type 0} (x : Option A) {P : Type 0} → (x ≡ none → P
 case_option none f g = f refl
 case_option (some a) f g = g a refl
 
-pub case_outcome : (x : Outcome) {P : Type 0} → ((n : ℕ) → x ≡ Skipped n → P) → ((s : Scoring) → x ≡ Scored s → P) → P
-case_outcome (Skipped n) f g = f n refl
-case_outcome (Scored s) f g = g s refl
+pub case_result : {A E : Type 0} (x : Result A E) {P : Type 0} → ((a : A) → x ≡ Ok a → P) → ((e : E) → x ≡ Err e → P) → P
+case_result (Ok a) f g = f a refl
+case_result (Err e) f g = g e refl

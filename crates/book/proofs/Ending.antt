@@ -1,16 +1,16 @@
 -- The end of a run, from any book between the calls on: the record that calls leave is sound, an accepted answer takes it on, and a host whose answers are accepted
 -- reaches the end, whatever list each call is lent. Assumes nothing.
-use Rattle.std.proofs.Common.{ℕ, zero, suc, ◌+◌, ◌-◌, ◌*◌, ◌≤◌, ◌<◌, arith, ◌≡◌, refl, sym, ap, subst, ◌∙◌, true, false, not, ◌&&◌, true≢false, List, [], ◌∷◌, ltb-true, ltb-false, lt-ltb, le-ltb, le-leb, eqb-true, eq-eqb, ltb, eqb, length, length-append, Float}
-use borrow.Author.Tests.{not-true}
-use Rattle.common.specs.Tests.{case, both_true}
+use Rattle.std.proofs.Common.{ℕ, zero, suc, ◌+◌, ◌-◌, ◌*◌, ◌≤◌, ◌<◌, arith, ◌≡◌, refl, sym, ap, subst, ◌∙◌, true, false, true≢false, List, [], ◌∷◌, ltb-true, ltb-false, lt-ltb, le-ltb, le-leb, ltb, length, length-append, Float, Ok, Err}
+use Rattle.common.specs.declared.Refusal.{Refusal}
+use Rattle.common.specs.declared.Refusal.TheVariants.{NoSeedWaits}
+use Rattle.common.specs.Tests.{case}
 use Rattle.seed_rules.specs.declared.CandidateSeed.{CandidateSeed}
 use Rattle.seed_rules.specs.Layout.{seed_at}
 use Rattle.seed_rules.proofs.AnyOffsets.{most_nine, round_few}
 use Rattle.score_outcome.specs.declared.Finding.{Finding}
-use Rattle.score_outcome.specs.declared.Outcome.{Outcome}
+use Rattle.score_outcome.specs.Reasons.{Outcome}
 use Rattle.score_outcome.specs.Evaluation.{outcome_of, finding_refusal}
 use Rattle.score_best.specs.declared.Candidate.{Candidate}
-use Rattle.journal_line.specs.Counts.{kind_of}
 use Rattle.journal_line.proofs.CountLaws.{total_with}
 use Rattle.journal_line.specs.Outcome.{recorded_as}
 use Rattle.journal_line.specs.Report.{total}
@@ -21,15 +21,15 @@ use Rattle.search_record.specs.Laws.{add_up_true}
 use Rattle.search_record.specs.Record.{sound, has_place, awaiting, entered, next_step, round_opened, ended}
 use Rattle.search_calls.specs.declared.next.Handed.TheVariants as handed-as
 use Rattle.search_calls.specs.Next.{next_refusal, next_def}
-use Rattle.search_calls.specs.NextLaws.{next_hands, next_keeps}
 use Rattle.search_answer.specs.Answer as ans
+use Rattle.search_calls.specs.NextLaws.{next_refused, next_over, next_hands}
 use Rattle.search_answer.specs.AnswerLaws.{answer_passed}
 use Rattle.book.specs.Book.{Inputs, demand, Book, entries, number}
 use Rattle.book.specs.Lent.{Lent, next_with, answer_with, left, through, counted, accepted, still_left, Turn, Taken, AllTaken, turns}
 use Rattle.book.specs.Theorem.{Ends}
-use Rattle.book.proofs.Cases.{case_list}
+use Rattle.book.proofs.Cases.{case_list, case_result}
 use Rattle.book.proofs.Good.{Core, Good, at_most}
-use Rattle.book.proofs.Tally.{outcome_kind, tally_total}
+use Rattle.book.proofs.Tally.{tally_total}
 use Rattle.book.proofs.RunOf.{run_of, run_number}
 
 -- ---- what stays true of the record
@@ -83,10 +83,9 @@ await_lasts i r s o h = record { sizes = same h.sizes; room = h.room; calm = λ 
 -- Next keeps the run as it is, or has a seed wait
 next_by : (P : Run → Type 0) (r : Run) (l : List Float) → P r → ((s : CandidateSeed) → r.place.over ≡ false → P (awaiting r s)) → P (next_def r l).run
 next_by P r l p q =
-    let n = next_refusal r (length l) in
-    case (eqb n 0 && not r.place.over)
-    (λ h. rw (next_hands r l n refl h) (q (seed_at l r.place.at) (not-true r.place.over (both_true (eqb n 0) (not r.place.over) h).1)))
-    (λ h. rw (next_keeps r l n refl h) p)
+    case_result (next_refusal r (length l))
+    (λ u z. case r.place.over (λ o. rw (next_over r l z o) p) (λ o. rw (next_hands r l z o) (q (seed_at l r.place.at) o)))
+    (λ e z. rw (next_refused r l e z) p)
 
 next_lasts : (i : Inputs) (r : Run) (l : List Float) → Lasts i r → Lasts i (next_def r l).run
 next_lasts i r l h = next_by (Lasts i) r l h (λ s o. await_lasts i r s o h)
@@ -198,15 +197,11 @@ record Answers (i : Inputs) (r s : Run) : Type 0 where
   counts : s.place.number ≡ r.place.number + 1
   less : still_left s < still_left r
 
--- what is entered is of one of the five kinds
-abbrev OfKind : Outcome → Type 0
-OfKind o = kind_of (recorded_as o) ≤ 4
-
-enter_sizes : (i : Inputs) (r : Run) (o : Outcome) → OfKind o → r.place.at < r.place.len → Sizes i r → Sizes i (entered r o)
+enter_sizes : (i : Inputs) (r : Run) (o : Outcome) → r.place.at < r.place.len → Sizes i r → Sizes i (entered r o)
 unfolding entered
-enter_sizes i r o k h z =
+enter_sizes i r o h z =
     let p = z.few in
-    record { small_share = z.small_share; few_rounds = z.few_rounds; in_rounds = z.in_rounds; demand_is = z.demand_is; least = z.least; most = z.most; list_fits = z.list_fits; few = omega arith; adds_up = total_with r.counts (recorded_as o) k ∙ ap (λ n. n + 1) z.adds_up }
+    record { small_share = z.small_share; few_rounds = z.few_rounds; in_rounds = z.in_rounds; demand_is = z.demand_is; least = z.least; most = z.most; list_fits = z.list_fits; few = omega arith; adds_up = total_with r.counts (recorded_as o) ∙ ap (λ n. n + 1) z.adds_up }
 
 module _ (r : Run) (o : Outcome) where
   enter_calm : (entered r o).waiting.is_waiting ≡ false
@@ -232,12 +227,12 @@ module _ (r : Run) (o : Outcome) where
 closed_answers : (i : Inputs) (r : Run) (o : Outcome) (s : Run) → r.place.at < r.place.len → Follows i (entered r o) s → Answers i r s
 closed_answers i r o s h f = record { lasts = f.lasts; counts = f.same_number ∙ enter_number r o; less = let p = f.no_more in let q = enter_less r o h in omega arith }
 
-enter_answers : (i : Inputs) (r : Run) (l : List Float) (o : Outcome) → OfKind o → Lasts i r → r.place.over ≡ false → Answers i r (ans.enter_def r l o).run
+enter_answers : (i : Inputs) (r : Run) (l : List Float) (o : Outcome) → Lasts i r → r.place.over ≡ false → Answers i r (ans.enter_def r l o).run
 unfolding ans.enter_def
-enter_answers i r l o k h g =
+enter_answers i r l o h g =
     let e = entered r o in
     let room = h.room g in
-    let z = enter_sizes i r o k room h.sizes in
+    let z = enter_sizes i r o room h.sizes in
     case (ltb e.place.at e.place.len)
     (λ t. simp t (record {
       lasts = record { sizes = z; room = λ q. ltb-true e.place.at e.place.len t; calm = λ q. enter_calm r o };
@@ -257,16 +252,15 @@ waits_open : (i : Inputs) (r : Run) → Lasts i r → r.waiting.is_waiting ≡ t
 waits_open i r h w = case r.place.over (λ o. absurd (true≢false (sym w ∙ h.calm o))) (λ o. o)
 
 module _ (i : Inputs) (r : Run) (h : Lasts i r) (l : List Float) (f : Finding) (rows : List Float) (flags : List ℕ) where
-  answer_counts : ans.answer_refusal r (length l) f rows flags ≡ 0 → Answers i r (ans.answer_def r f rows flags l).reply.run
+  answer_counts : ans.answer_refusal r (length l) f rows flags ≡ Ok tt → Answers i r (ans.answer_def r f rows flags l).reply.run
   unfolding ans.answer_def ans.outcome_for
   answer_counts z =
       let p = answer_passed r (length l) f rows flags z in
-      let k = outcome_kind r.options.min_counted f r.waiting.seed.sensor r.center rows flags in
-      simp (eq-eqb (ans.answer_refusal r (length l) f rows flags) 0 z) (enter_answers i r l (outcome_of r.options.min_counted f r.waiting.seed.sensor r.center rows flags) k h (waits_open i r h p.waits))
+      rw (z, ans.answer_def) (enter_answers i r l (outcome_of r.options.min_counted f r.waiting.seed.sensor r.center rows flags) h (waits_open i r h p.waits))
 
-  answer_stays : eqb (ans.answer_refusal r (length l) f rows flags) 0 ≡ false → (ans.answer_def r f rows flags l).reply.run ≡ r
+  answer_stays : (e : Refusal) → ans.answer_refusal r (length l) f rows flags ≡ Err e → (ans.answer_def r f rows flags l).reply.run ≡ r
   unfolding ans.answer_def
-  answer_stays z = simp z
+  answer_stays e z = rw (z, ans.answer_def)
 
 -- ---- a whole list of calls
 call_lasts : (i : Inputs) (r : Run) (c : Lent) → Lasts i r → Lasts i (left r c) × ((left r c).place.number ≡ r.place.number + counted r c)
@@ -276,9 +270,9 @@ call_lasts i r (next_with l) h = (next_lasts i r l h, ap (λ p. p.number) (next_
     plus_zero_lem : (n : ℕ) → n + 0 ≡ n
     plus_zero_lem n = omega arith
 call_lasts i r (answer_with l f rows flags) h =
-    case (eqb (ans.answer_refusal r (length l) f rows flags) 0)
-    (λ z. let a = answer_counts i r h l f rows flags (eqb-true (ans.answer_refusal r (length l) f rows flags) 0 z) in simp z (a.lasts, a.counts))
-    (λ z. let e = answer_stays i r h l f rows flags z in simp (z, e) (h, omega arith))
+    case_result (ans.answer_refusal r (length l) f rows flags)
+    (λ u z. let a = answer_counts i r h l f rows flags z in rw (z, counted) (a.lasts, a.counts))
+    (λ e z. let k = answer_stays i r h l f rows flags e z in rw (z, k, counted) (h, omega arith))
 
 through_lasts : (i : Inputs) (r : Run) (cs : List Lent) → Lasts i r → Lasts i (through r cs) × ((through r cs).place.number ≡ r.place.number + accepted r cs)
 unfolding through accepted
@@ -293,13 +287,13 @@ through_lasts i r (c ∷ cs) h =
 -- ---- what is accepted
 module _ (i : Inputs) (r : Run) (h : Lasts i r) where
   next_hands_out : r.place.over ≡ false → r.waiting.is_waiting ≡ false → (l : List Float) → demand i ≤ length l
-      → next_def r l ≡ record { reply = handed-as.Candidate r.place.number; run = awaiting r (seed_at l r.place.at) }
+      → next_def r l ≡ record { reply = Ok (handed-as.Candidate r.place.number); run = awaiting r (seed_at l r.place.at) }
   unfolding next_def
-  next_hands_out o w l d = let e = h.sizes.demand_is in simp (lasts_sound i r h, w, le-ltb (length l) r.place.demand (omega arith), o)
+  next_hands_out o w l d = let e = h.sizes.demand_is in simp (next_def, lasts_sound i r h, w, le-ltb (length l) r.place.demand (omega arith), o)
 
   answer_passes : r.waiting.is_waiting ≡ true → (l : List Float) (f : Finding) (rows : List Float) (flags : List ℕ) → demand i ≤ length l
-      → finding_refusal f r.waiting.seed.sensor rows flags ≡ 0 → ans.answer_refusal r (length l) f rows flags ≡ 0
-  answer_passes w l f rows flags d z = let e = h.sizes.demand_is in simp (lasts_sound i r h, w, le-ltb (length l) r.place.demand (omega arith), z)
+      → finding_refusal f r.waiting.seed.sensor rows flags ≡ Ok tt → ans.answer_refusal r (length l) f rows flags ≡ Ok tt
+  answer_passes w l f rows flags d z = let e = h.sizes.demand_is in simp (ans.answer_refusal, lasts_sound i r h, w, le-ltb (length l) r.place.demand (omega arith), z)
 
   -- after Next a seed waits
   next_waits : r.place.over ≡ false → (l : List Float) → demand i ≤ length l → (next_def r l).run.waiting.is_waiting ≡ true
@@ -315,7 +309,7 @@ module _ (i : Inputs) (r : Run) (h : Lasts i r) where
   over_stays : r.place.over ≡ true → (c : Lent) → left r c ≡ r
   unfolding left
   over_stays o (next_with l) = next_by (λ s. s ≡ r) r l refl (λ s q. absurd (true≢false (sym o ∙ q)))
-  over_stays o (answer_with l f rows flags) = answer_stays i r h l f rows flags (simp (lasts_sound i r h, h.calm o))
+  over_stays o (answer_with l f rows flags) = answer_stays i r h l f rows flags NoSeedWaits (simp (ans.answer_refusal, lasts_sound i r h, h.calm o))
 
 through_over : (i : Inputs) (r : Run) (cs : List Lent) → Lasts i r → r.place.over ≡ true → (through r cs).place.over ≡ true
 unfolding through
@@ -360,7 +354,7 @@ run_lasts i b g = record { sizes = subst (λ (j : Inputs). Sizes j (run_of b)) g
         let r = z.few_rounds in
         let q = h.in_rounds in
         let n = length-append b.earlier b.answered in
-        let t = tally_total b.inputs (entries b) h.proper in
+        let t = tally_total (entries b) in
         record { small_share = z.small_share; few_rounds = z.few_rounds; in_rounds = q; demand_is = refl; least = z.least; most = z.most; list_fits = h.fits; few = omega arith; adds_up = t }
 
 pub run_ends : (i : Inputs) (b : Book) (cs : List Lent) → Good i b → Ends i (number b) (run_of b) cs (through (run_of b) cs)

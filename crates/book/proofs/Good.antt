@@ -10,12 +10,12 @@ use Rattle.seed_rules.specs.declared.CandidateSeed.{CandidateSeed}
 use Rattle.seed_rules.specs.Rules.{in_bound, untilted_y}
 use Rattle.seed_rules.specs.AnyOffsets.{most_seeds}
 use Rattle.score_outcome.specs.declared.Scoring.{Scoring}
-use Rattle.score_outcome.specs.declared.Outcome.{Outcome}
+use Rattle.score_outcome.specs.Reasons.{Outcome}
 use Rattle.score_outcome.specs.Facts.{ScoredFacts}
 use Rattle.score_best.specs.declared.Candidate.{Candidate}
 use Rattle.score_best.specs.Best.{Chosen, nothing, chosen}
 use Rattle.book.specs.Book.{Inputs, demand, Entry, Book, entries, no_seed, current, scored_of, round_best_of, run_best_of, or_else, list_around, with_waiting, with_entry, with_round, with_end, book_enter}
-use Rattle.book.proofs.Cases.{case_outcome}
+use Rattle.book.proofs.Cases.{case_result}
 use Rattle.book.proofs.Moves.{entry, Stands, Closing, close_by, enter_by, Steps}
 use Rattle.book.proofs.Planned.{Planned, await_planned, end_planned, entry_planned, open_planned}
 use Rattle.book.proofs.Seeds.{Seeded, best_among, around_seeded, around_few, nine}
@@ -42,7 +42,7 @@ scored_proper i (e ∷ es) h =
     let r = scored_proper i es h.1 in
     let s = h.0.stands in
     let d = h.0.seeded in
-    case_outcome e.outcome (λ m q. simp (scored_of, q) r) (λ g q. simp (scored_of, q) (record { within = d.within; untilted = d.untilted; facts = rw q at s }, r))
+    case_result e.outcome (λ g q. simp (scored_of, q) (record { within = d.within; untilted = d.untilted; facts = rw q at s }, r)) (λ reason q. simp (scored_of, q) r)
 
 -- the entries are numbered from k on
 abbrev pub Counted : ℕ → List Entry → Type 0

@@ -1,20 +1,20 @@
 -- What each call of the run adds to what was answered and to what was handed out is what the book has. Assumes nothing.
-use Rattle.std.proofs.Common.{◌≡◌, refl, sym, ap, ◌∙◌, true, false, cond, List, [], ◌∷◌, ◌++◌, map, append-nil, ltb-false, le-leb, ltb, eqb, length, take, Float}
+use Rattle.std.proofs.Common.{◌≡◌, refl, sym, ap, ◌∙◌, true, false, cond, List, [], ◌∷◌, ◌++◌, map, append-nil, ltb-false, le-leb, ltb, length, take, Float}
 use mathlib.Core.List.{map-append}
 use Rattle.common.specs.Tests.{case}
 use Rattle.seed_rules.specs.Layout.{six}
-use Rattle.score_outcome.specs.declared.Outcome.{Outcome}
+use Rattle.score_outcome.specs.Reasons.{Outcome}
 use Rattle.score_outcome.specs.Evaluation.{finding_refusal}
 use Rattle.search_calls.specs.Next.{next_def, seed_lent, seed_part}
 use Rattle.book.specs.Calls.{Call, next, seed, answer, ask, progress, stop, last, counts}
-use Rattle.book.specs.Book.{Inputs, demand, Book, entries, number, current, run_best_of, with_waiting, book_enter, book_outcome, book_next, book_seed, book_answer, book_result, book_progress, book_stop, book_call, book_last, book_counts}
+use Rattle.book.specs.Book.{Inputs, demand, Book, entries, number, current, run_best_of, with_waiting, book_enter, book_outcome, unless, book_next, book_seed, book_answer, book_result, book_progress, book_stop, book_call, book_last, book_counts}
 use Rattle.book.specs.Trace.{Handing, handed_by, answered_by, handing_of}
-use Rattle.book.proofs.Cases.{case_chosen}
+use Rattle.book.proofs.Cases.{case_result, case_chosen}
 use Rattle.book.proofs.Lists.{lend, short}
-use Rattle.book.proofs.Moves.{entry, enter_holds, entered_by}
+use Rattle.book.proofs.Moves.{entered_for, entry, enter_holds, entered_by}
 use Rattle.book.proofs.Good.{waits_going, steps}
 use Rattle.book.proofs.RunOf.{run_of, State, run-fields, run-bests, sound_run}
-use Rattle.book.proofs.Simulation.{await_run, await_there, in_list, in_part}
+use Rattle.book.proofs.Simulation.{when_none_waits, when_short, when_long, await_run, await_there, in_list, in_part}
 
 -- ---- the run accepts what the book enters
 pub answers_agree : (i : Inputs) (b : Book) (l : List Float) (c : Call) → State i b l → answered_by (run_of b) l c ≡ entered_by b c
@@ -22,15 +22,13 @@ unfolding answered_by entered_by
 answers_agree i b l (next n) f = refl
 answers_agree i b l (seed n) f = refl
 answers_agree i b l (answer n f rows flags) g =
-    let d = short (demand b.inputs) l n g.there.long in
-    let t = sound_run i b g.good in
     case b.waits
     (λ w. case (ltb n (demand b.inputs))
-    (λ s. simp (run-fields, t, w, d, s))
-    (λ s. case (eqb (finding_refusal f (current b).sensor rows flags) 0)
-    (λ z. simp (run-fields, t, w, d, s, z))
-    (λ z. simp (run-fields, t, w, d, s, z))))
-    (λ w. simp (run-fields, t, w))
+    (λ s. simp (answered_by, entered_for, when_short i b l n f rows flags g w s, w, s))
+    (λ s. case_result (finding_refusal f (current b).sensor rows flags)
+    (λ u z. simp (answered_by, entered_for, when_long i b l n f rows flags g w s ∙ z, run-fields, w, s, z))
+    (λ r z. simp (answered_by, entered_for, when_long i b l n f rows flags g w s ∙ z, w, s, z))))
+    (λ w. simp (answered_by, when_none_waits i b l n f rows flags g w, w))
 answers_agree i b l ask f = refl
 answers_agree i b l progress f = refl
 answers_agree i b l (stop n) f = refl
@@ -77,24 +75,24 @@ hands_agree i b l (next n) f =
     let d = short (demand b.inputs) l n f.there.long in
     let t = sound_run i b f.good in
     let z = append-nil (handed_in b) in
-    case b.waits (λ w. simp (run-fields, t, w) z) (λ w.
-    case (ltb n (demand b.inputs)) (λ s. simp (run-fields, t, w, d, s) z) (λ s.
+    case b.waits (λ w. simp (next_def, unless, run-fields, t, w) z) (λ w.
+    case (ltb n (demand b.inputs)) (λ s. simp (next_def, unless, run-fields, t, w, d, s) z) (λ s.
     case b.over
     (λ o. case_chosen (run_best_of b)
-    (λ e. simp (run-fields, run-bests, t, w, d, s, o, e) z)
-    (λ v e. simp (run-fields, run-bests, t, w, d, s, o, e) z))
+    (λ e. simp (next_def, unless, run-fields, run-bests, t, w, d, s, o, e) z)
+    (λ v e. simp (next_def, unless, run-fields, run-bests, t, w, d, s, o, e) z))
     (λ o.
     let g = lend (demand b.inputs) b.list l n f.there (ltb-false n (demand b.inputs) s) in
-    simp (run-fields, t, w, d, s, o, in_list b (take n l) g (f.good.room o), await_run b, await_part i b l o f, (await_round b).1) (await_handed b w))))
+    simp (next_def, unless, run-fields, t, w, d, s, o, in_list b (take n l) g (f.good.room o), await_run b, await_part i b l o f, (await_round b).1) (await_handed b w))))
 hands_agree i b l (seed n) f = append-nil (handed_in b)
 hands_agree i b l (answer n f rows flags) g =
     let q = append-nil (handed_in b) in
     case b.waits
     (λ w. case (ltb n (demand b.inputs))
-    (λ s. simp (w, s) q)
-    (λ s. case (eqb (finding_refusal f (current b).sensor rows flags) 0)
-    (λ z. simp (w, s, z) (q ∙ enter_handed b (book_outcome b f rows flags) w))
-    (λ z. simp (w, s, z) q)))
+    (λ s. simp (unless, w, s) q)
+    (λ s. case_result (finding_refusal f (current b).sensor rows flags)
+    (λ u z. simp (unless, w, s, z) (q ∙ enter_handed b (book_outcome b f rows flags) w))
+    (λ r z. simp (unless, w, s, z) q)))
     (λ w. simp w q)
 hands_agree i b l ask f = let z = append-nil (handed_in b) in case b.over (λ o. case_chosen (run_best_of b) (λ e. simp (o, e) z) (λ v e. simp (o, e) z)) (λ o. simp o z)
 hands_agree i b l progress f = append-nil (handed_in b)

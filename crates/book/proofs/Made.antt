@@ -5,7 +5,7 @@ use Rattle.common.specs.Each.{All}
 use Rattle.common.specs.All.{all_append, all_map}
 use Rattle.seed_rules.specs.declared.CandidateSeed.{CandidateSeed}
 use Rattle.seed_rules.proofs.MergeLaws.{keep_append, keep_none, keep_whole}
-use Rattle.score_outcome.specs.declared.Outcome.{Outcome}
+use Rattle.score_outcome.specs.Reasons.{Outcome}
 use Rattle.score_best.specs.declared.Candidate.{Candidate}
 use Rattle.score_best.specs.Best.{chosen}
 use Rattle.book.specs.Book.{Inputs, Entry, Book, entries, round_best_of, run_best_of, or_else, list_around, opened, with_waiting, with_entry, with_round, with_end}

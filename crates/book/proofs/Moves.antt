@@ -1,35 +1,36 @@
 -- What a call does to the plain book: nothing, or Next hands out a seed, or Answer enters an outcome; and what holds of every book that follows by calls, from what
 -- these two keep. Every fact about every list of calls rests on this. Assumes nothing.
-use Rattle.std.proofs.Common.{ℕ, zero, suc, ◌-◌, ◌≤◌, ◌≡◌, refl, sym, ◌∙◌, ◌⊎◌, inl, inr, true, false, not, ◌&&◌, cond, List, [], ◌∷◌, ◌++◌, append_assoc, append-nil, ltb, eqb, length, Float}
+use Rattle.std.proofs.Common.{ℕ, zero, suc, ◌-◌, ◌≡◌, refl, sym, ◌∙◌, ◌⊎◌, inl, inr, true, false, not, ◌&&◌, cond, List, [], ◌∷◌, ◌++◌, append_assoc, append-nil, ltb, length, Float, Result, Ok, Err}
+use Rattle.std.specs.Prelude.{⊤}
+use Rattle.common.specs.declared.Refusal.{Refusal}
 use Rattle.common.specs.Tests.{case}
 use Rattle.camera_tilt.specs.declared.sensor.ScheimpflugParams.{ScheimpflugParams}
 use Rattle.seed_rules.specs.declared.CandidateSeed.{CandidateSeed}
 use Rattle.score_outcome.specs.declared.Finding.{Finding}
-use Rattle.score_outcome.specs.declared.Outcome.{Outcome}
-use Rattle.score_outcome.specs.declared.Outcome.TheVariants.{Skipped, Scored}
+use Rattle.score_outcome.specs.Reasons.{Outcome}
 use Rattle.score_outcome.specs.Evaluation.{outcome_of, finding_refusal}
 use Rattle.score_outcome.specs.Facts.{ScoredFacts}
-use Rattle.score_outcome.proofs.Facts.{scored_facts, skipped_reason}
+use Rattle.score_outcome.proofs.Facts.{scored_facts}
 use Rattle.score_best.specs.declared.Candidate.{Candidate}
 use Rattle.score_best.specs.Best.{nothing, chosen}
 use Rattle.book.specs.Calls.{Call, next, seed, answer, ask, progress, stop, last, counts}
 use Rattle.book.specs.Book.{Inputs, demand, Entry, Book, entries, number, current, round_best_of, run_best_of, or_else, list_around, with_waiting, with_entry, with_round, with_end, close_round, book_enter, book_outcome, Kept, book_next, book_seed, book_answer, book_result, book_progress, book_stop, book_call, after, book_last, book_counts}
-use Rattle.book.proofs.Cases.{case_chosen, case_list, case_outcome}
+use Rattle.book.proofs.Cases.{case_chosen, case_list, case_result}
 
 -- the waiting candidate's entry
 abbrev pub entry : Book → Outcome → Entry
 entry b o = record { number = number b; round = b.round; seed = current b; outcome = o }
 
--- ---- what may be entered, of a seed with the tilts t: a reason from 1 to 4, or a scoring with what holds of every scored finding
+-- ---- what may be entered, of a seed with the tilts t: any reason, or a scoring with what holds of every scored finding
 abbrev pub Stands : Inputs → ScheimpflugParams → Outcome → Type 0
-Stands i t (Skipped n) = (1 ≤ n) × (n ≤ 4)
-Stands i t (Scored s) = ScoredFacts t i.center s
+Stands i t (Ok s) = ScoredFacts t i.center s
+Stands i t (Err reason) = Unit {0}
 
 pub outcome_stands : (i : Inputs) (f : Finding) (t : ScheimpflugParams) (rows : List Float) (flags : List ℕ) → Stands i t (outcome_of i.share f t i.center rows flags)
 outcome_stands i f t rows flags =
-    case_outcome (outcome_of i.share f t i.center rows flags)
-    (λ n e. rw e (skipped_reason i.share f t i.center rows flags n e))
+    case_result (outcome_of i.share f t i.center rows flags)
     (λ g e. rw e (scored_facts i.share f t i.center rows flags g e))
+    (λ reason e. rw e tt)
 
 -- ---- the end of a round, k further ones asked for: what holds before it, P, gives what holds of the book after it, Q
 pub record Closing (P : ℕ → Book → Type 0) (Q : Book → Type 0) : Type 0 where
@@ -89,11 +90,15 @@ await_holds b = (refl, refl)
 
 -- ---- a call
 -- what it enters
+abbrev pub entered_for : Result ⊤ Refusal → Entry → List Entry
+entered_for (Ok nothing_refused) e = e ∷ []
+entered_for (Err refusal) e = []
+
 unfoldable pub entered_by : Book → Call → List Entry
 entered_by b (next n) = []
 entered_by b (seed n) = []
 entered_by b (answer n f rows flags) =
-    cond (b.waits && (not (ltb n (demand b.inputs)) && eqb (finding_refusal f (current b).sensor rows flags) 0)) (entry b (book_outcome b f rows flags) ∷ []) []
+    cond (b.waits && not (ltb n (demand b.inputs))) (entered_for (finding_refusal f (current b).sensor rows flags) (entry b (book_outcome b f rows flags))) []
 entered_by b ask = []
 entered_by b progress = []
 entered_by b (stop n) = []
@@ -118,9 +123,9 @@ moves b (answer n f rows flags) =
     case b.waits
     (λ w. case (ltb n (demand b.inputs))
     (λ s. simp (w, s) (stays refl (simp (w, s))))
-    (λ s. case (eqb (finding_refusal f (current b).sensor rows flags) 0)
-    (λ z. simp (w, s, z) (enters (book_outcome b f rows flags) w (outcome_stands b.inputs f (current b).sensor rows flags) refl (simp (w, s, z))))
-    (λ z. simp (w, s, z) (stays refl (simp (w, s, z))))))
+    (λ s. case_result (finding_refusal f (current b).sensor rows flags)
+    (λ u z. simp (w, s, z) (enters (book_outcome b f rows flags) w (outcome_stands b.inputs f (current b).sensor rows flags) refl (simp (w, s, z))))
+    (λ u z. simp (w, s, z) (stays refl (simp (w, s, z))))))
     (λ w. simp w (stays refl (simp w)))
 moves b ask = case b.over (λ o. case_chosen (run_best_of b) (λ e. simp (o, e) (stays refl refl)) (λ v e. simp (o, e) (stays refl refl))) (λ o. simp o (stays refl refl))
 moves b progress = stays refl refl

@@ -1,5 +1,5 @@
 -- An accepted Start opens the book: the run, the list that it wrote, and what holds of them. Assumes nothing.
-use Rattle.std.proofs.Common.{ℕ, ◌+◌, ◌*◌, ◌/◌, ◌≤◌, ◌<◌, mul-le-mul, arith, ◌≡◌, refl, sym, ◌∙◌, inl, ⊎_elim, Bool, true, false, ◌&&◌, cond, true≢false, List, [], ◌∷◌, ltb-true, ltb-false, ltb, eqb, length, Float}
+use Rattle.std.proofs.Common.{ℕ, ◌+◌, ◌*◌, ◌/◌, ◌≤◌, ◌<◌, mul-le-mul, arith, ◌≡◌, refl, sym, ◌∙◌, inl, ⊎_elim, Bool, true, false, ◌&&◌, cond, true≢false, List, [], ◌∷◌, ltb-true, ltb-false, ltb, eqb, length, Float, Ok}
 use Rattle.std.specs.Float.Ieee.{eq}
 use mathlib.Core.List.Memᴰ
 use mathlib.Core.List.{Memᴰ}
@@ -17,7 +17,6 @@ use Rattle.seed_rules.specs.LayoutLaws.{read_length}
 use Rattle.seed_rules.proofs.Facts.{initial_all}
 use Rattle.score_best.specs.Best.{best_of, first_unbeaten}
 use Rattle.search_record.specs.declared.run.Run.{Run}
-use Rattle.search_start.specs.declared.Started.TheVariants.{Accepted}
 use Rattle.search_start.specs.Start.{positive, good_seed, only_zero, untilted_seed, demand_of, opening_of, start_checks}
 use Rattle.search_start.specs.StartLaws.{Passed, start_passed}
 use Rattle.journal_line.specs.Counts.{count_in}
@@ -83,7 +82,7 @@ only_zeros ys h y m =
     (λ n. absurd (Memᴰ.not-nil n))
     (Memᴰ.cases_cons (rw z.1 at m))
 
-module _ (i : Inputs) (l : List Float) (z : refusal i l ≡ 0) where
+module _ (i : Inputs) (l : List Float) (z : refusal i l ≡ Ok tt) where
   abbrev D : ℕ
   D = length i.decomposition / 6
 
@@ -176,7 +175,7 @@ pub record Opens (i : Inputs) (l : List Float) (r : Run) : Type 0 where
   pub run_is : r ≡ run_of (opened i)
   pub state : State i (opened i) (started_list i l)
 
-pub opens : (i : Inputs) (l : List Float) (r : Run) → start_of i l ≡ Accepted r → Opens i l r
+pub opens : (i : Inputs) (l : List Float) (r : Run) → start_of i l ≡ Ok r → Opens i l r
 opens i l r h =
     let a = accepted i l r h in
     record { run_is = sym a.1 ∙ same i; state = rw (list_is i l a.0) (opened_state i l a.0) }

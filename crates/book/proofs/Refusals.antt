@@ -1,10 +1,12 @@
--- Start refuses just where one of 01's or 02's conditions holds, with the first one's number. Assumes nothing.
-use Rattle.std.proofs.Common.{ℕ, ◌/◌, ◌%◌, ◌<◌, arith, ◌≡◌, refl, sym, ◌∙◌, ◌⊎◌, inl, inr, ⊎_elim, Bool, true, false, not, ◌&&◌, ◌||◌, true≢false, List, [], ◌∷◌, ltb-true, ltb-false, eqb-true, ne_eqb, ltb, eqb, length, Float}
+-- Start refuses just where one of 01's or 02's conditions holds, for the first one. Assumes nothing.
+use Rattle.std.proofs.Common.{ℕ, ◌/◌, ◌%◌, ◌<◌, arith, ◌≡◌, refl, sym, ap, ◌∙◌, ◌⊎◌, inl, inr, ⊎_elim, Bool, true, false, not, ◌&&◌, ◌||◌, true≢false, List, [], ◌∷◌, ltb-true, ltb-false, eqb-true, ne_eqb, ltb, eqb, length, Float, Ok, Err}
 use Rattle.std.specs.Float.Ieee.{neg, lt, le, eq}
 use borrow.Author.Tests.{eqb-false}
 use lib.Dec.{eqb-suc-zero}
 use Rattle.common.specs.Each.{every}
-use Rattle.common.specs.Refusal.{Check, ◌when◌, first_refusal}
+use Rattle.common.specs.Checks.{Check, ◌when◌, first_refusal}
+use Rattle.common.specs.declared.Refusal.{Refusal}
+use Rattle.common.specs.declared.Refusal.TheVariants as refusal
 use Rattle.float.specs.Float.{is_finite}
 use Rattle.float.specs.Literals.{plus_zero, half₆₄}
 use Rattle.seed_rules.specs.declared.CandidateSeed.{CandidateSeed}
@@ -69,37 +71,35 @@ abbrev Decide : List Check → List Condition → Type 0
 Decide [] [] = Unit {0}
 Decide [] (c ∷ cs) = ⊥
 Decide (t ∷ ts) [] = ⊥
-Decide ((n when c) ∷ ts) ((m provided C) ∷ cs) = (n ≡ m) × (0 < n) × Decides c C × Decide ts cs
+Decide ((r when c) ∷ ts) ((s provided C) ∷ cs) = (r ≡ s) × Decides c C × Decide ts cs
 
-pub first_holds : (ts : List Check) (cs : List Condition) → Decide ts cs → (n : ℕ) → first_refusal ts ≡ n → 0 < n → FirstHolds cs n
-first_holds [] [] d n e h = let k : ◌≡◌ {A = ℕ} 0 n = e in omega arith
-first_holds [] (c ∷ cs) d n e h = absurd d
-first_holds (t ∷ ts) [] d n e h = absurd d
-first_holds ((m when true) ∷ ts) ((k provided C) ∷ cs) d n e h = inl (d.2.holds refl, sym e ∙ d.0)
-first_holds ((m when false) ∷ ts) ((k provided C) ∷ cs) d n e h = inr (d.2.fails refl, first_holds ts cs d.3 n e h)
+pub first_holds : (ts : List Check) (cs : List Condition) → Decide ts cs → (r : Refusal) → first_refusal ts ≡ Err r → FirstHolds cs r
+first_holds [] [] d r e = cc
+first_holds [] (c ∷ cs) d r e = absurd d
+first_holds (t ∷ ts) [] d r e = absurd d
+first_holds ((s when true) ∷ ts) ((q provided C) ∷ cs) d r e = let k : s ≡ r = cc in inl (d.1.holds refl, sym k ∙ d.0)
+first_holds ((s when false) ∷ ts) ((q provided C) ∷ cs) d r e = inr (d.1.fails refl, first_holds ts cs d.2 r e)
 
-pub first_returned : (ts : List Check) (cs : List Condition) → Decide ts cs → (n : ℕ) → FirstHolds cs n → (first_refusal ts ≡ n) × (0 < n)
-first_returned [] [] d n h = absurd h
-first_returned [] (c ∷ cs) d n h = absurd d
-first_returned (t ∷ ts) [] d n h = absurd d
-first_returned ((m when true) ∷ ts) ((k provided C) ∷ cs) d n h =
-    ⊎_elim (λ p. (d.0 ∙ sym p.1, let q = d.1 in let r : n ≡ m = p.1 ∙ sym d.0 in omega arith)) (λ p. absurd (p.0 (d.2.holds refl))) h
-first_returned ((m when false) ∷ ts) ((k provided C) ∷ cs) d n h =
-    ⊎_elim (λ p. absurd (d.2.fails refl p.0)) (λ p. first_returned ts cs d.3 n p.1) h
+pub first_returned : (ts : List Check) (cs : List Condition) → Decide ts cs → (r : Refusal) → FirstHolds cs r → first_refusal ts ≡ Err r
+first_returned [] [] d r h = absurd h
+first_returned [] (c ∷ cs) d r h = absurd d
+first_returned (t ∷ ts) [] d r h = absurd d
+first_returned ((s when true) ∷ ts) ((q provided C) ∷ cs) d r h = ⊎_elim (λ p. ap Err (d.0 ∙ sym p.1)) (λ p. absurd (p.0 (d.1.holds refl))) h
+first_returned ((s when false) ∷ ts) ((q provided C) ∷ cs) d r h = ⊎_elim (λ p. absurd (d.1.fails refl p.0)) (λ p. first_returned ts cs d.2 r p.1) h
 
-pub none_returned : (ts : List Check) (cs : List Condition) → Decide ts cs → NoneHolds cs → first_refusal ts ≡ 0
+pub none_returned : (ts : List Check) (cs : List Condition) → Decide ts cs → NoneHolds cs → first_refusal ts ≡ Ok tt
 none_returned [] [] d h = refl
 none_returned [] (c ∷ cs) d h = absurd d
 none_returned (t ∷ ts) [] d h = absurd d
-none_returned ((m when true) ∷ ts) ((k provided C) ∷ cs) d h = absurd (h.0 (d.2.holds refl))
-none_returned ((m when false) ∷ ts) ((k provided C) ∷ cs) d h = none_returned ts cs d.3 h.1
+none_returned ((s when true) ∷ ts) ((q provided C) ∷ cs) d h = absurd (h.0 (d.1.holds refl))
+none_returned ((s when false) ∷ ts) ((q provided C) ∷ cs) d h = none_returned ts cs d.2 h.1
 
-pub none_hold : (ts : List Check) (cs : List Condition) → Decide ts cs → first_refusal ts ≡ 0 → NoneHolds cs
+pub none_hold : (ts : List Check) (cs : List Condition) → Decide ts cs → first_refusal ts ≡ Ok tt → NoneHolds cs
 none_hold [] [] d e = tt
 none_hold [] (c ∷ cs) d e = absurd d
 none_hold (t ∷ ts) [] d e = absurd d
-none_hold ((m when true) ∷ ts) ((k provided C) ∷ cs) d e = let p = d.1 in absurd (omega arith)
-none_hold ((m when false) ∷ ts) ((k provided C) ∷ cs) d e = (d.2.fails refl, none_hold ts cs d.3 e)
+none_hold ((s when true) ∷ ts) ((q provided C) ∷ cs) d e = cc
+none_hold ((s when false) ∷ ts) ((q provided C) ∷ cs) d e = (d.1.fails refl, none_hold ts cs d.2 e)
 
 -- ---- Start's tests
 not_positive : (x : Float) → Decides (not (positive x)) (NotPositive x)
@@ -160,18 +160,16 @@ above_all share = below 100 share
 
 options_decided : (i : Inputs)
     → Decide
-    ((31 when (i.one_axis && not (only_zero i.ys))) ∷ (32 when (i.one_axis && not (every untilted_seed (all_seeds i.decomposition)))) ∷ (33 when ltb 100 i.share) ∷ [])
-    ((31 provided ((i.one_axis ≡ true) × (OnlyZero i.ys → ⊥))) ∷ (32 provided ((i.one_axis ≡ true) × Some TiltedY (all_seeds i.decomposition))) ∷ (33 provided (AboveAll i.share)) ∷ [])
+    ((refusal.TwoAxes when (i.one_axis && not (only_zero i.ys))) ∷ (refusal.TiltedSeed when (i.one_axis && not (every untilted_seed (all_seeds i.decomposition)))) ∷ (refusal.ShareAboveAll when ltb 100 i.share) ∷ [])
+    ((refusal.TwoAxes provided ((i.one_axis ≡ true) × (OnlyZero i.ys → ⊥))) ∷ (refusal.TiltedSeed provided ((i.one_axis ≡ true) × Some TiltedY (all_seeds i.decomposition))) ∷ (refusal.ShareAboveAll provided (AboveAll i.share)) ∷ [])
 options_decided i =
     let axis = holds_of i.one_axis in (
       refl,
-      omega arith,
       both i.one_axis (not (only_zero i.ys)) axis (denied (only_zero i.ys) (only_zero_lem i.ys)),
       (
         refl,
-        omega arith,
         both i.one_axis (not (every untilted_seed (all_seeds i.decomposition))) axis (some_fails untilted_seed TiltedY tilted (all_seeds i.decomposition)),
-        (refl, omega arith, above_all i.share, tt),
+        (refl, above_all i.share, tt),
       ),
     )
 
@@ -179,33 +177,26 @@ pub start_decided : (i : Inputs) (n : ℕ) → Decide (start_checks i.views (opt
 start_decided i n =
     ((
       refl,
-      omega arith,
       below i.views 3,
       (
         refl,
-        omega arith,
         either (eqb (length i.xs) 0) (eqb (length i.ys) 0) (no_element i.xs) (no_element i.ys),
         (
           refl,
-          omega arith,
           not_positive i.max,
           (
             refl,
-            omega arith,
             both (ltb 0 i.rounds) (not (positive i.step)) (below 0 i.rounds) (not_positive i.step),
             (
               refl,
-              omega arith,
               too_many_lem (length i.xs) (length i.ys) (length i.decomposition) i.rounds,
               (
                 refl,
-                omega arith,
                 some_fails (good_seed i.max) (BadSeed i.max) (bad_seed i.max) (all_seeds i.decomposition),
                 (
                   refl,
-                  omega arith,
                   not_both (every is_finite i.xs) (every is_finite i.ys) (some_fails is_finite NotFinite (λ x. fails_of (is_finite x)) i.xs) (some_fails is_finite NotFinite (λ x. fails_of (is_finite x)) i.ys),
-                  (refl, omega arith, n_below i n, (refl, omega arith, above_half i.max, options_decided i)),
+                  (refl, n_below i n, (refl, above_half i.max, options_decided i)),
                 ),
               ),
             ),

@@ -145,7 +145,7 @@ module _ (i : Inputs) (b : Book) (g : Good i b) where
         le-leb b.inputs.share 100 z.small_share,
         le-leb b.inputs.rounds 16 z.few_rounds,
         le-leb b.round b.inputs.rounds h.in_rounds,
-        add_up_true (tally (entries b)) (number b) count_bound (tally_total b.inputs (entries b) h.proper),
+        add_up_true (tally (entries b)) (number b) count_bound (tally_total (entries b)),
         le-leb (length b.list) 512 (omega arith),
         le-leb (6 * length b.list) (demand b.inputs) q,
         le-leb 54 (demand b.inputs) z.least,

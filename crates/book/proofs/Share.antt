@@ -1,12 +1,11 @@
 -- 02, E11: whoever was scored after some calls was scored by one of them, and then the mean rests on the share, or stood in the book before. Assumes nothing.
-use Rattle.std.proofs.Common.{ℕ, ◌≡◌, refl, ap, ◌∙◌, ◌⊎◌, inl, inr, ⊎_elim, true, List, [], ◌∷◌, ltb, eqb, Float}
+use Rattle.std.proofs.Common.{ℕ, ◌≡◌, refl, ap, ◌∙◌, ◌⊎◌, inl, inr, ⊎_elim, true, List, [], ◌∷◌, ltb, Float, Ok, Err}
 use mathlib.Core.List.{Memᴰ}
 use Rattle.common.specs.Tests.{case}
 use Rattle.score_camera.specs.declared.pinhole.PinholeCamera.{PinholeCamera}
 use Rattle.score_outcome.specs.declared.Finding.{Finding}
 use Rattle.score_outcome.specs.declared.Finding.TheVariants.{Failed, Solved}
-use Rattle.score_outcome.specs.declared.Outcome.{Outcome}
-use Rattle.score_outcome.specs.declared.Outcome.TheVariants.{Skipped, Scored}
+use Rattle.score_outcome.specs.Reasons.{Outcome}
 use Rattle.score_outcome.specs.Evaluation.{solved_at, evaluated, outcome_of, finding_refusal}
 use Rattle.score_outcome.specs.Share.{RestsOn}
 use Rattle.score_outcome.proofs.Share.{scored_rests}
@@ -18,6 +17,7 @@ use Rattle.book.specs.Book.{Inputs, demand, Entry, Book, entries, number, curren
 use Rattle.book.specs.Walk.{run_call}
 use Rattle.book.specs.Trace.{run_after, list_after}
 use Rattle.book.specs.Share.{AnsweredBy, Rests}
+use Rattle.book.proofs.Cases.{case_result}
 use Rattle.book.proofs.Moves.{entry, entered_by, grows, call_by}
 use Rattle.book.proofs.Good.{steps}
 use Rattle.book.proofs.RunOf.{run_of, State, run-fields}
@@ -39,8 +39,8 @@ module _ (b : Book) (n : ℕ) (rows : List Float) (flags : List ℕ) (w : Candid
   own_scored : (c : PinholeCamera) (o : Outcome) → evaluated b.inputs.share (solved_at c (current b).sensor) (current b).sensor b.inputs.center rows flags ≡ o
       → b.waits ≡ true → (book_answer b n (Solved c) rows flags).reply ≡ reply_to o → Memᴰ w (scored_of (entry b o ∷ [])) → Own (Solved c)
   unfolding scored_of
-  own_scored c (Skipped r) e v q m = absurd (mathlib.Core.List.Memᴰ.not-nil m)
-  own_scored c (Scored s) e v q m =
+  own_scored c (Err reason) e v q m = absurd (mathlib.Core.List.Memᴰ.not-nil m)
+  own_scored c (Ok s) e v q m =
       let is : w ≡ candidate_of (number b) (current b).sensor s = ⊎_elim (λ h. h) (λ h. absurd (mathlib.Core.List.Memᴰ.not-nil h)) (mathlib.Core.List.Memᴰ.cases_cons m) in
       rw is (record {
         camera = c;
@@ -65,9 +65,9 @@ module _ (b : Book) (n : ℕ) (rows : List Float) (flags : List ℕ) (w : Candid
       case b.waits
       (λ v. case (ltb n (demand b.inputs))
       (λ s. absurd (mathlib.Core.List.Memᴰ.not-nil (simp (v, s, scored_of) at m)))
-      (λ s. case (eqb (finding_refusal f (current b).sensor rows flags) 0)
-      (λ z. own_entered f v (simp (v, s, z)) (simp (v, s, z) at m))
-      (λ z. absurd (mathlib.Core.List.Memᴰ.not-nil (simp (v, s, z, scored_of) at m)))))
+      (λ s. case_result (finding_refusal f (current b).sensor rows flags)
+      (λ u z. own_entered f v (simp (v, s, z)) (simp (v, s, z) at m))
+      (λ r z. absurd (mathlib.Core.List.Memᴰ.not-nil (simp (v, s, z, scored_of) at m)))))
       (λ v. absurd (mathlib.Core.List.Memᴰ.not-nil (simp (v, scored_of) at m)))
 
 -- ---- of one call, beside the run

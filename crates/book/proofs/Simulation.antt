@@ -1,6 +1,9 @@
 -- Each call replies as the book does and keeps the run a function of the book. Assumes nothing.
-use Rattle.std.proofs.Common.{ℕ, zero, suc, ◌+◌, ◌-◌, ◌*◌, ◌≤◌, ◌<◌, add-one, arith, ◌≡◌, refl, sym, ap, ◌∙◌, true, false, cond, List, [], ◌∷◌, ◌++◌, append_assoc, append-nil, ltb-true, ltb-false, le-leb, ne_eqb, ltb, eqb, length, take, drop, length-append, take-append-drop, drop-cons, Float}
+use Rattle.std.proofs.Common.{ℕ, zero, suc, ◌+◌, ◌-◌, ◌*◌, ◌≤◌, ◌<◌, add-one, arith, ◌≡◌, refl, sym, ap, ◌∙◌, true, false, cond, List, [], ◌∷◌, ◌++◌, append_assoc, append-nil, ltb-true, ltb-false, le-leb, ltb, eqb, length, take, drop, length-append, take-append-drop, drop-cons, Float, Result, Ok, Err}
 use mathlib.Core.Option.{Option, none, some}
+use Rattle.std.specs.Prelude.{Some, None, ⊤}
+use Rattle.common.specs.declared.Refusal.{Refusal}
+use Rattle.common.specs.declared.Refusal.TheVariants.{SeedWaits, ShortList, NothingScored, NoSeedWaits, NotOver}
 use borrow.Author.Tests.{lt-leb}
 use lib.Dec.{eqb-suc-zero}
 use Rattle.common.specs.Tests.{case}
@@ -10,8 +13,8 @@ use Rattle.float.specs.Literals.{half₆₄}
 use Rattle.seed_rules.specs.declared.CandidateSeed.{CandidateSeed}
 use Rattle.seed_rules.specs.Layout.{six, seed_at, written}
 use Rattle.score_outcome.specs.declared.Finding.{Finding}
-use Rattle.score_outcome.specs.declared.Outcome.{Outcome}
-use Rattle.score_outcome.specs.declared.Outcome.TheVariants.{Skipped, Scored}
+use Rattle.score_outcome.specs.Reasons.{Outcome}
+use Rattle.score_outcome.specs.declared.SkipReason.TheVariants.{HostFailed, BadCamera, NoMean, NoNumber}
 use Rattle.score_outcome.specs.Evaluation.{finding_refusal}
 use Rattle.score_best.specs.declared.Candidate.{Candidate}
 use Rattle.score_best.specs.declared.Best.{Best}
@@ -26,22 +29,21 @@ use Rattle.search_record.specs.declared.run.Waiting.{Waiting}
 use Rattle.search_record.specs.Record as rec
 use Rattle.search_calls.specs.Next.{next_def, seed_lent, seed_part}
 use Rattle.search_answer.specs.Answer as ans
+use Rattle.search_answer.specs.AnswerLaws.{answer_refused, answer_enters}
 use Rattle.search_calls.specs.Result.{result_def}
 use Rattle.search_calls.specs.Progress.{progress_def}
-use Rattle.search_calls.specs.declared.stop.Stopped.TheVariants.{Standing, Refused}
 use Rattle.score_floor.specs.Floor.{seeds_between}
 use Rattle.search_calls.specs.Stop.{left_seeds, best_so_far, outlook_of, stop_def}
 use Rattle.book.specs.Calls.{Call, next, seed, answer, ask, progress, stop, Reply, over, part, result, bar, stopped, refused, last, counts, counted}
-use Rattle.book.specs.Book.{Inputs, demand, Entry, Book, entries, number, no_seed, current, scored_of, round_best_of, run_best_of, or_else, step_of, list_around, with_waiting, with_entry, with_round, with_end, close_round, book_enter, book_outcome, Kept, kept, book_next, book_seed, reply_to, book_answer, book_result, book_progress, left_in, rest_of, rest_in, book_stop, book_call, line_of, last_of, book_last, tally, book_counts}
+use Rattle.book.specs.Book.{Inputs, demand, Entry, Book, entries, number, no_seed, current, scored_of, round_best_of, run_best_of, or_else, step_of, list_around, with_waiting, with_entry, with_round, with_end, close_round, book_enter, book_outcome, Kept, kept, unless, book_next, book_seed, reply_to, book_answer, book_result, book_progress, left_in, rest_of, rest_in, book_stop, book_call, line_of, last_of, book_last, tally, book_counts}
 use Rattle.book.specs.Walk.{Step, run_call, answered_reply, stopped_reply, last_reply}
-use Rattle.book.proofs.Cases.{case_chosen, case_list, case_outcome, case_option}
+use Rattle.book.proofs.Cases.{case_chosen, case_list, case_result, case_option}
 use Rattle.book.proofs.Moves.{entry, Stands}
 use Rattle.book.proofs.Seeds.{nine}
 use Rattle.book.proofs.Good.{Proper, Good, waits_going, at_most}
 use Rattle.book.proofs.Tally.{tally_snoc}
 use Rattle.book.proofs.RunOf.{run_of, State, run_waiting, run_round_best, run_run_best, run_max, run_one_axis, run-fields, run-bests, sound_run, last_in, run_last}
 use Rattle.book.proofs.Lists.{seed_at_lem, part_at, seeds_there, Front, lend, give_back, write_front, no_front, short}
-use Rattle.search_calls.specs.declared.last.LastLine.TheVariants as lastline
 use Rattle.search_calls.specs.Last.{has_line, recorded_in, last_def}
 use Rattle.search_calls.specs.Counts.{counts_def}
 
@@ -75,15 +77,15 @@ unfolding run_call next_def book_next
 next_agrees i b l n f =
     let d = short (demand b.inputs) l n f.there.long in
     let t = sound_run i b f.good in
-    case b.waits (λ w. simp (run-fields, t, w) (unmoved b l f.there (refused 9))) (λ w.
-    case (ltb n (demand b.inputs)) (λ s. simp (run-fields, t, w, d, s) (unmoved b l f.there (refused 10))) (λ s.
+    case b.waits (λ w. simp (next_def, unless, run-fields, t, w) (unmoved b l f.there (refused SeedWaits))) (λ w.
+    case (ltb n (demand b.inputs)) (λ s. simp (next_def, unless, run-fields, t, w, d, s) (unmoved b l f.there (refused ShortList))) (λ s.
     case b.over
     (λ o. case_chosen (run_best_of b)
-    (λ e. simp (run-fields, run-bests, t, w, d, s, o, e) (unmoved b l f.there (refused 11)))
-    (λ v e. simp (run-fields, run-bests, t, w, d, s, o, e) (unmoved b l f.there over)))
+    (λ e. simp (next_def, unless, run-fields, run-bests, t, w, d, s, o, e) (unmoved b l f.there (refused NothingScored)))
+    (λ v e. simp (next_def, unless, run-fields, run-bests, t, w, d, s, o, e) (unmoved b l f.there over)))
     (λ o.
     let g = lend (demand b.inputs) b.list l n f.there (ltb-false n (demand b.inputs) s) in
-    simp (run-fields, t, w, d, s, o, in_list b (take n l) g (f.good.room o), await_run b)
+    simp (next_def, unless, run-fields, t, w, d, s, o, in_list b (take n l) g (f.good.room o), await_run b)
     (record { reply = refl; run = refl; there = await_there b l f.there }))))
 
 -- ---- the seed call
@@ -109,8 +111,8 @@ unfolding run_call result_def book_result
 result_agrees i b l f =
     let t = sound_run i b f.good in
     case b.over
-    (λ o. case_chosen (run_best_of b) (λ e. simp (run-fields, run-bests, t, o, e) (unmoved b l f.there (refused 11))) (λ v e. simp (run-fields, run-bests, t, o, e) (unmoved b l f.there (result v))))
-    (λ o. simp (run-fields, t, o) (unmoved b l f.there (refused 14)))
+    (λ o. case_chosen (run_best_of b) (λ e. simp (result_def, unless, run-fields, run-bests, t, o, e) (unmoved b l f.there (refused NothingScored))) (λ v e. simp (result_def, unless, run-fields, run-bests, t, o, e) (unmoved b l f.there (result v))))
+    (λ o. simp (result_def, unless, run-fields, t, o) (unmoved b l f.there (refused NotOver)))
 
 -- ---- the progress call
 pub progress_is : (i : Inputs) (b : Book) → Good i b
@@ -141,18 +143,18 @@ best_is : (b : Book) → best_so_far (run_of b) ≡ held (run_best_of b)
 unfolding best_so_far
 best_is b = case_chosen (run_best_of b) (λ e. simp (run-bests, e)) (λ w e. simp (run-bests, e))
 
-outlook_read : (c : Chosen) (ss : List CandidateSeed) → stopped_reply (Standing (outlook_of (held c) ss)) ≡ stopped c (rest_of ss c)
+outlook_read : (c : Chosen) (ss : List CandidateSeed) → stopped_reply (Ok (outlook_of (held c) ss)) ≡ stopped c (rest_of ss c)
 unfolding outlook_of rest_of no_best
 outlook_read nothing [] = refl
 outlook_read nothing (s ∷ ss) = refl
 outlook_read (chosen w) [] = refl
 outlook_read (chosen w) (s ∷ ss) = refl
 
-rest_read : (b : Book) → stopped_reply (Standing (outlook_of (held (run_best_of b)) (left_in b))) ≡ stopped (run_best_of b) (rest_in b)
+rest_read : (b : Book) → stopped_reply (Ok (outlook_of (held (run_best_of b)) (left_in b))) ≡ stopped (run_best_of b) (rest_in b)
 rest_read b = outlook_read (run_best_of b) (left_in b)
 
 pub stop_is : (i : Inputs) (b : Book) (l : List Float) (n : ℕ) → State i b l
-    → stop_def (run_of b) (take n l) ≡ cond (ltb n (demand b.inputs)) (Refused 10) (Standing (outlook_of (held (run_best_of b)) (left_in b)))
+    → stop_def (run_of b) (take n l) ≡ cond (ltb n (demand b.inputs)) (Err ShortList) (Ok (outlook_of (held (run_best_of b)) (left_in b)))
 unfolding stop_def
 stop_is i b l n f =
     let d = short (demand b.inputs) l n f.there.long in
@@ -167,8 +169,8 @@ stop_agrees : (i : Inputs) (b : Book) (l : List Float) (n : ℕ) → State i b l
 unfolding run_call book_stop
 stop_agrees i b l n f =
     case (ltb n (demand b.inputs))
-    (λ s. simp (stop_is i b l n f, s) (unmoved b l f.there (refused 10)))
-    (λ s. simp (stop_is i b l n f, s, rest_read b) (unmoved b l f.there (stopped (run_best_of b) (rest_in b))))
+    (λ s. simp (unless, stop_is i b l n f, s) (unmoved b l f.there (refused ShortList)))
+    (λ s. simp (unless, stop_is i b l n f, s, rest_read b) (unmoved b l f.there (stopped (run_best_of b) (rest_in b))))
 
 -- ---- the last answered candidate's line
 abbrev OnLast : (Entry → Type 0) → Option Entry → Type 0
@@ -180,14 +182,17 @@ unfolding last_of
 last_all P [] h = tt
 last_all P (d ∷ es) h = case_option (last_of es) (λ n. simp (last_of, n) h.0) (λ e n. let ih = last_all P es h.1 in simp (last_of, n) (rw n at ih))
 
--- it was scored, or skipped for a reason from 1 to 4
+-- it was scored, or skipped for a reason
 line_is : (i : Inputs) (n r : ℕ) (s : CandidateSeed) (o : Outcome) → Stands i s.sensor o → (x : Run) → rec.sound x ≡ true → x.last ≡ rec.last_answer n r s (recorded_as o)
-    → last_def x ≡ lastline.Answered (record { number = n; round = r; seed = s; outcome = recorded_as o })
+    → last_def x ≡ Some (record { number = n; round = r; seed = s; outcome = recorded_as o })
 unfolding last_def has_line recorded_in
-line_is i n r s (Skipped k) p x t h = simp (t, h, le-leb k 4 p.1, ne_eqb k 0 (λ e. omega (arith, p.0)))
-line_is i n r s (Scored g) p x t h = simp (t, h)
+line_is i n r s (Ok g) p x t h = simp (t, h)
+line_is i n r s (Err HostFailed) p x t h = simp (t, h)
+line_is i n r s (Err BadCamera) p x t h = simp (t, h)
+line_is i n r s (Err NoMean) p x t h = simp (t, h)
+line_is i n r s (Err NoNumber) p x t h = simp (t, h)
 
-no_line : (x : Run) → x.last ≡ rec.no_answer → last_def x ≡ lastline.Nothing
+no_line : (x : Run) → x.last ≡ rec.no_answer → last_def x ≡ None
 unfolding last_def has_line
 no_line x h = case (rec.sound x) (λ t. simp (h, t)) (λ t. simp (h, t))
 
@@ -195,7 +200,7 @@ no_line x h = case (rec.sound x) (λ t. simp (h, t)) (λ t. simp (h, t))
 pub last_proper : (i : Inputs) (b : Book) (e : Entry) → Good i b → last_of (entries b) ≡ some e → Proper b.inputs e
 last_proper i b e g n = rw n at (last_all (Proper b.inputs) (entries b) g.core.proper)
 
-pub last_line_is : (i : Inputs) (b : Book) (e : Entry) → Good i b → last_of (entries b) ≡ some e → last_def (run_of b) ≡ lastline.Answered (line_of e)
+pub last_line_is : (i : Inputs) (b : Book) (e : Entry) → Good i b → last_of (entries b) ≡ some e → last_def (run_of b) ≡ Some (line_of e)
 last_line_is i b e g n =
     line_is b.inputs e.number e.round e.seed e.outcome (last_proper i b e g n).stands (run_of b) (sound_run i b g) (run_last b ∙ ap last_in n)
 
@@ -323,16 +328,16 @@ pub scored_append : (a b : List Entry) → scored_of (a ++ b) ≡ scored_of a ++
 unfolding scored_of
 scored_append [] b = refl
 scored_append (e ∷ a) b =
-    case_outcome e.outcome
-    (λ n h. simp (scored_of, h, scored_append a b))
+    case_result e.outcome
     (λ s h. simp (scored_of, h, scored_append a b))
+    (λ reason h. simp (scored_of, h, scored_append a b))
 
 -- ---- an outcome is entered
 best_entry : (b : Book) (o : Outcome) (es : List Entry)
     → rec.with_outcome (held (best_of (scored_of es))) (number b) (current b).sensor o ≡ held (best_of (scored_of (es ++ entry b o ∷ [])))
 unfolding scored_of rec.with_outcome
-best_entry b (Skipped n) es = simp (scored_append, append-nil)
-best_entry b (Scored s) es = rw (scored_append es (entry b (Scored s) ∷ [])) (sym (best_snoc (scored_of es) (candidate_of (number b) (current b).sensor s)))
+best_entry b (Err reason) es = simp (scored_append, append-nil)
+best_entry b (Ok s) es = rw (scored_append es (entry b (Ok s) ∷ [])) (sym (best_snoc (scored_of es) (candidate_of (number b) (current b).sensor s)))
 
 -- an entered run, its seed's tilts and its bests given by what they equal
 abbrev entered_with : Run → Best → Best → LastAnswer → Counts → Run
@@ -430,33 +435,48 @@ enter_agrees b o l w f d =
 
 -- ---- Answer
 -- a refused Answer gives its front of the list back unchanged
-refused_agrees : (b : Book) (l : List Float) (n k : ℕ) → There b l → Agrees (record { reply = refused k; run = run_of b; list = take n l ++ drop n l }) (kept (refused k) b)
-refused_agrees b l n k f = record { reply = refl; run = refl; there = rw take-append-drop f }
+refused_agrees : (b : Book) (l : List Float) (n : ℕ) (r : Refusal) → There b l → Agrees (record { reply = refused r; run = run_of b; list = take n l ++ drop n l }) (kept (refused r) b)
+refused_agrees b l n r f = record { reply = refl; run = refl; there = rw take-append-drop f }
 
-reply_is : (o : Outcome) → answered_reply (ans.reply_of o) ≡ reply_to o
-reply_is (Skipped n) = refl
-reply_is (Scored s) = refl
+reply_is : (o : Outcome) → answered_reply (Ok (ans.reply_of o)) ≡ reply_to o
+reply_is (Ok s) = refl
+reply_is (Err reason) = refl
 
-outcome_agrees : (b : Book) (f : Finding) (rows : List Float) (flags : List ℕ) → b.waits ≡ true → ans.outcome_for (run_of b) f rows flags ≡ book_outcome b f rows flags
+pub outcome_agrees : (b : Book) (f : Finding) (rows : List Float) (flags : List ℕ) → b.waits ≡ true → ans.outcome_for (run_of b) f rows flags ≡ book_outcome b f rows flags
 unfolding ans.outcome_for
 outcome_agrees b f rows flags w = simp (run-fields, w)
 
+-- what Answer refuses where a seed waits: a short list, and then what the finding is refused for
+module _ (i : Inputs) (b : Book) (l : List Float) (n : ℕ) (f : Finding) (rows : List Float) (flags : List ℕ) (g : State i b l) where
+  abbrev pub refused_for : Result ⊤ Refusal
+  refused_for = ans.answer_refusal (run_of b) (length (take n l)) f rows flags
+
+  pub when_none_waits : b.waits ≡ false → refused_for ≡ Err NoSeedWaits
+  when_none_waits w = simp (ans.answer_refusal, run-fields, sound_run i b g.good, w)
+
+  pub when_short : b.waits ≡ true → ltb n (demand b.inputs) ≡ true → refused_for ≡ Err ShortList
+  when_short w s = simp (ans.answer_refusal, run-fields, sound_run i b g.good, w, short (demand b.inputs) l n g.there.long, s)
+
+  pub when_long : b.waits ≡ true → ltb n (demand b.inputs) ≡ false → refused_for ≡ finding_refusal f (current b).sensor rows flags
+  when_long w s = simp (ans.answer_refusal, run-fields, sound_run i b g.good, w, short (demand b.inputs) l n g.there.long, s)
+
 answer_agrees : (i : Inputs) (b : Book) (l : List Float) (n : ℕ) (f : Finding) (rows : List Float) (flags : List ℕ) → State i b l
     → Agrees (run_call (run_of b) l (answer n f rows flags)) (book_answer b n f rows flags)
-unfolding run_call ans.answer_def book_answer
+unfolding run_call book_answer
 answer_agrees i b l n f rows flags g =
-    let d = short (demand b.inputs) l n g.there.long in
-    let t = sound_run i b g.good in
+    let m = take n l in
+    let refused_with = λ (e : Refusal) (h : refused_for i b l n f rows flags g ≡ Err e). answer_refused (run_of b) f rows flags m e h in
     case b.waits
     (λ w. case (ltb n (demand b.inputs))
-    (λ s. simp (run-fields, t, w, d, s) (refused_agrees b l n 10 g.there))
-    (λ s. case (eqb (finding_refusal f (current b).sensor rows flags) 0)
-    (λ z.
+    (λ s. simp (refused_with ShortList (when_short i b l n f rows flags g w s), unless, w, s) (refused_agrees b l n ShortList g.there))
+    (λ s. case_result (finding_refusal f (current b).sensor rows flags)
+    (λ u z.
     let o = book_outcome b f rows flags in
-    let e = enter_agrees b o (take n l) w (lend (demand b.inputs) b.list l n g.there (ltb-false n (demand b.inputs) s)) g.good.core.sized.least in
-    simp (outcome_agrees b f rows flags w, run-fields, t, w, d, s, z) (record { reply = reply_is o; run = e.run; there = give_back _ (book_enter b o).list (ans.enter_def (run_of b) (take n l) o).list (drop n l) e.there }))
-    (λ z. simp (run-fields, t, w, d, s, z) (refused_agrees b l n (finding_refusal f (current b).sensor rows flags) g.there))))
-    (λ w. simp (run-fields, t, w) (refused_agrees b l n 12 g.there))
+    let e = enter_agrees b o m w (lend (demand b.inputs) b.list l n g.there (ltb-false n (demand b.inputs) s)) g.good.core.sized.least in
+    let k = answer_enters (run_of b) f rows flags m o (sym (outcome_agrees b f rows flags w)) (when_long i b l n f rows flags g w s ∙ z) in
+    simp (k, unless, w, s, z) (record { reply = reply_is o; run = e.run; there = give_back _ (book_enter b o).list (ans.enter_def (run_of b) m o).list (drop n l) e.there }))
+    (λ r z. simp (refused_with r (when_long i b l n f rows flags g w s ∙ z), unless, w, s, z) (refused_agrees b l n r g.there))))
+    (λ w. simp (refused_with NoSeedWaits (when_none_waits i b l n f rows flags g w), unless, w) (refused_agrees b l n NoSeedWaits g.there))
 
 pub call_agrees : (i : Inputs) (b : Book) (l : List Float) (c : Call) → State i b l → Agrees (run_call (run_of b) l c) (book_call b c)
 unfolding book_call

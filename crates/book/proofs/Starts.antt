@@ -1,59 +1,49 @@
 -- What Start replies and writes: where no refusal holds, and where one does. Assumes nothing.
-use Rattle.std.proofs.Common.{ℕ, zero, suc, ◌<◌, arith, ◌≡◌, refl, sym, ap, ◌∙◌, List, eqb-true, eq-eqb, ne_eqb, eqb, length, Float}
-use borrow.Author.Tests.{eqb-false}
-use Rattle.common.specs.Tests.{case}
+use Rattle.std.proofs.Common.{◌≡◌, sym, ap, ◌∙◌, List, length, Float, Result, Ok, Err}
+use Rattle.std.specs.Prelude.{⊤}
+use Rattle.common.specs.declared.Refusal.{Refusal}
 use Rattle.seed_rules.specs.Layout.{written}
 use Rattle.search_record.specs.declared.run.Run.{Run}
-use Rattle.search_start.specs.declared.Started.TheVariants.{Accepted, Refused}
-use Rattle.search_start.specs.Start.{start_refusal, opening, start_seeds, start_checks, start_reply, start_list}
+use Rattle.search_start.specs.Start.{start_refusal, opening, start_seeds, start_checks}
+use Rattle.search_start.specs.StartLaws.{start_refused, start_accepted}
 use Rattle.book.specs.Book.{Inputs, first_list}
 use Rattle.book.specs.Conditions.{conditions}
 use Rattle.book.specs.Theorem.{options_of, start_of, started_list, Starts}
+use Rattle.book.proofs.Cases.{case_result}
 use Rattle.book.proofs.Refusals.{first_holds, first_returned, none_returned, start_decided}
 
-above_zero : (n : ℕ) → (n ≡ 0 → ⊥) → 0 < n
-above_zero zero f = absurd (f refl)
-above_zero (suc n) f = omega arith
-
 module _ (i : Inputs) (l : List Float) where
-  abbrev pub refusal : ℕ
+  abbrev pub refusal : Result ⊤ Refusal
   refusal = start_refusal i.views (options_of i) i.xs i.ys i.decomposition (length l)
 
   abbrev pub opening_run : Run
   opening_run = opening i.views (options_of i) i.xs i.ys i.decomposition i.base i.center (length (start_seeds i.views (options_of i) i.xs i.ys i.decomposition i.base i.center))
 
   -- ---- the reply by the refusal
-  accepts : refusal ≡ 0 → start_of i l ≡ Accepted opening_run
-  unfolding start_reply
-  accepts z = simp (eq-eqb refusal 0 z)
+  accepts : refusal ≡ Ok tt → start_of i l ≡ Ok opening_run
+  accepts z = (start_accepted i.views (options_of i) i.xs i.ys i.decomposition i.base i.center l z).0
 
-  refuses : 0 < refusal → start_of i l ≡ Refused refusal
-  unfolding start_reply
-  refuses h = simp (ne_eqb refusal 0 (λ e. omega arith))
+  refuses : (r : Refusal) → refusal ≡ Err r → start_of i l ≡ Err r
+  refuses r z = (start_refused i.views (options_of i) i.xs i.ys i.decomposition i.base i.center l r z).0
 
-  pub accepted : (r : Run) → start_of i l ≡ Accepted r → (refusal ≡ 0) × (opening_run ≡ r)
+  pub accepted : (r : Run) → start_of i l ≡ Ok r → (refusal ≡ Ok tt) × (opening_run ≡ r)
   accepted r h =
-      case (eqb refusal 0)
-      (λ z. let e = eqb-true refusal 0 z in let k : Accepted opening_run ≡ Accepted r = sym (accepts e) ∙ h in (e, cc))
-      (λ z. let k : Refused refusal ≡ Accepted r = sym (refuses (above_zero refusal (eqb-false refusal 0 z))) ∙ h in let y : ◌≡◌ {A = ℕ} 0 1 = cc in absurd (omega arith))
+      case_result refusal
+      (λ u z. let k : ◌≡◌ {A = Result Run Refusal} (Ok opening_run) (Ok r) = sym (accepts z) ∙ h in (z, cc))
+      (λ s z. let k : ◌≡◌ {A = Result Run Refusal} (Err s) (Ok r) = sym (refuses s z) ∙ h in cc)
 
-  refused : (n : ℕ) → start_of i l ≡ Refused n → (refusal ≡ n) × (0 < n)
-  refused n h =
-      case (eqb refusal 0)
-      (λ z. let k : Accepted opening_run ≡ Refused n = sym (accepts (eqb-true refusal 0 z)) ∙ h in let y : ◌≡◌ {A = ℕ} 0 1 = cc in absurd (omega arith))
-      (λ z.
-      let p = above_zero refusal (eqb-false refusal 0 z) in
-      let k : Refused refusal ≡ Refused n = sym (refuses p) ∙ h in
-      let e : refusal ≡ n = cc in
-      (e, omega arith))
+  refused : (r : Refusal) → start_of i l ≡ Err r → refusal ≡ Err r
+  refused r h =
+      case_result refusal
+      (λ u z. let k : ◌≡◌ {A = Result Run Refusal} (Ok opening_run) (Err r) = sym (accepts z) ∙ h in cc)
+      (λ s z. let k : ◌≡◌ {A = Result Run Refusal} (Err s) (Err r) = sym (refuses s z) ∙ h in let e : s ≡ r = cc in z ∙ ap Err e)
 
-  pub list_is : refusal ≡ 0 → started_list i l ≡ written (first_list i) l
-  unfolding start_list first_list
-  list_is z = simp (eq-eqb refusal 0 z)
+  pub list_is : refusal ≡ Ok tt → started_list i l ≡ written (first_list i) l
+  unfolding first_list
+  list_is z = (start_accepted i.views (options_of i) i.xs i.ys i.decomposition i.base i.center l z).1
 
-  list_same : 0 < refusal → started_list i l ≡ l
-  unfolding start_list
-  list_same h = simp (ne_eqb refusal 0 (λ e. omega arith))
+  list_same : (r : Refusal) → refusal ≡ Err r → started_list i l ≡ l
+  list_same r z = (start_refused i.views (options_of i) i.xs i.ys i.decomposition i.base i.center l r z).1
 
   pub starts : Starts i l
   starts =
@@ -61,11 +51,8 @@ module _ (i : Inputs) (l : List Float) where
       let ts = start_checks i.views (options_of i) i.xs i.ys i.decomposition (length l) in
       let cs = conditions i (length l) in
       record {
-        refuses_rightly = λ n h. let r = refused n h in first_holds ts cs d n r.0 r.1;
-        refuses_all = λ n h. let r = first_returned ts cs d n h in refuses_with n r.0 r.1;
-        leaves_list = λ n h. let r = refused n h in list_same (let p = r.0 in let q = r.1 in omega arith);
+        refuses_rightly = λ r h. first_holds ts cs d r (refused r h);
+        refuses_all = λ r h. refuses r (first_returned ts cs d r h);
+        leaves_list = λ r h. list_same r (refused r h);
         accepts_others = λ h. (opening_run, accepts (none_returned ts cs d h));
       }
-    where
-      refuses_with : (n : ℕ) → refusal ≡ n → 0 < n → start_of i l ≡ Refused n
-      refuses_with n e h = refuses (omega arith) ∙ ap Refused e

@@ -1,6 +1,6 @@
 -- 02, E9: where the floor of a book's seeds left isn't below its best's score, none of them beats that best, so its round gains nothing, whatever calls follow.
 -- Assumes nothing.
-use Rattle.std.proofs.Common.{ℕ, zero, suc, ◌≤◌, ◌<◌, arith, ◌≡◌, refl, sym, ap, subst, ◌∙◌, ◌⊎◌, inl, inr, ⊎_elim, false, List, [], ◌∷◌, ◌++◌, append_assoc, append-nil, le-leb, leb, length, get_or, drop, length-append}
+use Rattle.std.proofs.Common.{ℕ, zero, suc, ◌≤◌, ◌<◌, arith, ◌≡◌, refl, sym, ap, subst, ◌∙◌, ◌⊎◌, inl, inr, ⊎_elim, false, List, [], ◌∷◌, ◌++◌, append_assoc, append-nil, le-leb, leb, length, get_or, drop, length-append, Ok}
 use Rattle.std.specs.Float.Ieee.{lt}
 use mathlib.Core.List.{Memᴰ}
 use borrow.Author.Tests.{lt-leb}
@@ -11,8 +11,7 @@ use Rattle.seed_rules.specs.declared.CandidateSeed.{CandidateSeed}
 use Rattle.seed_rules.specs.Merge.{keep}
 use Rattle.seed_rules.proofs.MergeLaws.{keep_append}
 use Rattle.score_outcome.specs.declared.Scoring.{Scoring}
-use Rattle.score_outcome.specs.declared.Outcome.{Outcome}
-use Rattle.score_outcome.specs.declared.Outcome.TheVariants.{Scored}
+use Rattle.score_outcome.specs.Reasons.{Outcome}
 use Rattle.score_outcome.specs.Facts.{ScoredFacts}
 use Rattle.score_best.specs.declared.Candidate.{Candidate}
 use Rattle.score_best.specs.Best.{beats, chosen, best_of, candidate_of}
@@ -22,7 +21,7 @@ use Rattle.score_floor.proofs.FloorLaws.{floor_number, above_floor}
 use Rattle.book.specs.Calls.{Call}
 use Rattle.book.specs.Book.{Inputs, Entry, Book, entries, no_seed, current, scored_of, run_best_of, with_waiting, with_entry, with_round, with_end, book_enter, left_in, after}
 use Rattle.book.specs.Rounds.{up_to}
-use Rattle.book.proofs.Cases.{case_outcome}
+use Rattle.book.proofs.Cases.{case_result}
 use Rattle.book.proofs.Moves.{entry, Stands, Closing, close_by, enter_by, enter_holds, await_holds, Steps, after_by}
 use Rattle.book.proofs.Made.{all_to, so_far}
 use Rattle.book.proofs.Good.{Good, waits_going, steps}
@@ -137,7 +136,7 @@ module _ (i : Inputs) (b : Book) where
 
   -- ---- none of these beats a best whose score the floor isn't below
   module _ (w : Candidate) (number : HasNumber w) (high : lt (floor_of (left_in b)) w.score ≡ false) where
-    one_loses : (e : Entry) → FromLeft e → (m : Scoring) → e.outcome ≡ Scored m → beats (candidate_of e.number e.seed.sensor m) w ≡ false
+    one_loses : (e : Entry) → FromLeft e → (m : Scoring) → e.outcome ≡ Ok m → beats (candidate_of e.number e.seed.sensor m) w ≡ false
     one_loses e f m q =
         let v = candidate_of e.number e.seed.sensor m in
         let s : ScoredFacts e.seed.sensor i.center m = subst (Stands i e.seed.sensor) q f.stands in
@@ -149,7 +148,7 @@ module _ (i : Inputs) (b : Book) where
     all_lose [] h = tt
     all_lose (e ∷ es) h =
         let r = all_lose es h.1 in
-        case_outcome e.outcome (λ n q. simp (scored_of, q) r) (λ m q. simp (scored_of, q) (one_loses e h.0 m q, r))
+        case_result e.outcome (λ m q. simp (scored_of, q) (one_loses e h.0 m q, r)) (λ reason q. simp (scored_of, q) r)
 
   pub nothing_gained : Good i b → (w : Candidate) → run_best_of b ≡ chosen w → lt (floor_of (left_in b)) w.score ≡ false → (c : Book) → Since c
       → best_of (scored_of (up_to b.round (entries c))) ≡ run_best_of b

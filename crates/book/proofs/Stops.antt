@@ -3,13 +3,15 @@ use Rattle.std.proofs.Common.{ℕ, zero, suc, ◌≤◌, ◌<◌, arith, ◌≡�
 use Rattle.std.specs.Float.Ieee.{lt}
 use borrow.Author.Tests.{not-true}
 use Rattle.common.specs.Tests.{case}
+use Rattle.std.specs.Prelude.{None, Result, Ok, Err}
+use Rattle.common.specs.declared.Refusal.{Refusal}
+use Rattle.common.specs.declared.Refusal.TheVariants.{ShortList}
 use Rattle.seed_rules.specs.declared.CandidateSeed.{CandidateSeed}
 use Rattle.score_best.specs.declared.Candidate.{Candidate}
 use Rattle.score_best.specs.declared.Best.{Best}
 use Rattle.score_best.specs.Best.{Chosen, nothing, chosen, best_of, no_best, held}
 use Rattle.score_floor.specs.Floor.{floor_of}
 use Rattle.search_calls.specs.declared.stop.Outlook.{Outlook}
-use Rattle.search_calls.specs.declared.stop.Stopped.TheVariants.{Standing, Refused}
 use Rattle.search_calls.specs.Stop.{outlook_of, stop_def}
 use Rattle.book.specs.Calls.{Call}
 use Rattle.book.specs.Book.{Inputs, demand, Entry, Book, entries, scored_of, run_best_of, left_in, book_call, after}
@@ -30,11 +32,11 @@ after_append b [] ds = refl
 after_append b (c ∷ cs) ds = after_append (book_call b c).book cs ds
 
 -- ---- what the reply says
-same_outlook : (n : ℕ) (c : Chosen) (ss : List CandidateSeed) (d : ℕ) (o : Outlook) → cond (ltb n d) (Refused 10) (Standing (outlook_of (held c) ss)) ≡ Standing o → outlook_of (held c) ss ≡ o
+same_outlook : (n : ℕ) (c : Chosen) (ss : List CandidateSeed) (d : ℕ) (o : Outlook) → cond (ltb n d) (Err ShortList) (Ok (outlook_of (held c) ss)) ≡ Ok o → outlook_of (held c) ss ≡ o
 same_outlook n c ss d o h =
     case (ltb n d)
-    (λ s. let k : Refused 10 ≡ Standing o = simp s at h in let z : ◌≡◌ {A = ℕ} 0 1 = cc in absurd (omega arith))
-    (λ s. let k : Standing (outlook_of (held c) ss) ≡ Standing o = simp s at h in cc)
+    (λ s. let k : ◌≡◌ {A = Result Outlook Refusal} (Err ShortList) (Ok o) = simp s at h in cc)
+    (λ s. let k : ◌≡◌ {A = Result Outlook Refusal} (Ok (outlook_of (held c) ss)) (Ok o) = simp s at h in cc)
 
 pub record Gains (c : Chosen) (ss : List CandidateSeed) : Type 0 where
   pub best : Candidate
@@ -48,10 +50,10 @@ no_gain_lem nothing (s ∷ ss) h = absurd (true≢false (sym h))
 no_gain_lem (chosen w) (s ∷ ss) h = record { best = w; is_best = refl; high = not-true (lt (floor_of (s ∷ ss)) w.score) h }
 
 -- nothing is left just where the run is over
-floor_there : (b : Best) (ss : List CandidateSeed) → ((outlook_of b ss).has_floor ≡ false) ↔ (ss ≡ [])
+floor_there : (b : Best) (ss : List CandidateSeed) → ((outlook_of b ss).floor ≡ None) ↔ (ss ≡ [])
 unfolding outlook_of
 floor_there b [] = ((λ h. refl), (λ h. refl))
-floor_there b (s ∷ ss) = ((λ h. absurd (true≢false h)), (λ h. let z : ◌≡◌ {A = ℕ} 0 1 = cc in absurd (omega arith)))
+floor_there b (s ∷ ss) = ((λ h. cc), (λ h. let z : ◌≡◌ {A = ℕ} 0 1 = cc in absurd (omega arith)))
 
 drop_none : {A : Type 0} (k : ℕ) (xs : List A) → k < length xs → drop k xs ≡ [] → ⊥
 drop_none k [] h e = omega arith
@@ -95,12 +97,12 @@ module _ (i : Inputs) (b : Book) (l : List Float) (cs : List Call) (t : State i 
       best_is : (b : Book) → run_best_of b ≡ best_of (scored_of (entries b))
       best_is b = unfold run_best_of in refl
 
-  pub stops : (n : ℕ) (o : Outlook) → stop_def (run_after (run_of b) l cs) (take n (list_after (run_of b) l cs)) ≡ Standing o → Stops (entries b) (run_of b) l cs o
+  pub stops : (n : ℕ) (o : Outlook) → stop_def (run_after (run_of b) l cs) (take n (list_after (run_of b) l cs)) ≡ Ok o → Stops (entries b) (run_of b) l cs o
   stops n o e =
       let c = after b cs in
       let w = walks i b l cs t in
       let k = list_after (run_of b) l cs in
-      let f : stop_def (run_of c) (take n k) ≡ Standing o = rw w.run_is at e in
+      let f : stop_def (run_of c) (take n k) ≡ Ok o = rw w.run_is at e in
       let q = same_outlook n (run_best_of c) (left_in c) (demand c.inputs) o (sym (stop_is i c k n w.state) ∙ f) in
       let there = floor_there (held (run_best_of c)) (left_in c) in
       let done = left_over i c w.state.good in

@@ -1,9 +1,10 @@
 -- While the list is the run's own, 27 never comes: the waiting seed's tilts lie within the bound, which is at most 0.5. Assumes nothing.
-use Rattle.std.proofs.Common.{ℕ, ◌≡◌, refl, sym, ◌∙◌, ◌⊎◌, ⊎_elim, true, false, ◌||◌, true≢false, List, [], ◌∷◌, ◌++◌, arith, Float}
+use Rattle.std.proofs.Common.{ℕ, ◌≡◌, refl, sym, ◌∙◌, ◌⊎◌, ⊎_elim, true, false, ◌||◌, true≢false, List, [], ◌∷◌, ◌++◌, arith, Float, Ok}
 use Rattle.std.specs.Float.{nan, inf, fin}
 use Rattle.std.specs.Float.Ieee.{lt, le, eq, is_nan}
 use Rattle.common.specs.Tests.{case, both_true}
-use Rattle.common.specs.Refusal.{Check, ◌when◌, first_refusal}
+use Rattle.common.specs.Checks.{Check, ◌when◌, first_refusal}
+use Rattle.common.specs.declared.Refusal.TheVariants.{BeyondHalf}
 use Rattle.float.specs.Float.{abs_of}
 use Rattle.float.specs.Order.{lt_cotrans, le_not_lt, le_number}
 use Rattle.float_series.specs.Answer.{beyond_half}
@@ -29,18 +30,18 @@ within_half max t h w =
     (λ e. rw (number t max w, e))
 
 -- ---- so of a finding only its rows can be refused
-none_refused : (ts us : List Check) → first_refusal ts ≡ 0 → first_refusal us ≡ 0 → first_refusal (ts ++ us) ≡ 0
+none_refused : (ts us : List Check) → first_refusal ts ≡ Ok tt → first_refusal us ≡ Ok tt → first_refusal (ts ++ us) ≡ Ok tt
 none_refused [] us h k = k
-none_refused ((n when true) ∷ ts) us h k = h
-none_refused ((n when false) ∷ ts) us h k = none_refused ts us h k
+none_refused ((r when true) ∷ ts) us h k = h
+none_refused ((r when false) ∷ ts) us h k = none_refused ts us h k
 
 pub not_refused : (max : Float) (t : ScheimpflugParams) (f : Finding) (rows : List Float) (flags : List ℕ) → lt half₆₄ max ≡ false → in_bound max t ≡ true
-    → (f ≡ Failed) ⊎ (first_refusal (row_checks rows flags) ≡ 0) → finding_refusal f t rows flags ≡ 0
+    → (f ≡ Failed) ⊎ (first_refusal (row_checks rows flags) ≡ Ok tt) → finding_refusal f t rows flags ≡ Ok tt
 unfolding finding_refusal solved_refusal in_bound
 not_refused max t Failed rows flags h w k = refl
 not_refused max t (Solved c) rows flags h w k =
     let b = both_true (within max t.tilt_x) (within max t.tilt_y) w in
     ⊎_elim
     (λ e. let z : ◌≡◌ {A = ℕ} 0 1 = cc in absurd (omega arith))
-    (λ e. none_refused (row_checks rows flags) ((27 when (beyond_half t.tilt_x || beyond_half t.tilt_y)) ∷ []) e (rw (within_half max t.tilt_x h b.0, within_half max t.tilt_y h b.1)))
+    (λ e. none_refused (row_checks rows flags) ((BeyondHalf when (beyond_half t.tilt_x || beyond_half t.tilt_y)) ∷ []) e (rw (within_half max t.tilt_x h b.0, within_half max t.tilt_y h b.1)))
     k

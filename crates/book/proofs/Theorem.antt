@@ -1,12 +1,14 @@
 -- The theorem about every list of calls. Assumes nothing.
-use Rattle.std.proofs.Common.{ℕ, suc, ◌≤◌, arith, ◌≡◌, refl, sym, ap, subst, ◌∙◌, ◌⊎◌, ⊎_elim, true, false, List, [], map, ◌++◌, append_assoc, append-nil, le-ltb, length, length-append, Float}
+use Rattle.std.proofs.Common.{ℕ, suc, ◌≤◌, arith, ◌≡◌, refl, sym, ap, subst, ◌∙◌, ◌⊎◌, ⊎_elim, true, false, List, [], map, ◌++◌, append_assoc, append-nil, le-ltb, length, length-append, Float, Result, Ok, Err}
 use Rattle.std.specs.Float.Ieee.{eq}
 use mathlib.Core.List.{map-append}
 use lib.ListN.{length-map}
 use Rattle.common.specs.Tests.{case}
 use Rattle.common.specs.All.{all_append, all_map}
 use Rattle.common.specs.Each.{All}
-use Rattle.common.specs.Refusal.{first_refusal}
+use Rattle.common.specs.Checks.{first_refusal}
+use Rattle.common.specs.declared.Refusal.{Refusal}
+use Rattle.common.specs.declared.Refusal.TheVariants.{NothingScored, NotOver}
 use Rattle.float.specs.Literals.{plus_zero}
 use Rattle.seed_rules.specs.declared.CandidateSeed.{CandidateSeed}
 use Rattle.seed_rules.specs.Rules.{untilted_y}
@@ -17,7 +19,6 @@ use Rattle.score_outcome.specs.declared.Finding.TheVariants.{Failed}
 use Rattle.score_outcome.specs.Evaluation.{row_checks}
 use Rattle.score_best.specs.declared.Candidate.{Candidate}
 use Rattle.score_best.specs.Best.{chosen}
-use Rattle.search_calls.specs.declared.result.Resulted.TheVariants.{Result, Refused}
 use Rattle.search_answer.specs.Answer.{answer_refusal}
 use Rattle.search_calls.specs.Result.{result_def}
 use Rattle.book.specs.Calls.{Call}
@@ -46,15 +47,15 @@ use Rattle.book.proofs.Opening.{opens}
 use Rattle.book.proofs.Ending.{run_ends}
 
 -- ---- a run that gives a result
-pub result_over : (i : Inputs) (b : Book) (w : Candidate) → Good i b → result_def (run_of b) ≡ Result w → (b.over ≡ true) × (run_best_of b ≡ chosen w)
+pub result_over : (i : Inputs) (b : Book) (w : Candidate) → Good i b → result_def (run_of b) ≡ Ok w → (b.over ≡ true) × (run_best_of b ≡ chosen w)
 unfolding result_def
 result_over i b w g h =
     let t = sound_run i b g in
     case b.over
     (λ o. case_chosen (run_best_of b)
-    (λ e. let k : Refused 11 ≡ Result w = simp (run-fields, run-bests, t, o, e) at h in let z : ◌≡◌ {A = ℕ} 0 1 = cc in absurd (omega arith))
-    (λ v e. let k : Result v ≡ Result w = simp (run-fields, run-bests, t, o, e) at h in (o, cc)))
-    (λ o. let k : Refused 14 ≡ Result w = simp (run-fields, t, o) at h in let z : ◌≡◌ {A = ℕ} 0 1 = cc in absurd (omega arith))
+    (λ e. let k : ◌≡◌ {A = Result Candidate Refusal} (Err NothingScored) (Ok w) = simp (result_def, run-fields, run-bests, t, o, e) at h in cc)
+    (λ v e. let k : ◌≡◌ {A = Result Candidate Refusal} (Ok v) (Ok w) = simp (result_def, run-fields, run-bests, t, o, e) at h in (o, cc)))
+    (λ o. let k : ◌≡◌ {A = Result Candidate Refusal} (Err NotOver) (Ok w) = simp (result_def, run-fields, t, o) at h in cc)
 
 -- so it is over, as it is where Result gives 11
 is_over_lem : (i : Inputs) (b : Book) → Good i b → Over (run_of b) → b.over ≡ true
@@ -64,7 +65,7 @@ is_over_lem i b g =
     (λ p. (result_over i b p.0 g p.1).0)
     (λ h.
     let t = sound_run i b g in
-    case b.over (λ o. o) (λ o. let k : Refused 14 ≡ Refused 11 = simp (run-fields, t, o) at h in let z : ◌≡◌ {A = ℕ} 14 11 = cc in absurd (omega arith)))
+    case b.over (λ o. o) (λ o. let k : ◌≡◌ {A = Result Candidate Refusal} (Err NotOver) (Err NothingScored) = simp (result_def, run-fields, t, o) at h in cc))
 
 -- it has handed out every round
 over_handed : (b : Book) → b.waits ≡ false → handed_in b ≡ map handing_of (entries b)
@@ -116,12 +117,12 @@ later_plus : (i : Inputs) → i.one_axis ≡ true → (h : Handing) → HandedSe
 later_plus i one h p = rw p.1 (p.2.later one)
 
 answer_open : (i : Inputs) (b : Book) (l : List Float) → State i b l → (run_of b).waiting.is_waiting ≡ true
-    → (f : Finding) (rows : List Float) (flags : List ℕ) → (f ≡ Failed) ⊎ (first_refusal (row_checks rows flags) ≡ 0) → answer_refusal (run_of b) (length l) f rows flags ≡ 0
+    → (f : Finding) (rows : List Float) (flags : List ℕ) → (f ≡ Failed) ⊎ (first_refusal (row_checks rows flags) ≡ Ok tt) → answer_refusal (run_of b) (length l) f rows flags ≡ Ok tt
 answer_open i b l s w f rows flags k =
     let g = s.good in
     let q : b.waits ≡ true = simp run-fields at w in
     let z = not_refused b.inputs.max (current b).sensor f rows flags g.core.sized.small_bound (current_seeded b g.core (g.room (waits_going i b g q))).within k in
-    simp (sound_run i b g, run-fields, q, z, le-ltb (length l) (demand b.inputs) s.there.long)
+    simp (answer_refusal, sound_run i b g, run-fields, q, z, le-ltb (length l) (demand b.inputs) s.there.long)
 
 -- ---- of any book between the calls, no seed waiting
 pub follows : (i : Inputs) (b : Book) (l : List Float) (cs : List Call) → b.waits ≡ false → State i b l → ByBook i b (entries b) (run_of b) l cs

@@ -7,7 +7,7 @@ use Rattle.seed_rules.specs.declared.CandidateSeed.{CandidateSeed}
 use Rattle.seed_rules.specs.Rules.{tilts}
 use Rattle.seed_rules.specs.Layout.{six, all_seeds, seed_at}
 use Rattle.seed_rules.proofs.Tried.{every_tilt_tried}
-use Rattle.score_outcome.specs.declared.Outcome.{Outcome}
+use Rattle.score_outcome.specs.Reasons.{Outcome}
 use Rattle.book.specs.Book.{Inputs, Entry, Book, entries, first_list}
 use Rattle.book.specs.Trace.{Handing, handing_of}
 use Rattle.book.specs.Named.{outcomes_in, plan, handings_of, handings}

@@ -14,7 +14,7 @@ use Rattle.score_best.specs.Best.{beats, chosen, best_of}
 use Rattle.score_best.proofs.Order.{HasNumber, lower_beats, beats_number, Leads, found_leads}
 use Rattle.book.specs.Book.{Inputs, Entry, scored_of}
 use Rattle.book.specs.Theorem.{Wins}
-use Rattle.book.proofs.Cases.{case_outcome}
+use Rattle.book.proofs.Cases.{case_result}
 use Rattle.book.proofs.Seeds.{best_among}
 use Rattle.book.proofs.Good.{Proper, ProperCandidate, scored_proper, Counted}
 
@@ -28,7 +28,7 @@ unfolding scored_of
 scored_from k j [] h c = tt
 scored_from k j (e ∷ es) h c =
     let r : All (λ v. j ≤ v.number) (scored_of es) = scored_from (suc k) j es (omega arith) c.1 in
-    case_outcome e.outcome (λ m q. simp (scored_of, q) r) (λ g q. simp (scored_of, q) (rw c.0 h, r))
+    case_result e.outcome (λ g q. simp (scored_of, q) (rw c.0 h, r)) (λ reason q. simp (scored_of, q) r)
 
 scored_rising : (k : ℕ) (es : List Entry) → Counted k es → Rising (scored_of es)
 unfolding scored_of
@@ -36,7 +36,7 @@ scored_rising k [] c = tt
 scored_rising k (e ∷ es) c =
     let r : Rising (scored_of es) = scored_rising (suc k) es c.1 in
     let f : All (λ v. suc e.number ≤ v.number) (scored_of es) = rw c.0 (scored_from (suc k) (suc k) es (omega arith) c.1) in
-    case_outcome e.outcome (λ m q. simp (scored_of, q) r) (λ g q. simp (scored_of, q) (f, r))
+    case_result e.outcome (λ g q. simp (scored_of, q) (f, r)) (λ reason q. simp (scored_of, q) r)
 
 rising_behind : (a : List Candidate) (w : Candidate) (b : List Candidate) → Rising (a ++ w ∷ b) → All (λ v. w.number < v.number) b
 rising_behind [] w b r = r.0

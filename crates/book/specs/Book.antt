@@ -1,9 +1,11 @@
 -- The plain book of 01: what can be written down of a search from Start's inputs, the order of the calls and what the host sends to Answer.
 -- It goes by the rules of the seeds, the scores and the best, and knows nothing of the run's record or the lent list. Definitions only.
-use Rattle.std.specs.Prelude.{ℕ, zero, suc, ◌+◌, ◌-◌, ◌*◌, ◌/◌, Bool, true, false, not, ◌&&◌, cond, List, [], ◌∷◌, ◌++◌, map, ltb, eqb, length, get_or, drop, Float}
+use Rattle.std.specs.Prelude.{ℕ, zero, suc, ◌+◌, ◌-◌, ◌*◌, ◌/◌, Bool, true, false, not, ◌&&◌, cond, List, [], ◌∷◌, ◌++◌, map, ltb, length, get_or, drop, Float, Result, Ok, Err, ⊤}
 use Rattle.std.proofs.Math.Option.{Option, none, some}
 use Rattle.std.specs.Float.Ieee.{lt}
-use Rattle.common.specs.Refusal.{◌when◌, first_refusal}
+use Rattle.common.specs.Checks.{◌when◌, first_refusal}
+use Rattle.common.specs.declared.Refusal.{Refusal}
+use Rattle.common.specs.declared.Refusal.TheVariants.{SeedWaits, ShortList, NothingScored, NoSeedWaits, NotOver}
 use Rattle.float.specs.Binary64.{◌*₆₄◌}
 use Rattle.float.specs.Literals.{plus_zero, half₆₄}
 use Rattle.camera_models.specs.declared.math.Pt2.{Pt2}
@@ -12,8 +14,7 @@ use Rattle.seed_rules.specs.declared.CandidateSeed.{CandidateSeed}
 use Rattle.seed_rules.specs.Rules.{initial_list, offsets, y_offsets, next_list}
 use Rattle.seed_rules.specs.Layout.{six, all_seeds}
 use Rattle.score_outcome.specs.declared.Finding.{Finding}
-use Rattle.score_outcome.specs.declared.Outcome.{Outcome}
-use Rattle.score_outcome.specs.declared.Outcome.TheVariants.{Skipped, Scored}
+use Rattle.score_outcome.specs.Reasons.{Outcome}
 use Rattle.score_outcome.specs.Evaluation.{outcome_of, finding_refusal}
 use Rattle.score_best.specs.declared.Candidate.{Candidate}
 use Rattle.score_best.specs.Best.{Chosen, nothing, chosen, best_of, candidate_of}
@@ -79,7 +80,7 @@ current b = get_or b.list (length b.answered) no_seed
 -- the scored ones of some entries
 unfoldable pub scored_of : List Entry → List Candidate
 scored_of [] = []
-scored_of (e ∷ es) = elim e.outcome [ Skipped reason ↦ scored_of es | Scored s ↦ candidate_of e.number e.seed.sensor s ∷ scored_of es ]
+scored_of (e ∷ es) = elim e.outcome [ Ok s ↦ candidate_of e.number e.seed.sensor s ∷ scored_of es | Err reason ↦ scored_of es ]
 
 -- of the round's and of the run's scored candidates the earliest with the lowest score
 unfoldable pub round_best_of : Book → Chosen
@@ -172,8 +173,9 @@ abbrev pub kept : Reply → Book → Kept
 kept a b = record { reply = a; book = b }
 
 -- a refusal enters nothing
-abbrev pub unless : ℕ → Book → Kept → Kept
-unless n b k = cond (eqb n 0) k (kept (refused n) b)
+abbrev pub unless : Result ⊤ Refusal → Book → Kept → Kept
+unless (Ok nothing_refused) b k = k
+unless (Err refusal) b k = kept (refused refusal) b
 
 abbrev pub is_nothing : Chosen → Bool
 is_nothing nothing = true
@@ -184,9 +186,9 @@ unfoldable pub book_next : Book → ℕ → Kept
 book_next b n =
     unless
     (first_refusal
-    ((9 when b.waits)
-    ∷ (10 when ltb n (demand b.inputs))
-    ∷ (11 when (b.over && is_nothing (run_best_of b)))
+    ((SeedWaits when b.waits)
+    ∷ (ShortList when ltb n (demand b.inputs))
+    ∷ (NothingScored when (b.over && is_nothing (run_best_of b)))
     ∷ []))
     b
     (cond b.over (kept over b) (kept (candidate (number b)) (with_waiting b)))
@@ -196,8 +198,8 @@ unfoldable pub book_seed : Book → ℕ → Kept
 book_seed b n = kept (part (cond (b.waits && not (ltb n (demand b.inputs))) (six (current b)) [])) b
 
 abbrev pub reply_to : Outcome → Reply
-reply_to (Skipped reason) = skipped reason
-reply_to (Scored s) = scored s.score
+reply_to (Ok s) = scored s.score
+reply_to (Err reason) = skipped reason
 
 -- the outcome of a finding for the waiting seed
 abbrev pub book_outcome : Book → Finding → List Float → List ℕ → Outcome
@@ -207,23 +209,18 @@ book_outcome b f rows flags = outcome_of b.inputs.share f (current b).sensor b.i
 unfoldable pub book_answer : Book → ℕ → Finding → List Float → List ℕ → Kept
 book_answer b n f rows flags =
     let o = book_outcome b f rows flags in
-    let k = finding_refusal f (current b).sensor rows flags in
     unless
-    (first_refusal
-    ((12 when not b.waits)
-    ∷ (10 when ltb n (demand b.inputs))
-    ∷ (k when not (eqb k 0))
-    ∷ []))
+    (first_refusal ((NoSeedWaits when not b.waits) ∷ (ShortList when ltb n (demand b.inputs)) ∷ []))
     b
-    (kept (reply_to o) (book_enter b o))
+    (unless (finding_refusal f (current b).sensor rows flags) b (kept (reply_to o) (book_enter b o)))
 
 -- Result: 14 the run isn't over, 11 it ended with nothing scored, or the run's best
 abbrev pub best_reply : Chosen → Reply
-best_reply nothing = refused 11
+best_reply nothing = refused NothingScored
 best_reply (chosen w) = result w
 
 unfoldable pub book_result : Book → Kept
-book_result b = unless (first_refusal ((14 when not b.over) ∷ [])) b (kept (best_reply (run_best_of b)) b)
+book_result b = unless (first_refusal ((NotOver when not b.over) ∷ [])) b (kept (best_reply (run_best_of b)) b)
 
 -- the progress call: the total is the length of this round's list
 unfoldable pub book_progress : Book → Kept
@@ -249,7 +246,7 @@ rest_in b = rest_of (left_in b) (run_best_of b)
 
 -- 10 the list is too short; else the run's best, if any, and what is left
 unfoldable pub book_stop : Book → ℕ → Kept
-book_stop b n = unless (first_refusal ((10 when ltb n (demand b.inputs)) ∷ [])) b (kept (stopped (run_best_of b) (rest_in b)) b)
+book_stop b n = unless (first_refusal ((ShortList when ltb n (demand b.inputs)) ∷ [])) b (kept (stopped (run_best_of b) (rest_in b)) b)
 
 -- 02, E2: the last answered candidate's line, or nothing before the first answer. The round is the one that it was handed out in, the camera the one that
 -- was scored.

@@ -1,6 +1,8 @@
--- The calls that follow Start, and their replies by 01's and 02's numbers. Definitions only.
+-- The calls that follow Start, and their replies. Definitions only.
 use Rattle.std.specs.Prelude.{ℕ, Bool, List, Float}
+use Rattle.common.specs.declared.Refusal.{Refusal}
 use Rattle.score_outcome.specs.declared.Finding.{Finding}
+use Rattle.score_outcome.specs.declared.SkipReason.{SkipReason}
 use Rattle.score_best.specs.declared.Candidate.{Candidate}
 use Rattle.score_best.specs.Best.{Chosen}
 use Rattle.journal_line.specs.declared.Counts.{Counts}
@@ -30,17 +32,17 @@ pub data Rest : Type 0 where
   nothing_left : Rest
   floor : Float → Bool → Rest
 
--- Next's candidate and Over (01's terms), the seed call's part, Answer's Scored and Skipped, Result's winner, the replies of 02's calls, and a refusal's number
+-- Next's candidate and Over (01's terms), the seed call's part, Answer's Scored and Skipped, Result's winner, the replies of 02's calls, and a refusal
 pub data Reply : Type 0 where
   candidate : ℕ → Reply
   over : Reply
   part : List Float → Reply
   scored : Float → Reply
-  skipped : ℕ → Reply
+  skipped : SkipReason → Reply
   result : Candidate → Reply
   bar : Progress → Reply
   stopped : Chosen → Rest → Reply
   line : Line → Reply
   no_line : Reply
   counted : Counts → Reply
-  refused : ℕ → Reply
+  refused : Refusal → Reply

@@ -1,25 +1,27 @@
 -- What 01 and 02 refuse Start for, in their order, as plain facts of the inputs. Definitions only.
 use Rattle.std.specs.Prelude.{ℕ, ◌/◌, ◌%◌, ◌<◌, ◌≡◌, ◌⊎◌, true, false, List, [], ◌∷◌, length, Float}
 use Rattle.std.specs.Float.Ieee.{neg, lt, le, eq}
+use Rattle.common.specs.declared.Refusal.{Refusal}
+use Rattle.common.specs.declared.Refusal.TheVariants as refusal
 use Rattle.float.specs.Float.{is_finite}
 use Rattle.float.specs.Literals.{plus_zero, half₆₄}
 use Rattle.seed_rules.specs.declared.CandidateSeed.{CandidateSeed}
 use Rattle.seed_rules.specs.Layout.{all_seeds}
 use Rattle.book.specs.Book.{Inputs, demand}
 
--- a refusal's number, and where it holds
+-- a refusal, and where it holds
 pub data Condition : Type 1 where
-  ◌provided◌ : ℕ → Type 0 → Condition
+  ◌provided◌ : Refusal → Type 0 → Condition
 
 infix 5 ◌provided◌
--- n is the number of the first that holds; none holds
-abbrev pub FirstHolds : List Condition → ℕ → Type 0
-FirstHolds [] n = ⊥
-FirstHolds ((m provided C) ∷ cs) n = (C × (n ≡ m)) ⊎ ((C → ⊥) × FirstHolds cs n)
+-- r is the refusal of the first that holds; none holds
+abbrev pub FirstHolds : List Condition → Refusal → Type 0
+FirstHolds [] r = ⊥
+FirstHolds ((s provided C) ∷ cs) r = (C × (r ≡ s)) ⊎ ((C → ⊥) × FirstHolds cs r)
 
 abbrev pub NoneHolds : List Condition → Type 0
 NoneHolds [] = Unit {0}
-NoneHolds ((m provided C) ∷ cs) = (C → ⊥) × NoneHolds cs
+NoneHolds ((s provided C) ∷ cs) = (C → ⊥) × NoneHolds cs
 
 -- ---- words of the conditions
 abbrev pub Some : {A : Type 0} → (A → Type 0) → List A → Type 0
@@ -68,16 +70,16 @@ TiltedY s = eq s.sensor.tilt_y plus_zero ≡ false
 -- ---- 01, 'Start', where n numbers are lent, and then 02: a bound above 0.5 (E1); a one-axis run whose typed y tilts or decomposition say otherwise (E8); a share above 100 per cent (E11)
 abbrev pub conditions : Inputs → ℕ → List Condition
 conditions i n =
-    (1 provided (i.views < 3))
-    ∷ (2 provided ((i.xs ≡ []) ⊎ (i.ys ≡ [])))
-    ∷ (3 provided (NotPositive i.max))
-    ∷ (4 provided ((0 < i.rounds) × NotPositive i.step))
-    ∷ (5 provided (TooMany (length i.xs) (length i.ys) (length i.decomposition) i.rounds))
-    ∷ (6 provided (Some (BadSeed i.max) (all_seeds i.decomposition)))
-    ∷ (7 provided (Some NotFinite i.xs ⊎ Some NotFinite i.ys))
-    ∷ (8 provided (n < demand i))
-    ∷ (27 provided (AboveHalf i.max))
-    ∷ (31 provided ((i.one_axis ≡ true) × (OnlyZero i.ys → ⊥)))
-    ∷ (32 provided ((i.one_axis ≡ true) × Some TiltedY (all_seeds i.decomposition)))
-    ∷ (33 provided (AboveAll i.share))
+    (refusal.TooFewViews provided (i.views < 3))
+    ∷ (refusal.NoTilts provided ((i.xs ≡ []) ⊎ (i.ys ≡ [])))
+    ∷ (refusal.BadBound provided (NotPositive i.max))
+    ∷ (refusal.BadStep provided ((0 < i.rounds) × NotPositive i.step))
+    ∷ (refusal.TooMany provided (TooMany (length i.xs) (length i.ys) (length i.decomposition) i.rounds))
+    ∷ (refusal.BadSeed provided (Some (BadSeed i.max) (all_seeds i.decomposition)))
+    ∷ (refusal.TiltNotFinite provided (Some NotFinite i.xs ⊎ Some NotFinite i.ys))
+    ∷ (refusal.SmallBuffer provided (n < demand i))
+    ∷ (refusal.BeyondHalf provided (AboveHalf i.max))
+    ∷ (refusal.TwoAxes provided ((i.one_axis ≡ true) × (OnlyZero i.ys → ⊥)))
+    ∷ (refusal.TiltedSeed provided ((i.one_axis ≡ true) × Some TiltedY (all_seeds i.decomposition)))
+    ∷ (refusal.ShareAboveAll provided (AboveAll i.share))
     ∷ []

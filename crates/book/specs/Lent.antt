@@ -1,5 +1,5 @@
 -- Calls that are handed the run as the calls before left it, and any list at all. (The other calls return no run.) Definitions only.
-use Rattle.std.specs.Prelude.{ℕ, ◌+◌, ◌-◌, ◌*◌, ◌≤◌, ◌≡◌, cond, List, [], ◌∷◌, eqb, length, Float}
+use Rattle.std.specs.Prelude.{ℕ, ◌+◌, ◌-◌, ◌*◌, ◌≤◌, ◌≡◌, List, [], ◌∷◌, length, Float, Ok, Err}
 use Rattle.score_outcome.specs.declared.Finding.{Finding}
 use Rattle.score_outcome.specs.Evaluation.{finding_refusal}
 use Rattle.search_record.specs.declared.run.Run.{Run}
@@ -23,7 +23,7 @@ through r (c ∷ cs) = through (left r c) cs
 
 unfoldable pub counted : Run → Lent → ℕ
 counted r (next_with l) = 0
-counted r (answer_with l f rows flags) = cond (eqb (answer_refusal r (length l) f rows flags) 0) 1 0
+counted r (answer_with l f rows flags) = elim (answer_refusal r (length l) f rows flags) [ Ok nothing_refused ↦ 1 | Err refusal ↦ 0 ]
 
 unfoldable pub accepted : Run → List Lent → ℕ
 accepted r [] = 0
@@ -50,7 +50,7 @@ abbrev pub Taken : Inputs → Run → Turn → Type 0
 Taken i r t =
     (demand i ≤ length t.to_next)
     × (demand i ≤ length t.to_answer)
-    × (finding_refusal t.finding (next_def r t.to_next).run.waiting.seed.sensor t.rows t.flags ≡ 0)
+    × (finding_refusal t.finding (next_def r t.to_next).run.waiting.seed.sensor t.rows t.flags ≡ Ok tt)
 
 -- each of the answers, one turn after the other
 unfoldable pub AllTaken : Inputs → Run → List Turn → Type 0

@@ -1,5 +1,5 @@
 -- 02, E9: what a reply of the stop call means in a run, as a type. Definitions only.
-use Rattle.std.specs.Prelude.{◌≡◌, ◌↔◌, true, false, List, ◌++◌, Float}
+use Rattle.std.specs.Prelude.{◌≡◌, ◌↔◌, true, List, ◌++◌, Float, None}
 use Rattle.score_best.specs.Best.{best_of}
 use Rattle.search_record.specs.declared.run.Run.{Run}
 use Rattle.search_calls.specs.declared.stop.Outlook.{Outlook}
@@ -17,5 +17,5 @@ pub record NothingGained (kept : List Entry) (r : Run) (l : List Float) (cs ds :
 -- the reply o of the stop call after the calls cs
 pub record Stops (kept : List Entry) (r : Run) (l : List Float) (cs : List Call) (o : Outlook) : Type 0 where
   -- nothing is left just where the run is over
-  pub nothing_left : (o.has_floor ≡ false) ↔ ((run_after r l cs).place.over ≡ true)
+  pub nothing_left : (o.floor ≡ None) ↔ ((run_after r l cs).place.over ≡ true)
   pub nothing_gained : o.no_gain ≡ true → (ds : List Call) → NothingGained kept r l cs ds

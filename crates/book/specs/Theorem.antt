@@ -1,9 +1,11 @@
 -- The theorem about every list of calls, as a type. `book/proofs/Theorem.antt` proves it. Definitions only.
-use Rattle.std.specs.Prelude.{ℕ, suc, ◌+◌, ◌≤◌, ◌<◌, ◌≡◌, ◌⊎◌, true, false, length, take, Float}
+use Rattle.std.specs.Prelude.{ℕ, suc, ◌+◌, ◌≤◌, ◌<◌, ◌≡◌, ◌⊎◌, true, false, length, take, Float, Result, Ok, Err}
 use mathlib.Core.List.{List, [], Memᴰ}
 use Rattle.std.specs.Float.Ieee.{neg, lt, le, eq, is_nan}
 use Rattle.common.specs.Each.{All}
-use Rattle.common.specs.Refusal.{first_refusal}
+use Rattle.common.specs.Checks.{first_refusal}
+use Rattle.common.specs.declared.Refusal.{Refusal}
+use Rattle.common.specs.declared.Refusal.TheVariants.{NothingScored}
 use Rattle.float.specs.Float.{abs_of, is_finite}
 use Rattle.float.specs.Literals.{plus_zero}
 use Rattle.camera_tilt.specs.declared.sensor.ScheimpflugParams.{ScheimpflugParams}
@@ -13,25 +15,20 @@ use Rattle.seed_rules.specs.Layout.{six}
 use Rattle.seed_rules.proofs.Tried.{Tried}
 use Rattle.score_outcome.specs.declared.Finding.{Finding}
 use Rattle.score_outcome.specs.declared.Finding.TheVariants.{Failed}
-use Rattle.score_outcome.specs.declared.Outcome.{Outcome}
+use Rattle.score_outcome.specs.Reasons.{Outcome}
 use Rattle.score_camera.specs.Camera.{tangential_bound}
 use Rattle.score_outcome.specs.Evaluation.{row_checks, finding_refusal}
 use Rattle.score_best.specs.declared.Candidate.{Candidate}
 use Rattle.search_record.specs.declared.run.Run.{Run}
 use Rattle.search_record.specs.Record.{sound}
 use Rattle.search_record.specs.declared.run.Options.{Options}
-use Rattle.search_start.specs.declared.Started.{Started}
-use Rattle.search_start.specs.declared.Started.TheVariants.{Accepted, Refused}
 use Rattle.search_calls.specs.declared.next.Handed.TheVariants as handed-as
-use Rattle.search_calls.specs.declared.result.Resulted.TheVariants.{Result}
-use Rattle.search_calls.specs.declared.result.Resulted.TheVariants as resulted-as
 use Rattle.search_start.specs.Start.{start_reply, start_list}
 use Rattle.search_calls.specs.Next.{next_def}
 use Rattle.search_answer.specs.Answer.{answer_refusal}
 use Rattle.search_calls.specs.Result.{result_def}
 use Rattle.search_calls.specs.Progress.{progress_def}
 use Rattle.search_calls.specs.declared.stop.Outlook.{Outlook}
-use Rattle.search_calls.specs.declared.stop.Stopped.TheVariants.{Standing}
 use Rattle.search_calls.specs.Stop.{stop_def}
 use Rattle.book.specs.Calls.{Call}
 use Rattle.book.specs.Book.{Inputs, demand, Entry, Book, entries, scored_of, first_list, opened, replies, after}
@@ -48,7 +45,7 @@ use Rattle.book.specs.Lent.{Lent, through, accepted, still_left, Turn, AllTaken,
 abbrev pub options_of : Inputs → Options
 options_of i = record { refine_rounds = i.rounds; refine_step = i.step; max_abs_tilt = i.max; one_axis = i.one_axis; min_counted = i.share }
 
-abbrev pub start_of : Inputs → List Float → Started
+abbrev pub start_of : Inputs → List Float → Result Run Refusal
 start_of i l = start_reply i.views (options_of i) i.xs i.ys i.decomposition i.base i.center l
 
 abbrev pub started_list : Inputs → List Float → List Float
@@ -97,7 +94,7 @@ pub record TiltTried (i : Inputs) (hs : List Handing) (es : List Entry) (t : Sch
 
 -- the run is over, as 01's 14 means it: Result gives a result, or 11. (01's Over is Next's reply, where there is a result.)
 abbrev pub Over : Run → Type 0
-Over r = ((w : Candidate) × (result_def r ≡ Result w)) ⊎ (result_def r ≡ resulted-as.Refused 11)
+Over r = ((w : Candidate) × (result_def r ≡ Ok w)) ⊎ (result_def r ≡ Err NothingScored)
 
 -- ---- What holds of a run r and a list l as the plain book b has them, no seed waiting, for a list of calls. kept are the entries that b has before the calls: none where
 -- Start opened the run, those of the kept lines where Resume did (02, E13). All that is handed out and answered is meant with them.
@@ -110,10 +107,10 @@ pub record ByBook (i : Inputs) (b : Book) (kept : List Entry) (r : Run) (l : Lis
   pub no_nan : NoNan (all_answers kept r l cs)
   -- If Result then gives a result: each round handed out the seeds that the rules name from Start's inputs and the outcomes of the rounds
   -- before, each once, in order, numbered on from 0; and the result is the earliest candidate with the lowest score, within 01's bounds.
-  pub handed_out : (w : Candidate) → result_def (run_after r l cs) ≡ Result w → all_handed kept r l cs ≡ handings i (outcomes_in (all_answers kept r l cs)) (suc i.rounds)
-  pub wins : (w : Candidate) → result_def (run_after r l cs) ≡ Result w → Wins i (all_answers kept r l cs) w
+  pub handed_out : (w : Candidate) → result_def (run_after r l cs) ≡ Ok w → all_handed kept r l cs ≡ handings i (outcomes_in (all_answers kept r l cs)) (suc i.rounds)
+  pub wins : (w : Candidate) → result_def (run_after r l cs) ≡ Ok w → Wins i (all_answers kept r l cs) w
   -- and its mean rests on the share of the rows of its own answer, in whole numbers, unless it is a kept line's
-  pub rests : (w : Candidate) → result_def (run_after r l cs) ≡ Result w → Rests i.share kept r l cs w
+  pub rests : (w : Candidate) → result_def (run_after r l cs) ≡ Ok w → Rests i.share kept r l cs w
   -- If the run is over, with a result or with 11: every pair of typed tilts within ±max_abs_tilt was tried.
   pub every_tilt : Over (run_after r l cs) → (x y : Float) → Memᴰ x i.xs → Memᴰ y i.ys
       → le (neg i.max) x ≡ true → le x i.max ≡ true → le (neg i.max) y ≡ true → le y i.max ≡ true
@@ -126,11 +123,11 @@ pub record ByBook (i : Inputs) (b : Book) (kept : List Entry) (r : Run) (l : Lis
   pub few_answers : length (all_answers kept r l cs) ≤ 656
   -- where a seed waits Answer takes Failed, and Solved with rows that 13 doesn't refuse: 27 comes from a changed list alone
   pub answer_accepted : (run_after r l cs).waiting.is_waiting ≡ true → (f : Finding) (rows : List Float) (flags : List ℕ)
-      → (f ≡ Failed) ⊎ (first_refusal (row_checks rows flags) ≡ 0) → answer_refusal (run_after r l cs) (length (list_after r l cs)) f rows flags ≡ 0
+      → (f ≡ Failed) ⊎ (first_refusal (row_checks rows flags) ≡ Ok tt) → answer_refusal (run_after r l cs) (length (list_after r l cs)) f rows flags ≡ Ok tt
   -- the progress bar: after round 0 its total is exactly what the rules for the tilts give
   pub later_round : 0 < (progress_def (run_after r l cs)).round → LaterRound i (all_answers kept r l cs) (progress_def (run_after r l cs)).round (progress_def (run_after r l cs)).total
   -- the stop call, of which n numbers of the list are lent: what it says of this round is so, whatever calls follow
-  pub stops : (n : ℕ) (o : Outlook) → stop_def (run_after r l cs) (take n (list_after r l cs)) ≡ Standing o → Stops kept r l cs o
+  pub stops : (n : ℕ) (o : Outlook) → stop_def (run_after r l cs) (take n (list_after r l cs)) ≡ Ok o → Stops kept r l cs o
 
 -- of a run that Start opened, and of the list that Start wrote
 abbrev pub Follows : Inputs → Run → List Float → List Call → Type 0
@@ -145,25 +142,25 @@ pub record Ends (i : Inputs) (before : ℕ) (r : Run) (cs : List Lent) (s : Run)
   pub few : before + accepted r cs + still_left s ≤ 656
   -- until it is over Next hands out a seed where none waits, and Answer takes what isn't refused for itself where one does; Failed never is
   pub next_accepted : s.place.over ≡ false → s.waiting.is_waiting ≡ false → (l : List Float) → demand i ≤ length l
-      → (next_def s l).reply ≡ handed-as.Candidate s.place.number
+      → (next_def s l).reply ≡ Ok (handed-as.Candidate s.place.number)
   pub answer_accepted : s.waiting.is_waiting ≡ true → (l : List Float) (f : Finding) (rows : List Float) (flags : List ℕ) → demand i ≤ length l
-      → finding_refusal f s.waiting.seed.sensor rows flags ≡ 0 → answer_refusal s (length l) f rows flags ≡ 0
-  pub failed_taken : (t : ScheimpflugParams) (rows : List Float) (flags : List ℕ) → finding_refusal Failed t rows flags ≡ 0
+      → finding_refusal f s.waiting.seed.sensor rows flags ≡ Ok tt → answer_refusal s (length l) f rows flags ≡ Ok tt
+  pub failed_taken : (t : ScheimpflugParams) (rows : List Float) (flags : List ℕ) → finding_refusal Failed t rows flags ≡ Ok tt
   -- a host whose answers are accepted reaches the end
   pub reaches_end : (ts : List Turn) → AllTaken i s ts → still_left s ≤ length ts → (through s (turns ts)).place.over ≡ true
 
--- ---- Start refuses just where one of 01's or 02's conditions holds, with the first one's number, and leaves the list as it was; it accepts all else
+-- ---- Start refuses just where one of 01's or 02's conditions holds, for the first one, and leaves the list as it was; it accepts all else
 pub record Starts (i : Inputs) (l : List Float) : Type 0 where
-  pub refuses_rightly : (n : ℕ) → start_of i l ≡ Refused n → FirstHolds (conditions i (length l)) n
-  pub refuses_all : (n : ℕ) → FirstHolds (conditions i (length l)) n → start_of i l ≡ Refused n
-  pub leaves_list : (n : ℕ) → start_of i l ≡ Refused n → started_list i l ≡ l
-  pub accepts_others : NoneHolds (conditions i (length l)) → (r : Run) × (start_of i l ≡ Accepted r)
+  pub refuses_rightly : (r : Refusal) → start_of i l ≡ Err r → FirstHolds (conditions i (length l)) r
+  pub refuses_all : (r : Refusal) → FirstHolds (conditions i (length l)) r → start_of i l ≡ Err r
+  pub leaves_list : (r : Refusal) → start_of i l ≡ Err r → started_list i l ≡ l
+  pub accepts_others : NoneHolds (conditions i (length l)) → (r : Run) × (start_of i l ≡ Ok r)
 
 -- ---- the theorem: Start on any inputs and any list, and then any calls, in any order, whatever the host answers
 pub record IsBook (i : Inputs) (l : List Float) : Type 0 where
   pub starts : Starts i l
-  pub follows : (r : Run) → start_of i l ≡ Accepted r → (cs : List Call) → Follows i r (started_list i l) cs
-  pub ends : (r : Run) → start_of i l ≡ Accepted r → (cs : List Lent) → Ends i 0 r cs (through r cs)
+  pub follows : (r : Run) → start_of i l ≡ Ok r → (cs : List Call) → Follows i r (started_list i l) cs
+  pub ends : (r : Run) → start_of i l ≡ Ok r → (cs : List Lent) → Ends i 0 r cs (through r cs)
 
 abbrev pub SearchIsBook : Type 0
 SearchIsBook = (i : Inputs) (l : List Float) → IsBook i l

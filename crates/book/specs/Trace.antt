@@ -1,13 +1,14 @@
 -- What a walk hands out and what it accepts, read off the entry points' definitions alone. Definitions only.
-use Rattle.std.specs.Prelude.{ℕ, ◌<◌, ◌≡◌, cond, List, [], ◌∷◌, ◌++◌, map, eqb, length, get_or, take, Float}
+use Rattle.std.specs.Prelude.{ℕ, ◌<◌, ◌≡◌, List, [], ◌∷◌, ◌++◌, map, eqb, length, get_or, take, Float, Result, Ok, Err}
 use Rattle.std.specs.Float.{nan}
+use Rattle.common.specs.declared.Refusal.{Refusal}
 use Rattle.seed_rules.specs.Merge.{keep}
 use Rattle.seed_rules.specs.Layout.{six}
 use Rattle.score_outcome.specs.Evaluation.{outcome_of}
 use Rattle.float.specs.Literals.{plus_zero}
 use Rattle.search_record.specs.declared.run.Run.{Run}
 use Rattle.search_calls.specs.declared.next.Handed.{Handed}
-use Rattle.search_calls.specs.declared.next.Handed.TheVariants.{Candidate, Over, Refused}
+use Rattle.search_calls.specs.declared.next.Handed.TheVariants.{Candidate, Over}
 use Rattle.search_calls.specs.Next.{next_def, seed_part}
 use Rattle.search_answer.specs.Answer.{answer_refusal}
 use Rattle.book.specs.Calls.{Call, next, seed, answer, ask, progress, stop, last, counts}
@@ -31,10 +32,10 @@ PlusZeroLater h = 0 < h.round → tilt_y_of h ≡ plus_zero
 unfoldable pub handed_in_round : ℕ → List Handing → List Handing
 handed_in_round k hs = keep (λ h. eqb h.round k) hs
 
-abbrev pub handing : Run → List Float → Handed → List Handing
-handing r l (Candidate n) = record { round = r.place.round; number = n; part = seed_part r l } ∷ []
-handing r l Over = []
-handing r l (Refused n) = []
+abbrev pub handing : Run → List Float → Result Handed Refusal → List Handing
+handing r l (Ok (Candidate n)) = record { round = r.place.round; number = n; part = seed_part r l } ∷ []
+handing r l (Ok Over) = []
+handing r l (Err refusal) = []
 
 unfoldable pub handed_by : Run → List Float → Call → List Handing
 handed_by r l (next n) = let a = next_def r (take n l) in handing a.run l a.reply
@@ -51,9 +52,10 @@ unfoldable pub answered_by : Run → List Float → Call → List Entry
 answered_by r l (next n) = []
 answered_by r l (seed n) = []
 answered_by r l (answer n f rows flags) =
-    cond (eqb (answer_refusal r (length (take n l)) f rows flags) 0)
-    (record { number = r.place.number; round = r.place.round; seed = r.waiting.seed; outcome = outcome_of r.options.min_counted f r.waiting.seed.sensor r.center rows flags } ∷ [])
-    []
+    elim (answer_refusal r (length (take n l)) f rows flags) [
+      | Ok nothing_refused ↦ record { number = r.place.number; round = r.place.round; seed = r.waiting.seed; outcome = outcome_of r.options.min_counted f r.waiting.seed.sensor r.center rows flags } ∷ []
+      | Err refusal ↦ []
+    ]
 answered_by r l ask = []
 answered_by r l progress = []
 answered_by r l (stop n) = []

@@ -1,10 +1,10 @@
 -- The writer takes every line of a run, the reader gives them back, and walking them again leads to the run's book. Assumes nothing.
-use Rattle.std.proofs.Common.{ℕ, suc, ◌+◌, ◌≤◌, arith, ◌≡◌, refl, sym, ap, ◌∙◌, true, false, not, List, [], ◌∷◌, ◌++◌, map, append-nil, le-leb, length, length-append, Float}
+use Rattle.std.proofs.Common.{ℕ, suc, ◌+◌, ◌≤◌, arith, ◌≡◌, refl, sym, ap, ◌∙◌, true, false, not, List, [], ◌∷◌, ◌++◌, map, append-nil, le-leb, length, length-append, Float, Ok, Err}
+use Rattle.journal_replay.specs.Replay.{of_no_line}
 use Rattle.common.specs.Each.{All}
 use Rattle.camera_tilt.specs.declared.sensor.ScheimpflugParams.{ScheimpflugParams}
 use Rattle.seed_rules.specs.Layout.{written}
-use Rattle.score_outcome.specs.declared.Outcome.{Outcome}
-use Rattle.score_outcome.specs.declared.Outcome.TheVariants.{Skipped, Scored}
+use Rattle.score_outcome.specs.Reasons.{Outcome}
 use Rattle.journal_line.specs.declared.Line.{Line}
 use Rattle.journal_line.specs.Line.{recordable, writable, Writable, LineFits}
 use Rattle.journal_line.proofs.Whole.{whole_reading}
@@ -41,8 +41,8 @@ round_most i b g = let k = g.core.in_rounds in let s = g.core.sized.few_rounds i
 
 recordable_outcome : (i : Inputs) (t : ScheimpflugParams) (o : Outcome) → Stands i t o → recordable (recorded_as o) ≡ true
 unfolding recordable
-recordable_outcome i t (Skipped n) s = rw (le-leb 1 n s.0, le-leb n 4 s.1)
-recordable_outcome i t (Scored g) s = ap not s.score_number
+recordable_outcome i t (Ok g) s = ap not s.score_number
+recordable_outcome i t (Err reason) s = refl
 
 -- ---- the lines of a trail are such as the writer takes
 pub entry_taken : (i : Inputs) (b : Book) (o : Outcome) → Good i b → b.over ≡ false → Stands b.inputs (current b).sensor o → Writable (line_of (entry b o))
@@ -116,11 +116,11 @@ rest_standing : (b : Book) → standing (at_rest b) ≡ standing b
 unfolding standing at_rest run_best_of
 rest_standing b = refl
 
-pub again_standing : (i : Inputs) (b : Book) (l : List Float) → Sound i b → NoneHolds (conditions i (length l)) → (replay_of i l (journal_of b)).reply ≡ standing b
+pub again_standing : (i : Inputs) (b : Book) (l : List Float) → Sound i b → NoneHolds (conditions i (length l)) → (replay_of i l (journal_of b)).reply ≡ of_no_line (standing b)
 unfolding replay_of
-again_standing i b l s a = simp (none_refused i (length l) a, walked_again i b l s) (rest_standing b)
+again_standing i b l s a = simp (replay_of, none_refused i (length l) a, walked_again i b l s) (ap of_no_line (rest_standing b))
 
 pub again_list : (i : Inputs) (b : Book) (l : List Float) → Sound i b → NoneHolds (conditions i (length l))
     → (replay_of i l (journal_of b)).list ≡ list_along (opened i) (written (first_list i) l) (entries b)
 unfolding replay_of
-again_list i b l s a = simp (none_refused i (length l) a, walked_again i b l s)
+again_list i b l s a = simp (replay_of, none_refused i (length l) a, walked_again i b l s)

@@ -7,7 +7,7 @@ use Rattle.common.specs.Tests.{case}
 use Rattle.common.specs.All.{all_map}
 use Rattle.common.specs.Each.{All}
 use Rattle.seed_rules.specs.Layout.{written}
-use Rattle.score_outcome.specs.declared.Outcome.{Outcome}
+use Rattle.score_outcome.specs.Reasons.{Outcome}
 use Rattle.journal_line.specs.declared.Line.{Line}
 use Rattle.journal_line.specs.Line.{LineFits, Writable}
 use Rattle.journal_line.specs.Reading.{Ending, ended, refused, unread, Lines, read_journal}

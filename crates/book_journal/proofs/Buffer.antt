@@ -6,7 +6,7 @@ use Rattle.common.specs.Each.{All}
 use Rattle.seed_rules.specs.declared.CandidateSeed.{CandidateSeed}
 use Rattle.seed_rules.specs.Layout.{flat, written}
 use Rattle.seed_rules.specs.LayoutLaws.{flat_length}
-use Rattle.score_outcome.specs.declared.Outcome.{Outcome}
+use Rattle.score_outcome.specs.Reasons.{Outcome}
 use Rattle.book.specs.Calls.{Call}
 use Rattle.book.specs.Book.{Inputs, demand, Entry, Book, entries, current, first_list, opened, with_waiting, with_entry, with_round, with_end, book_enter, Kept as Answer, book_call, after}
 use Rattle.book.specs.Conditions.{NoneHolds, conditions}

@@ -1,20 +1,20 @@
 -- The five counts are those of the replies and of the journal's lines; they add up to the answers, the seeds handed out are that sum and the waiting one, and a
 -- refused call counts nowhere. Assumes nothing.
-use Rattle.std.proofs.Common.{ℕ, ◌+◌, ◌≤◌, arith, ◌≡◌, refl, sym, ap, ◌∙◌, true, false, cond, List, [], ◌∷◌, ◌++◌, map, ltb, eqb, length-append}
+use Rattle.std.proofs.Common.{ℕ, ◌+◌, ◌≤◌, arith, ◌≡◌, refl, sym, ap, ◌∙◌, true, false, cond, List, [], ◌∷◌, ◌++◌, map, ltb, length-append, Ok, Err}
+use Rattle.common.specs.declared.Refusal.{Refusal}
 use mathlib.Core.List.{map-append}
 use Rattle.common.specs.Tests.{case}
 use Rattle.common.specs.Each.{All}
-use Rattle.score_outcome.specs.declared.Outcome.{Outcome}
-use Rattle.score_outcome.specs.declared.Outcome.TheVariants.{Skipped, Scored}
+use Rattle.score_outcome.specs.Reasons.{Outcome}
 use Rattle.score_outcome.specs.Evaluation.{finding_refusal, outcome_of}
-use Rattle.journal_line.specs.Counts.{kind_of, one, count_in, counts_in}
+use Rattle.journal_line.specs.Counts.{Kind, kind_of, one, count_in, counts_in}
 use Rattle.journal_line.proofs.CountLaws.{count_snoc}
 use Rattle.journal_line.specs.Reading.{Lines}
 use Rattle.journal_line.specs.Outcome.{recorded_as}
 use Rattle.journal_line.specs.Report.{total}
 use Rattle.book.specs.Calls.{Call, next, seed, answer, ask, Reply, candidate, over, refused, progress, stop, last, counts, counted}
 use Rattle.book.specs.Book.{Inputs, demand, Book, entries, number, current, run_best_of, opened, with_waiting, book_enter, Kept as Answer, book_next, book_seed, book_answer, book_result, book_progress, book_stop, book_last, last_of, tally, book_counts, book_call, reply_to, replies, after, line_of}
-use Rattle.book.proofs.Cases.{case_chosen, case_option}
+use Rattle.book.proofs.Cases.{case_result, case_chosen, case_option}
 use Rattle.book.proofs.Moves.{entry, enter_holds, await_holds}
 use Rattle.book.proofs.Good.{Good}
 use Rattle.book.proofs.Tally.{tally_total}
@@ -27,7 +27,7 @@ use Rattle.book_journal.proofs.Cut.{none_waits}
 
 -- ---- what a call replies, beside what it does: nothing and no answer, Next's candidate, or an outcome's reply
 abbrev pub Quiet : Reply → Type 0
-Quiet r = ((k : ℕ) → said k r ≡ 0) × (is_answer r ≡ 0) × (is_handing r ≡ 0)
+Quiet r = ((k : Kind) → said k r ≡ 0) × (is_answer r ≡ 0) × (is_handing r ≡ 0)
 
 pub data Says (b : Book) (k : Answer) : Type 0 where
   quiet : k.book ≡ b → Quiet k.reply → Says b k
@@ -50,9 +50,9 @@ says b (answer n f rows flags) =
     case b.waits
     (λ w. case (ltb n (demand b.inputs))
     (λ s. simp (w, s) (quiet refl no_answer))
-    (λ s. case (eqb (finding_refusal f (current b).sensor rows flags) 0)
-    (λ z. simp (w, s, z) (answers_with (outcome_of b.inputs.share f (current b).sensor b.inputs.center rows flags) w refl refl))
-    (λ z. simp (w, s, z) (quiet refl no_answer))))
+    (λ s. case_result (finding_refusal f (current b).sensor rows flags)
+    (λ u z. simp (w, s, z) (answers_with (outcome_of b.inputs.share f (current b).sensor b.inputs.center rows flags) w refl refl))
+    (λ r z. simp (w, s, z) (quiet refl no_answer))))
     (λ w. simp w (quiet refl no_answer))
 says b ask = case b.over (λ o. case_chosen (run_best_of b) (λ e. simp (o, e) (quiet refl no_answer)) (λ v e. simp (o, e) (quiet refl no_answer))) (λ o. simp o (quiet refl no_answer))
 says b progress = quiet refl no_answer
@@ -61,27 +61,27 @@ says b last = case_option (last_of (entries b)) (λ e. simp e (quiet refl no_ans
 says b counts = quiet refl no_answer
 
 -- ---- an outcome's reply
-reply_kind : (k : ℕ) (o : Outcome) → said k (reply_to o) ≡ one k (kind_of (recorded_as o))
-reply_kind k (Skipped n) = refl
-reply_kind k (Scored s) = refl
+reply_kind : (k : Kind) (o : Outcome) → said k (reply_to o) ≡ one k (kind_of (recorded_as o))
+reply_kind k (Ok s) = refl
+reply_kind k (Err reason) = refl
 
 pub reply_answers : (o : Outcome) → (is_answer (reply_to o) ≡ 1) × (is_handing (reply_to o) ≡ 0)
-reply_answers (Skipped n) = (refl, refl)
-reply_answers (Scored s) = (refl, refl)
+reply_answers (Ok s) = (refl, refl)
+reply_answers (Err reason) = (refl, refl)
 
 -- ---- one more entry
 pub lines_enter : (b : Book) (o : Outcome) → lines_of (book_enter b o) ≡ lines_of b ++ line_of (entry b o) ∷ []
 lines_enter b o = ap (map line_of) (enter_holds b o).0 ∙ map-append line_of (entries b) (entry b o ∷ [])
 
 -- is one more of its kind, as the run's record keeps the counts
-count_enter : (k : ℕ) (b : Book) (o : Outcome) → count_in k (lines_of (book_enter b o)) ≡ count_in k (lines_of b) + one k (kind_of (recorded_as o))
+count_enter : (k : Kind) (b : Book) (o : Outcome) → count_in k (lines_of (book_enter b o)) ≡ count_in k (lines_of b) + one k (kind_of (recorded_as o))
 count_enter k b o = ap (count_in k) (lines_enter b o) ∙ count_snoc k (lines_of b) (line_of (entry b o))
 
 -- ---- one call
 abbrev waiting : Book → ℕ
 waiting b = cond b.waits 1 0
 
-counts_call : (k : ℕ) (b : Book) (c : Call) → count_in k (lines_of b) + said k (book_call b c).reply ≡ count_in k (lines_of (book_call b c).book)
+counts_call : (k : Kind) (b : Book) (c : Call) → count_in k (lines_of b) + said k (book_call b c).reply ≡ count_in k (lines_of (book_call b c).book)
 counts_call k b c = go (book_call b c) (says b c)
   where
     go : (d : Answer) → Says b d → count_in k (lines_of b) + said k d.reply ≡ count_in k (lines_of d.book)
@@ -106,7 +106,7 @@ handed_call b c = go (book_call b c) (says b c)
     go d (answers_with o w e r) = rw (e, r, (reply_answers o).1, (enter_holds b o).0, (enter_holds b o).1, length-append (entries b) (entry b o ∷ []), w) (omega arith)
 
 -- ---- any calls
-counts_calls : (k : ℕ) (b : Book) (cs : List Call) → count_in k (lines_of b) + said_in k (replies b cs) ≡ count_in k (lines_of (after b cs))
+counts_calls : (k : Kind) (b : Book) (cs : List Call) → count_in k (lines_of b) + said_in k (replies b cs) ≡ count_in k (lines_of (after b cs))
 unfolding after replies said_in
 counts_calls k b [] = omega arith
 counts_calls k b (c ∷ cs) = let x = counts_call k b c in let y = counts_calls k (book_call b c).book cs in omega arith
@@ -122,12 +122,12 @@ handed_calls b [] = omega arith
 handed_calls b (c ∷ cs) = let x = handed_call b c in let y = handed_calls (book_call b c).book cs in omega arith
 
 -- ---- a refused call enters nothing
-refused_stays : (b : Book) (c : Call) (n : ℕ) → (book_call b c).reply ≡ refused n → (book_call b c).book ≡ b
+refused_stays : (b : Book) (c : Call) (n : Refusal) → (book_call b c).reply ≡ refused n → (book_call b c).book ≡ b
 refused_stays b c n h = go (book_call b c) (says b c) h
   where
     entered : (o : Outcome) → reply_to o ≡ refused n → ⊥
-    entered (Skipped m) e = let z : ◌≡◌ {A = ℕ} 0 1 = cc in omega arith
-    entered (Scored s) e = let z : ◌≡◌ {A = ℕ} 0 1 = cc in omega arith
+    entered (Ok s) e = let z : ◌≡◌ {A = ℕ} 0 1 = cc in omega arith
+    entered (Err reason) e = let z : ◌≡◌ {A = ℕ} 0 1 = cc in omega arith
 
     go : (d : Answer) → Says b d → d.reply ≡ refused n → d.book ≡ b
     go d (quiet e q) h = e
@@ -158,7 +158,7 @@ counts_agree i h =
     let o = opened_by i h.opening in
     let b = book_at h in
     let g = (kept_at i h).good in
-    let t : total (counts_in (lines_of b)) ≡ number b = unfold tally in tally_total b.inputs (entries b) g.core.proper in
+    let t : total (counts_in (lines_of b)) ≡ number b = unfold tally in tally_total (entries b) in
     record {
       tallied = λ k. sym (counts_calls k o h.calls);
       replied = counts_reply b;

@@ -1,10 +1,9 @@
 -- What Resume reports of any bytes; a run's journal, cut after any byte, loses only the line that the cut fell in, and the run goes on from the kept lines as if
 -- it had not stopped. Assumes nothing.
-use Rattle.std.proofs.Common.{ℕ, zero, suc, ◌+◌, ◌≤◌, arith, ◌≡◌, refl, sym, ap, ◌∙◌, Bool, true, false, cond, true≢false, List, [], ◌∷◌, ◌++◌, map, append_assoc, append-nil, eqb-true, eq-eqb, ne_eqb, eqb, length, take, drop, length-append, length-take, Float}
+use Rattle.std.proofs.Common.{ℕ, zero, suc, ◌+◌, ◌≤◌, arith, ◌≡◌, refl, sym, ap, ◌∙◌, Bool, true, false, cond, true≢false, List, [], ◌∷◌, ◌++◌, map, append_assoc, append-nil, eqb-true, eq-eqb, length, take, drop, length-append, length-take, Float}
 use borrow.Author.Tests.{eqb-false}
 use lib.ListN.{length-map}
 use lib.Seq.{take-append_seam, drop-append_seam}
-use Rattle.common.specs.Tests.{case}
 use Rattle.common.specs.All.{all_right}
 use Rattle.common.specs.Each.{All}
 use Rattle.seed_rules.specs.Layout.{written}
@@ -22,13 +21,14 @@ use Rattle.journal_replay.specs.Walk.{stop_at}
 use Rattle.journal_replay.specs.Resume.{is_cut_line, stopped_by, ended_by_of}
 use Rattle.book.specs.Book.{Inputs, Entry, Book, entries, first_list, opened, book_enter, line_of}
 use Rattle.book.specs.Conditions.{NoneHolds, conditions}
+use Rattle.book.proofs.Cases.{case_result}
 use Rattle.book.proofs.Moves.{entry, enter_holds}
 use Rattle.book_journal.specs.Lines.{lines_of, journal_of}
-use Rattle.book_journal.specs.Replay.{start_number, follows, Walked, walked, kept_of}
+use Rattle.book_journal.specs.Replay.{start_refused, follows, Walked, walked, kept_of}
 use Rattle.book_journal.specs.History.{History, book_at, InputsFit, CallFits, at_rest, entered_in}
 use Rattle.book_journal.specs.ReplayLaw.{kept_bytes}
 use Rattle.book_journal.specs.Resume.{rest_of, report_on, resumed, not_resumed, resume_of, ResumeRefuses, ResumeAccepts, GivesBack, CutAt}
-use Rattle.book_journal.proofs.Opening.{start_number_lem, none_refused}
+use Rattle.book_journal.proofs.Opening.{start_refused_lem, none_refused}
 use Rattle.book_journal.proofs.Walk.{walk_end, walked_keeps}
 use Rattle.book_journal.proofs.Kept.{Trail}
 use Rattle.book_journal.proofs.Again.{list_along, Sound, sound_at, sound_taken, lines_right, walk_whole}
@@ -180,19 +180,18 @@ module _ (i : Inputs) (l : List Float) (bs : List ℕ) where
 module _ (i : Inputs) (l : List Float) (bs : List ℕ) where
   pub resume_refuses : ResumeRefuses i l bs
   unfolding resume_of
-  resume_refuses n h = simp (((start_number_lem i (length l)).refuses n).1 h, ne_eqb (suc n) 0 (λ q. omega arith))
+  resume_refuses r h = rw (((start_refused_lem i (length l)).refuses r).1 h, resume_of)
 
   pub resume_accepts : ResumeAccepts i l bs
   unfolding resume_of
-  resume_accepts h = simp (none_refused i (length l) h)
+  resume_accepts h = rw (none_refused i (length l) h, resume_of)
 
   resumed_started : (b : Book) (m : List Float) (r : Report) → resume_of i l bs ≡ resumed b m r → NoneHolds (conditions i (length l))
   unfolding resume_of
   resumed_started b m r h =
-      let n = start_number i (length l) in
-      case (eqb n 0)
-      (λ e. (start_number_lem i (length l)).accepts.0 (eqb-true n 0 e))
-      (λ e. let q : not_resumed n l ≡ resumed b m r = simp e at h in let z : ◌≡◌ {A = ℕ} 0 1 = cc in absurd (omega arith))
+      case_result (start_refused i (length l))
+      (λ u e. (start_refused_lem i (length l)).accepts.0 e)
+      (λ s e. let q : not_resumed s l ≡ resumed b m r = rw (e, resume_of) at h in cc)
 
   resumed_same : (b c : Book) (m k : List Float) (r q : Report) → resumed b m r ≡ resumed c k q → (b ≡ c) × (m ≡ k) × (r ≡ q)
   resumed_same b c m k r q h = (cc, cc, cc)

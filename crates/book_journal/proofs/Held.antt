@@ -1,5 +1,5 @@
 -- The numbers in a run's book fit binary64, its seeds' and its outcomes', where Start's inputs and the host's findings do. Assumes nothing.
-use Rattle.std.proofs.Common.{ℕ, zero, suc, ◌-◌, ◌/◌, arith, ◌≡◌, refl, ap, subst, ⊎_elim, false, not, ◌&&◌, cond, List, [], ◌∷◌, ◌++◌, append-nil, ltb, eqb, pos, length, get_or, drop, Float}
+use Rattle.std.proofs.Common.{ℕ, zero, suc, ◌-◌, ◌/◌, arith, ◌≡◌, refl, ap, subst, ⊎_elim, false, not, ◌&&◌, cond, List, [], ◌∷◌, ◌++◌, append-nil, ltb, eqb, pos, length, get_or, drop, Float, Ok, Err}
 use Rattle.std.specs.Float.{nan, binary64}
 use Rattle.std.specs.Float.Ieee.{of_bits, lt, neg, of_int}
 use mathlib.Core.List.Memᴰ
@@ -27,8 +27,7 @@ use Rattle.score_outcome.specs.declared.SolvedCamera.{SolvedCamera}
 use Rattle.score_outcome.specs.declared.Finding.{Finding}
 use Rattle.score_outcome.specs.declared.Finding.TheVariants.{Failed, Solved}
 use Rattle.score_outcome.specs.declared.Scoring.{Scoring}
-use Rattle.score_outcome.specs.declared.Outcome.{Outcome}
-use Rattle.score_outcome.specs.declared.Outcome.TheVariants.{Skipped, Scored}
+use Rattle.score_outcome.specs.Reasons.{Outcome}
 use Rattle.score_outcome.specs.Evaluation.{solved_at, mean_with, scoring_of, evaluated, outcome_of, finding_refusal}
 use Rattle.score_outcome.proofs.Outcomes.{scored_passed}
 use Rattle.score_best.specs.declared.Candidate.{Candidate}
@@ -39,7 +38,7 @@ use Rattle.journal_line.specs.Line.{Fits, recorded_numbers, LineFits}
 use Rattle.journal_line.specs.Outcome.{recorded_as, outcome_in}
 use Rattle.book.specs.Calls.{Call, next, seed, answer, ask, progress, stop, last, counts}
 use Rattle.book.specs.Book.{Inputs, demand, Entry, Book, entries, no_seed, current, scored_of, round_best_of, run_best_of, or_else, first_list, list_around, opened, with_waiting, with_entry, with_round, with_end, book_enter, Kept, book_call, after}
-use Rattle.book.proofs.Cases.{case_outcome}
+use Rattle.book.proofs.Cases.{case_result}
 use Rattle.book.proofs.Moves.{entry, Closing, close_by, enter_by, entered_by, Moves, stays, hands, enters, moves}
 use Rattle.book.proofs.Good.{Good, all_at}
 use Rattle.book_journal.specs.Replay.{walked}
@@ -123,7 +122,7 @@ module _ (c : PinholeCamera) (t : ScheimpflugParams) (center : Pt2) (rows : List
   abbrev solved : SolvedCamera
   solved = solved_at c t
 
-  scoring_held : HeldOutcome (Scored (scoring_of solved t center rows flags))
+  scoring_held : HeldOutcome (Ok (scoring_of solved t center rows flags))
   unfolding scoring_of damped
   scoring_held = (
     score_fits (mean_with solved rows flags) (damped_camera c) t center,
@@ -149,8 +148,8 @@ module _ (c : PinholeCamera) (t : ScheimpflugParams) (center : Pt2) (rows : List
   evaluated_held share = go (evaluated share solved t center rows flags) refl
     where
       go : (o : Outcome) → evaluated share solved t center rows flags ≡ o → HeldOutcome o
-      go (Skipped n) e = tt
-      go (Scored g) e = subst (λ (x : Scoring). HeldOutcome (Scored x)) (scored_passed share solved t center rows flags g e).is scoring_held
+      go (Err reason) e = tt
+      go (Ok g) e = subst (λ (x : Scoring). HeldOutcome (Ok x)) (scored_passed share solved t center rows flags g e).is scoring_held
 
 finding_held : (share : ℕ) (f : Finding) (t : ScheimpflugParams) (center : Pt2) (rows : List Float) (flags : List ℕ) → FindingFits f → HeldOutcome (outcome_of share f t center rows flags)
 unfolding outcome_of
@@ -169,8 +168,10 @@ unfolding entered_by
 entered_held b (next n) o k e = absurd (no_entry b o e)
 entered_held b (seed n) o k e = absurd (no_entry b o e)
 entered_held b (answer n f rows flags) o k e =
-    case (b.waits && (not (ltb n (demand b.inputs)) && eqb (finding_refusal f (current b).sensor rows flags) 0))
-    (λ t. rw (same_outcome b (outcome_of b.inputs.share f (current b).sensor b.inputs.center rows flags) o (simp t at e)) at (finding_held b.inputs.share f (current b).sensor b.inputs.center rows flags k))
+    case (b.waits && not (ltb n (demand b.inputs)))
+    (λ t. case_result (finding_refusal f (current b).sensor rows flags)
+    (λ u z. rw (same_outcome b (outcome_of b.inputs.share f (current b).sensor b.inputs.center rows flags) o (simp (t, z) at e)) at (finding_held b.inputs.share f (current b).sensor b.inputs.center rows flags k))
+    (λ r z. absurd (no_entry b o (simp (t, z) at e))))
     (λ t. absurd (no_entry b o (simp t at e)))
 entered_held b ask o k e = absurd (no_entry b o e)
 entered_held b progress o k e = absurd (no_entry b o e)
@@ -198,9 +199,9 @@ unfolding scored_of
 scored_fits [] h = tt
 scored_fits (e ∷ es) h =
     let r = scored_fits es h.1 in
-    case_outcome e.outcome
-    (λ n q. simp (scored_of, q) r)
-    (λ s q. let k : HeldOutcome (Scored s) = rw q at h.0 in let f = k.1.1 in simp (scored_of, q) ((f.0, (f.1.0, (f.1.1.0, (f.1.1.1.0, tt)))), r))
+    case_result e.outcome
+    (λ s q. let k : HeldOutcome (Ok s) = rw q at h.0 in let f = k.1.1 in simp (scored_of, q) ((f.0, (f.1.0, (f.1.1.0, (f.1.1.1.0, tt)))), r))
+    (λ reason q. simp (scored_of, q) r)
 
 chosen_fits : (es : List Entry) (w : Candidate) → All HeldEntry es → best_of (scored_of es) ≡ chosen w → CameraFits w
 chosen_fits es w h e =

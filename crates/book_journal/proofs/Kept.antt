@@ -1,7 +1,7 @@
 -- The invariant of every run's book, however it was opened and whatever the calls: beside the book's own one, that its entries, entered one after the other in
 -- the book that Start opens, lead to it, each as it could be entered there. No number need fit binary64 for it. Assumes nothing.
 use Rattle.std.proofs.Common.{ℕ, ◌≡◌, refl, sym, ap, ◌∙◌, Bool, true, false, List, [], ◌∷◌, ◌++◌, append_assoc, append-nil, Float}
-use Rattle.score_outcome.specs.declared.Outcome.{Outcome}
+use Rattle.score_outcome.specs.Reasons.{Outcome}
 use Rattle.journal_line.specs.declared.Line.{Line}
 use Rattle.journal_line.specs.Line.{LineFits, Writable}
 use Rattle.journal_line.specs.Outcome.{outcome_in}

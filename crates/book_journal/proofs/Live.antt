@@ -1,6 +1,6 @@
 -- The buffer that a live run leaves is the plain one, call by call; and a run that goes with a walked journal's book answers every list of calls as that book.
 -- Assumes nothing.
-use Rattle.std.proofs.Common.{ℕ, zero, suc, ◌-◌, ◌*◌, ◌≤◌, arith, ◌≡◌, refl, sym, ap, ◌∙◌, ◌⊎◌, inl, inr, ⊎_elim, true, false, cond, List, [], ◌∷◌, ◌++◌, append_assoc, ltb-false, ne_eqb, ltb, eqb, length, take, drop, length-take, take-append-drop, Float}
+use Rattle.std.proofs.Common.{ℕ, zero, suc, ◌-◌, ◌*◌, ◌≤◌, arith, ◌≡◌, refl, sym, ap, ◌∙◌, ◌⊎◌, inl, inr, ⊎_elim, true, false, cond, List, [], ◌∷◌, ◌++◌, append_assoc, ltb-false, ne_eqb, ltb, eqb, length, take, drop, length-take, take-append-drop, Float, Ok, Err}
 use borrow.Author.Tests.{eqb-false}
 use lib.Seq.{drop-append-le}
 use Rattle.common.specs.Tests.{case}
@@ -8,34 +8,35 @@ use Rattle.common.specs.Each.{All}
 use Rattle.seed_rules.specs.declared.CandidateSeed.{CandidateSeed}
 use Rattle.seed_rules.specs.Layout.{laid, flat, written}
 use Rattle.score_outcome.specs.declared.Finding.{Finding}
-use Rattle.score_outcome.specs.declared.Outcome.{Outcome}
-use Rattle.score_outcome.specs.Evaluation.{finding_refusal, outcome_of}
+use Rattle.score_outcome.specs.Reasons.{Outcome}
+use Rattle.score_outcome.specs.Evaluation.{finding_refusal}
 use Rattle.score_best.specs.Best.{no_best}
 use Rattle.search_record.specs.declared.run.Run.{Run}
 use Rattle.search_answer.specs.Answer as ans
+use Rattle.search_answer.specs.AnswerLaws.{answer_refused, answer_enters}
+use Rattle.common.specs.declared.Refusal.{Refusal}
+use Rattle.common.specs.declared.Refusal.TheVariants.{ShortList, NoSeedWaits}
 use Rattle.book.specs.Calls.{Call, next, seed, answer, ask, progress, stop, last, counts}
-use Rattle.book.specs.Book.{Inputs, demand, Book, current, round_best_of, run_best_of, or_else, list_around, opened, with_waiting, with_entry, with_round, with_end, close_round, book_enter, Kept as Answer, book_answer, book_call}
+use Rattle.book.specs.Book.{Inputs, demand, Book, current, round_best_of, run_best_of, or_else, list_around, opened, with_waiting, with_entry, with_round, with_end, close_round, book_enter, book_outcome, unless, Kept as Answer, book_answer, book_call}
 use Rattle.book.specs.Conditions.{NoneHolds, conditions}
 use Rattle.book.specs.Walk.{run_call}
 use Rattle.book.specs.Trace as trace
-use Rattle.search_start.specs.declared.Started.TheVariants.{Accepted}
 use Rattle.book.specs.Lent.{Lent}
 use Rattle.book.specs.Theorem.{start_of, started_list}
-use Rattle.book.proofs.Cases.{case_chosen, case_list}
+use Rattle.book.proofs.Cases.{case_result, case_chosen, case_list}
 use Rattle.book.proofs.Moves.{outcome_stands, entered_by, Moves, stays, hands, enters, moves, call_by}
 use Rattle.book.proofs.Good.{Good, waits_going, steps}
-use Rattle.book.proofs.Lists.{short}
-use Rattle.book.proofs.RunOf.{run_of, State, run-fields, sound_run}
-use Rattle.book.proofs.Simulation.{run_seeds, open_run, run_else, enter_run, call_agrees}
+use Rattle.book.proofs.RunOf.{run_of, State, run-fields}
+use Rattle.book.proofs.Simulation.{refused_for, when_none_waits, when_short, when_long, outcome_agrees, run_seeds, open_run, run_else, enter_run, call_agrees}
 use Rattle.book.proofs.Starts.{accepted, list_is}
 use Rattle.book.proofs.Opening.{opens}
 use Rattle.book.proofs.Ending.{run_ends}
 use Rattle.book.proofs.Theorem.{follows}
-use Rattle.book_journal.specs.Replay.{start_number, buffer_after, walked}
+use Rattle.book_journal.specs.Replay.{start_refused, buffer_after, walked}
 use Rattle.book_journal.specs.History.{fresh, History, InputsFit, CallFits, list_under}
 use Rattle.book_journal.specs.ReplayLaw.{BufferOf}
 use Rattle.book_journal.specs.Live.{LiveBuffer, Continues, ContinuesToEnd}
-use Rattle.book_journal.proofs.Opening.{start_number_lem, room_enough}
+use Rattle.book_journal.proofs.Opening.{start_refused_lem, room_enough}
 use Rattle.book_journal.proofs.Kept.{kept_walked}
 use Rattle.book_journal.proofs.Held.{no_entry}
 use Rattle.book_journal.proofs.Buffer.{await_same, after_same, walked_buffer, run_again}
@@ -144,23 +145,24 @@ refused_list b l n = take-append-drop n l ∙ sym (after_same b b l refl)
 
 answer_list : (i : Inputs) (b : Book) (l : List Float) (n : ℕ) (f : Finding) (rows : List Float) (flags : List ℕ) → State i b l
     → (run_call (run_of b) l (answer n f rows flags)).list ≡ buffer_after b (book_answer b n f rows flags).book l
-unfolding run_call ans.answer_def ans.outcome_for book_answer
+unfolding run_call book_answer
 answer_list i b l n f rows flags g =
-    let d = short (demand b.inputs) l n g.there.long in
-    let t = sound_run i b g.good in
+    let m = take n l in
+    let refused_with = λ (e : Refusal) (h : refused_for i b l n f rows flags g ≡ Err e). answer_refused (run_of b) f rows flags m e h in
     case b.waits
     (λ w. case (ltb n (demand b.inputs))
-    (λ s. simp (run-fields, t, w, d, s) (refused_list b l n))
-    (λ s. case (eqb (finding_refusal f (current b).sensor rows flags) 0)
-    (λ z.
-    let o = outcome_of b.inputs.share f (current b).sensor b.inputs.center rows flags in
+    (λ s. simp (refused_with ShortList (when_short i b l n f rows flags g w s), unless, w, s) (refused_list b l n))
+    (λ s. case_result (finding_refusal f (current b).sensor rows flags)
+    (λ u z.
+    let o = book_outcome b f rows flags in
     let k = (steps i).enters_by b o (waits_going i b g.good w) (outcome_stands b.inputs f (current b).sensor rows flags) g.good in
     let room : 6 * length (book_enter b o).list ≤ demand b.inputs = rw (k.inputs_are ∙ sym g.good.inputs_are) at k.core.fits in
     let long = g.there.long in
     let lent = ltb-false n (demand b.inputs) s in
-    simp (run-fields, t, w, d, s, z) (ap (λ (x : List Float). x ++ drop n l) (enter_list b o (take n l) w) ∙ after_lent b (book_enter b o) l n (omega arith) (omega arith)))
-    (λ z. simp (run-fields, t, w, d, s, z) (refused_list b l n))))
-    (λ w. simp (run-fields, t, w) (refused_list b l n))
+    let e = answer_enters (run_of b) f rows flags m o (sym (outcome_agrees b f rows flags w)) (when_long i b l n f rows flags g w s ∙ z) in
+    simp (e, unless, w, s, z) (ap (λ (x : List Float). x ++ drop n l) (enter_list b o m w) ∙ after_lent b (book_enter b o) l n (omega arith) (omega arith)))
+    (λ r z. simp (refused_with r (when_long i b l n f rows flags g w s ∙ z), unless, w, s, z) (refused_list b l n))))
+    (λ w. simp (refused_with NoSeedWaits (when_none_waits i b l n f rows flags g w), unless, w) (refused_list b l n))
 
 call_list : (i : Inputs) (b : Book) (l : List Float) (c : Call) → State i b l → (run_call (run_of b) l c).list ≡ buffer_after b (book_call b c).book l
 unfolding run_call entered_by
@@ -188,8 +190,8 @@ live_list i b l (c ∷ cs) g =
     rw a.run (live_list i (book_call b c).book (run_call (run_of b) l c).list cs next_state ∙ ap (λ (z : List Float). list_under (book_call b c).book z cs) m)
 
 -- ---- 02, E5: the journal of a run that Start opened leaves the list as that run did
-pub start_accepts : (i : Inputs) (l : List Float) (r : Run) → start_of i l ≡ Accepted r → NoneHolds (conditions i (length l))
-start_accepts i l r h = (start_number_lem i (length l)).accepts.0 (unfold start_number in (accepted i l r h).0)
+pub start_accepts : (i : Inputs) (l : List Float) (r : Run) → start_of i l ≡ Ok r → NoneHolds (conditions i (length l))
+start_accepts i l r h = (start_refused_lem i (length l)).accepts.0 (unfold start_refused in (accepted i l r h).0)
 
 pub live_buffer : (i : Inputs) (l : List Float) (r : Run) (cs : List Call) → InputsFit i → All CallFits cs → LiveBuffer i l r cs
 live_buffer i l r cs f k h =

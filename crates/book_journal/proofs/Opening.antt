@@ -1,8 +1,8 @@
--- Start's own refusals by number, and what an accepted Start's book has. Assumes nothing.
-use Rattle.std.proofs.Common.{ℕ, suc, ◌≤◌, arith, ◌≡◌, List, ltb-true, ltb-false, ltb, length, replicate}
+-- Start's own refusals, and what an accepted Start's book has. Assumes nothing.
+use Rattle.std.proofs.Common.{ℕ, ◌≤◌, ◌≡◌, List, ltb-true, ltb-false, ltb, length, replicate, Ok}
 use lib.ListN.{length-replicate}
 use Rattle.common.specs.Tests.{case}
-use Rattle.common.specs.Refusal.{Check}
+use Rattle.common.specs.Checks.{Check}
 use Rattle.float.specs.Literals.{plus_zero}
 use Rattle.search_start.specs.Start.{start_checks}
 use Rattle.book.specs.Book.{Inputs, demand, opened}
@@ -12,24 +12,21 @@ use Rattle.book.proofs.Refusals.{first_holds, first_returned, none_returned, non
 use Rattle.book.proofs.Starts.{refusal}
 use Rattle.book.proofs.Good.{Good}
 use Rattle.book.proofs.Opening.{opened_state}
-use Rattle.book_journal.specs.Replay.{start_number}
-use Rattle.book_journal.specs.ReplayLaw.{StartNumber}
+use Rattle.book_journal.specs.Replay.{start_refused}
+use Rattle.book_journal.specs.ReplayLaw.{StartRefused}
 
 module _ (i : Inputs) (n : ℕ) where
   abbrev checks : List Check
   checks = start_checks i.views (options_of i) i.xs i.ys i.decomposition n
 
-  pub none_refused : NoneHolds (conditions i n) → start_number i n ≡ 0
-  unfolding start_number
+  pub none_refused : NoneHolds (conditions i n) → start_refused i n ≡ Ok tt
+  unfolding start_refused
   none_refused h = none_returned checks (conditions i n) (start_decided i n) h
 
-  pub start_number_lem : StartNumber i n
-  unfolding start_number
-  start_number_lem = record {
-    refuses = λ m. (
-      (λ e. first_holds checks (conditions i n) (start_decided i n) (suc m) e (omega arith)),
-      (λ h. (first_returned checks (conditions i n) (start_decided i n) (suc m) h).0),
-    );
+  pub start_refused_lem : StartRefused i n
+  unfolding start_refused
+  start_refused_lem = record {
+    refuses = λ r. ((λ e. first_holds checks (conditions i n) (start_decided i n) r e), (λ h. first_returned checks (conditions i n) (start_decided i n) r h));
     accepts = ((λ e. none_hold checks (conditions i n) (start_decided i n) e), none_refused);
   }
 
@@ -38,7 +35,7 @@ module _ (i : Inputs) (n : ℕ) where
   opened_good h =
       let l = replicate n plus_zero in
       let k : length l ≡ n = length-replicate n plus_zero in
-      let z : refusal i l ≡ 0 = rw k (none_returned checks (conditions i n) (start_decided i n) h) in
+      let z : refusal i l ≡ Ok tt = rw k (none_returned checks (conditions i n) (start_decided i n) h) in
       (opened_state i l z).good
 
   -- and the lent buffer is long enough

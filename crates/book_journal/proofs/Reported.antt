@@ -1,11 +1,10 @@
 -- The counts that the run's record keeps after any calls, and the report of them, are those of the lines in its journal, whether Start or Resume opened the run.
 -- Assumes nothing.
-use Rattle.std.proofs.Common.{ℕ, ◌≤◌, arith, ◌≡◌, refl, sym, ap, ◌∙◌, false, List, [], ◌++◌, le-ltb, ltb, length, take, drop, Float}
+use Rattle.std.proofs.Common.{ℕ, ◌≤◌, arith, ◌≡◌, refl, sym, ap, ◌∙◌, false, List, [], ◌++◌, le-ltb, ltb, length, take, drop, Float, Ok}
 use lib.ListN.{length-replicate}
 use lib.Seq.{take-append_seam}
 use Rattle.common.specs.Each.{All}
 use Rattle.journal_line.specs.declared.Counts.{Counts}
-use Rattle.journal_line.specs.declared.Written.TheVariants as written
 use Rattle.journal_line.specs.Counts.{counts_in}
 use Rattle.journal_line.specs.Reading.{read_journal, Lines}
 use Rattle.journal_line.specs.Report.{total, report_bytes, refuses_report, report_reply, report_into}
@@ -36,7 +35,7 @@ module _ (c : Counts) (h : total c ≤ 656) where
       let n : ltb (length small_buffer) 24 ≡ false = le-ltb (length small_buffer) 24 (omega (arith, length-replicate {A = ℕ} 24 0)) in
       rw (n, le-ltb 656 (total c) h)
 
-  replies_length : report_reply c small_buffer ≡ written.Length (length (report_bytes c))
+  replies_length : report_reply c small_buffer ≡ Ok (length (report_bytes c))
   unfolding report_reply
   replies_length = rw not_refused
 
@@ -58,7 +57,7 @@ report_right i b l cs t s =
     let w = walks i b l cs t in
     let g = w.state.good in
     let k : counts_def (run_after (run_of b) l cs) ≡ tally (entries d) = ap counts_def w.run_is ∙ counts_is i d g in
-    let n : total (tally (entries d)) ≤ 656 = rw (tally_total d.inputs (entries d) g.core.proper) (count_bound i d g) in
+    let n : total (tally (entries d)) ≤ 656 = rw (tally_total (entries d)) (count_bound i d g) in
     let e : tally (entries d) ≡ counts_in (read_journal (journal_of d)).lines = in_lines d ∙ ap (λ (z : Lines). counts_in z.lines) (sym (lines_right i d s).read_back) in
     record { kept = k ∙ e; is_written = ap (λ (c : Counts). report_of c (report_reply c small_buffer)) k ∙ writes_report (tally (entries d)) n ∙ ap report_bytes e }
 

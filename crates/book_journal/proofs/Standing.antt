@@ -1,6 +1,6 @@
 -- An outcome that may be entered can stand as a recorded line, and its line gives it back; a line that is read and follows a book is that of the entry which it
 -- makes. Assumes nothing.
-use Rattle.std.proofs.Common.{◌≡◌, refl, sym, ap, ◌∙◌, Bool, true, false, not, ◌&&◌, true≢false, List, [], ◌∷◌, eqb-true, eq-eqb, leb-true, eqb, leb, Float}
+use Rattle.std.proofs.Common.{◌≡◌, refl, sym, ap, ◌∙◌, Bool, true, false, not, ◌&&◌, true≢false, List, [], ◌∷◌, eqb-true, eq-eqb, eqb, leb, Float, Ok, Err}
 use Rattle.std.specs.Float.{binary64}
 use Rattle.std.specs.Float.Ieee.{of_bits, lt, is_nan}
 use borrow.Author.Tests.{not-true}
@@ -19,12 +19,10 @@ use Rattle.score_camera.specs.declared.pinhole.PinholeCamera.{PinholeCamera}
 use Rattle.score_camera.specs.Camera.{tangential_bound, finite_intrinsics, finite_distortion, valid_camera}
 use Rattle.score_camera.specs.Penalties.{distortion_penalty, tilt_penalty, centre_penalty, score_of}
 use Rattle.score_outcome.specs.declared.Scoring.{Scoring}
-use Rattle.score_outcome.specs.declared.Outcome.{Outcome}
-use Rattle.score_outcome.specs.declared.Outcome.TheVariants.{Skipped, Scored}
+use Rattle.score_outcome.specs.Reasons.{Outcome}
 use Rattle.score_outcome.specs.Facts.{ScoredFacts}
 use Rattle.journal_line.specs.declared.ScoredFields.{ScoredFields}
-use Rattle.journal_line.specs.declared.Recorded.{Recorded}
-use Rattle.journal_line.specs.declared.Recorded.TheVariants as line
+use Rattle.journal_line.specs.Outcome.{Recorded}
 use Rattle.journal_line.specs.declared.Line.{Line}
 use Rattle.journal_line.specs.Line.{recordable, writable, Writable, Fits, recorded_numbers, LineFits}
 use Rattle.journal_line.specs.Outcome.{fields_of, recorded_as, scoring_in, outcome_in}
@@ -72,10 +70,10 @@ scoring_back s e f g =
     ap (λ (a : Float). with a plus_zero plus_zero) (sym e) ∙ ap (λ (b : Float). with d.k1 b plus_zero) (sym f) ∙ ap (λ (c : Float). with d.k1 d.k2 c) (sym g)
 
 pub comes_back : (i : Inputs) (t : ScheimpflugParams) (o : Outcome) → Stands i t o → outcome_in (recorded_as o) ≡ o
-comes_back i t (Skipped n) h = refl
-comes_back i t (Scored s) h = ap Scored (scoring_back s h.k1_zero h.k2_zero h.k3_zero)
+comes_back i t (Err reason) h = refl
+comes_back i t (Ok s) h = ap Ok (scoring_back s h.k1_zero h.k2_zero h.k3_zero)
 
-scored_passes : (center : Pt2) (t : ScheimpflugParams) (s : Scoring) → ScoredFacts t center s → can_stand center t (recorded_as (Scored s)) ≡ true
+scored_passes : (center : Pt2) (t : ScheimpflugParams) (s : Scoring) → ScoredFacts t center s → can_stand center t (recorded_as (Ok s)) ≡ true
 unfolding can_be_scored is_mean within
 scored_passes center t s f =
     let c : (scoring_in (fields_of s)).camera ≡ s.camera = ap (λ (z : Scoring). z.camera) (scoring_back s f.k1_zero f.k2_zero f.k3_zero) in
@@ -84,15 +82,15 @@ scored_passes center t s f =
     (real_same s.score (score_of s.mean (scoring_in (fields_of s)).camera t center) (f.score_is ∙ ap (λ (x : PinholeCamera). score_of s.mean x t center) (sym c)))
 
 passes : (i : Inputs) (t : ScheimpflugParams) (o : Outcome) → Stands i t o → can_stand i.center t (recorded_as o) ≡ true
-passes i t (Skipped n) h = refl
-passes i t (Scored s) h = scored_passes i.center t s h
+passes i t (Err reason) h = refl
+passes i t (Ok s) h = scored_passes i.center t s h
 
 -- ---- what can stand may be entered
 pub score_fits : (mean : Float) (c : PinholeCamera) (t : ScheimpflugParams) (center : Pt2) → Fits (score_of mean c t center)
 unfolding score_of
 score_fits mean c t center = add-fits binary64 (mean +₆₄ distortion_penalty c.dist +₆₄ tilt_penalty t) (centre_penalty c.k center)
 
-scored_stands : (center : Pt2) (t : ScheimpflugParams) (m : ScoredFields) → is_nan m.score ≡ false → AllFit (recorded_numbers (line.Scored m)) → can_stand center t (line.Scored m) ≡ true
+scored_stands : (center : Pt2) (t : ScheimpflugParams) (m : ScoredFields) → is_nan m.score ≡ false → AllFit (recorded_numbers (Ok m)) → can_stand center t (Ok m) ≡ true
     → ScoredFacts t center (scoring_in m)
 unfolding can_be_scored is_mean valid_camera finite_intrinsics finite_distortion within
 scored_stands center t m n f h =
@@ -132,12 +130,12 @@ scored_stands center t m n f h =
 
 recorded_stands : (i : Inputs) (t : ScheimpflugParams) (r : Recorded) → recordable r ≡ true → AllFit (recorded_numbers r) → can_stand i.center t r ≡ true → Stands i t (outcome_in r)
 unfolding recordable
-recorded_stands i t (line.Skipped n) w f h = let p = both_true (leb 1 n) (leb n 4) w in (leb-true 1 n p.0, leb-true n 4 p.1)
-recorded_stands i t (line.Scored m) w f h = scored_stands i.center t m (not-true (is_nan m.score) w) f h
+recorded_stands i t (Err reason) w f h = tt
+recorded_stands i t (Ok m) w f h = scored_stands i.center t m (not-true (is_nan m.score) w) f h
 
 pub recorded_back : (r : Recorded) → recorded_as (outcome_in r) ≡ r
-recorded_back (line.Skipped n) = refl
-recorded_back (line.Scored m) = refl
+recorded_back (Ok m) = refl
+recorded_back (Err reason) = refl
 
 -- ---- a line beside a book
 recordable_of : (l : Line) → Writable l → recordable l.outcome ≡ true

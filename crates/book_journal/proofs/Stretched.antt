@@ -1,5 +1,5 @@
 -- The winner of the stretches' winners is the run's, however its answers or its journal's lines are cut and grouped. Assumes nothing.
-use Rattle.std.proofs.Common.{◌≡◌, refl, sym, ap, ◌∙◌, List, [], ◌∷◌, ◌++◌, map}
+use Rattle.std.proofs.Common.{◌≡◌, refl, sym, ap, ◌∙◌, List, [], ◌∷◌, ◌++◌, map, Ok, Err}
 use mathlib.Core.List.{flat_map}
 use Rattle.common.specs.Each.{All}
 use Rattle.score_outcome.specs.declared.Scoring.{Scoring}
@@ -8,13 +8,12 @@ use Rattle.score_best.specs.declared.Candidate.{Candidate}
 use Rattle.score_best.specs.Best.{Chosen, best_of, candidate_of}
 use Rattle.score_best.specs.Winners.{winner_of, joined}
 use Rattle.score_best.proofs.WinnerLaws as law
-use Rattle.journal_line.specs.declared.Recorded.{Recorded}
-use Rattle.journal_line.specs.declared.Recorded.TheVariants as line
+use Rattle.journal_line.specs.Outcome.{Recorded}
 use Rattle.journal_line.specs.declared.Line.{Line}
 use Rattle.journal_line.specs.Reading.{Lines, read_journal}
 use Rattle.journal_line.specs.Outcome.{fields_of, scoring_in}
 use Rattle.book.specs.Book.{Inputs, Entry, Book, entries, scored_of, run_best_of, line_of}
-use Rattle.book.proofs.Cases.{case_outcome}
+use Rattle.book.proofs.Cases.{case_result}
 use Rattle.book.proofs.Simulation.{scored_append}
 use Rattle.book.proofs.Good.{Proper}
 use Rattle.book_journal.specs.Lines.{journal_of}
@@ -70,8 +69,8 @@ scored_in_append [] ms = rw none_in
 scored_in_append (l ∷ ls) ms = more l.outcome refl (scored_in_append ls ms)
   where
     more : (r : Recorded) → l.outcome ≡ r → scored_in (ls ++ ms) ≡ scored_in ls ++ scored_in ms → scored_in (l ∷ (ls ++ ms)) ≡ scored_in (l ∷ ls) ++ scored_in ms
-    more (line.Skipped n) e ih = unfold scored_in in simp (scored_in, e) ih
-    more (line.Scored m) e ih = unfold scored_in in simp (scored_in, e) (ap (λ (z : List Candidate). candidate_of l.number l.seed.sensor (scoring_in m) ∷ z) ih)
+    more (Err reason) e ih = unfold scored_in in simp (scored_in, e) ih
+    more (Ok m) e ih = unfold scored_in in simp (scored_in, e) (ap (λ (z : List Candidate). candidate_of l.number l.seed.sensor (scoring_in m) ∷ z) ih)
 
 -- those of a run have its candidates
 scored_lines : (i : Inputs) (es : List Entry) → All (Proper i) es → scored_in (map line_of es) ≡ scored_of es
@@ -80,12 +79,12 @@ scored_lines i [] p = refl
 scored_lines i (e ∷ es) p =
     let ih = scored_lines i es p.1 in
     let back = comes_back i e.seed.sensor e.outcome p.0.stands in
-    case_outcome e.outcome
-    (λ n q. simp (scored_in, scored_of, q) ih)
+    case_result e.outcome
     (λ g q.
     let b : scoring_in (fields_of g) ≡ g = scored_same (scoring_in (fields_of g)) g (rw q at back) in
     simp (scored_in, scored_of, q)
     (ap (λ (x : Scoring). candidate_of e.number e.seed.sensor x ∷ scored_in (map line_of es)) b ∙ ap (λ (z : List Candidate). candidate_of e.number e.seed.sensor g ∷ z) ih))
+    (λ reason q. simp (scored_in, scored_of, q) ih)
 
 pub line_stretches_right : (i : Inputs) (h : History i) → InputsFit i → All CallFits h.calls → LineStretchesRight (book_at h)
 unfolding run_best_of

@@ -1,7 +1,7 @@
 -- Journals over the plain book: all of `specs/Theorem.antt`. Assumes nothing.
 use Rattle.book_journal.specs.History.{book_at}
 use Rattle.book_journal.specs.Theorem.{JournalsRight}
-use Rattle.book_journal.proofs.Opening.{start_number_lem}
+use Rattle.book_journal.proofs.Opening.{start_refused_lem}
 use Rattle.book_journal.proofs.Walk as walks
 use Rattle.book_journal.proofs.Again.{sound_at, lines_taken, lines_right}
 use Rattle.book_journal.proofs.Beside as beside
@@ -21,7 +21,7 @@ journals_right = record {
   lines_taken = lines_taken;
   written_is_journal = written_is_journal;
   lines_of_run = λ i h f. lines_right i (book_at h) (sound_at i h f.inputs_fit f.calls_fit);
-  start_first = start_number_lem;
+  start_first = start_refused_lem;
   start_refuses = replying.start_refuses;
   run_again = λ i h f l a. buffers.run_again i h f.inputs_fit f.calls_fit l a;
   live_buffer = live.live_buffer;

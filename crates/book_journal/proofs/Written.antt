@@ -1,11 +1,10 @@
 -- The lines written along a walk are the journal of the book. Assumes nothing.
-use Rattle.std.proofs.Common.{ℕ, arith, ◌≡◌, sym, ap, subst, ◌∙◌, true, false, List, [], ◌∷◌, ◌++◌, append_assoc, append-nil, le-ltb, ltb, length, take, drop, Float}
+use Rattle.std.proofs.Common.{ℕ, arith, ◌≡◌, sym, ap, subst, ◌∙◌, true, false, List, [], ◌∷◌, ◌++◌, append_assoc, append-nil, le-ltb, ltb, length, take, drop, Float, Ok}
 use mathlib.Core.Option.{some}
 use lib.ListN.{length-replicate}
 use lib.Seq.{take-append_seam}
-use Rattle.score_outcome.specs.declared.Outcome.{Outcome}
+use Rattle.score_outcome.specs.Reasons.{Outcome}
 use Rattle.journal_line.specs.declared.Line.{Line}
-use Rattle.journal_line.specs.declared.Written.TheVariants as written
 use Rattle.journal_line.specs.Line.{line_bytes, Writable, journal_bytes}
 use Rattle.journal_line.specs.Writing.{refuses_line, write_reply, write_into}
 use Rattle.journal_line.proofs.Fronts.{journal_append}
@@ -35,7 +34,7 @@ module _ (m : Line) (w : Writable m) where
   unfolding refuses_line
   not_refused = let n : ltb (length buffer) 256 ≡ false = le-ltb (length buffer) 256 (omega (arith, length-replicate {A = ℕ} 256 0)) in rw (n, w)
 
-  replies_length : write_reply m buffer ≡ written.Length (length (line_bytes m))
+  replies_length : write_reply m buffer ≡ Ok (length (line_bytes m))
   unfolding write_reply
   replies_length = rw not_refused
 

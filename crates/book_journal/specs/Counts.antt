@@ -1,7 +1,8 @@
 -- 02, E6: how many candidates were scored and how many skipped for each reason, over the lines of the journal, over replies and as the counts call gives them, and
 -- that these agree, as types. Definitions only.
-use Rattle.std.specs.Prelude.{ℕ, ◌+◌, ◌≤◌, ◌≡◌, cond, List, [], ◌∷◌}
-use Rattle.journal_line.specs.Counts.{one, count_in, counts_in}
+use Rattle.std.specs.Prelude.{ℕ, ◌+◌, ◌≤◌, ◌≡◌, cond, List, [], ◌∷◌, Some, None}
+use Rattle.common.specs.declared.Refusal.{Refusal}
+use Rattle.journal_line.specs.Counts.{Kind, one, count_in, counts_in}
 use Rattle.journal_line.specs.Reading.{read_journal}
 use Rattle.journal_line.specs.Report.{total}
 use Rattle.book.specs.Calls.{Call, Reply, candidate, over, part, scored, skipped, result, bar, stopped, line, no_line, refused, counts, counted}
@@ -10,21 +11,21 @@ use Rattle.book_journal.specs.Lines.{lines_of, journal_of}
 use Rattle.book_journal.specs.History.{opened_by, History, book_at}
 
 -- ---- by the replies: how many of kind k were answered, how many in all, and how many seeds were handed out
-abbrev pub said : ℕ → Reply → ℕ
+abbrev pub said : Kind → Reply → ℕ
 said k (candidate n) = 0
 said k over = 0
 said k (part xs) = 0
-said k (scored s) = one k 0
-said k (skipped reason) = one k reason
+said k (scored s) = one k None
+said k (skipped reason) = one k (Some reason)
 said k (result w) = 0
 said k (bar p) = 0
 said k (stopped c r) = 0
 said k (line l) = 0
 said k no_line = 0
 said k (counted c) = 0
-said k (refused n) = 0
+said k (refused r) = 0
 
-unfoldable pub said_in : ℕ → List Reply → ℕ
+unfoldable pub said_in : Kind → List Reply → ℕ
 said_in k [] = 0
 said_in k (r ∷ rs) = said k r + said_in k rs
 
@@ -40,7 +41,7 @@ is_answer (stopped c r) = 0
 is_answer (line l) = 0
 is_answer no_line = 0
 is_answer (counted c) = 0
-is_answer (refused n) = 0
+is_answer (refused r) = 0
 
 unfoldable pub answers_in : List Reply → ℕ
 answers_in [] = 0
@@ -58,7 +59,7 @@ is_handing (stopped c r) = 0
 is_handing (line l) = 0
 is_handing no_line = 0
 is_handing (counted c) = 0
-is_handing (refused n) = 0
+is_handing (refused r) = 0
 
 unfoldable pub handed_in : List Reply → ℕ
 handed_in [] = 0
@@ -67,7 +68,7 @@ handed_in (r ∷ rs) = is_handing r + handed_in rs
 -- ---- what holds of the counts of a history; those of a resumed one begin with the kept lines
 pub record CountsAgree (i : Inputs) (h : History i) : Type 0 where
   -- each count, by the replies
-  pub tallied : (k : ℕ) → count_in k (lines_of (book_at h)) ≡ count_in k (lines_of (opened_by i h.opening)) + said_in k (replies (opened_by i h.opening) h.calls)
+  pub tallied : (k : Kind) → count_in k (lines_of (book_at h)) ≡ count_in k (lines_of (opened_by i h.opening)) + said_in k (replies (opened_by i h.opening) h.calls)
   -- the counts call gives them
   pub replied : (book_call (book_at h) counts).reply ≡ counted (counts_in (lines_of (book_at h)))
   -- together they count the answers
@@ -77,8 +78,8 @@ pub record CountsAgree (i : Inputs) (h : History i) : Type 0 where
   -- so that the report is never refused for it
   pub few : total (counts_in (lines_of (book_at h))) ≤ 656
   -- a call that is refused enters nothing
-  pub refused_nowhere : (c : Call) (n : ℕ) → (book_call (book_at h) c).reply ≡ refused n → (book_call (book_at h) c).book ≡ book_at h
+  pub refused_nowhere : (c : Call) (r : Refusal) → (book_call (book_at h) c).reply ≡ refused r → (book_call (book_at h) c).book ≡ book_at h
 
 -- and they are those of the run's journal, line for line
 abbrev pub InJournal : {i : Inputs} → History i → Type 0
-InJournal h = (k : ℕ) → count_in k (lines_of (book_at h)) ≡ count_in k (read_journal (journal_of (book_at h))).lines
+InJournal h = (k : Kind) → count_in k (lines_of (book_at h)) ≡ count_in k (read_journal (journal_of (book_at h))).lines

@@ -1,7 +1,6 @@
 -- What ties the plain theory to the run's record and the lent list: the buffer that a live run leaves, and runs that Resume opens, as types. Definitions only.
-use Rattle.std.specs.Prelude.{◌≡◌, List, Float}
+use Rattle.std.specs.Prelude.{◌≡◌, List, Float, Ok}
 use Rattle.search_record.specs.declared.run.Run.{Run}
-use Rattle.search_start.specs.declared.Started.TheVariants.{Accepted}
 use Rattle.book.specs.Calls.{Call}
 use Rattle.book.specs.Book.{Inputs, Book, entries, number, opened, after}
 use Rattle.book.specs.Trace.{list_after}
@@ -12,7 +11,7 @@ use Rattle.book_journal.specs.Replay.{replay_of}
 
 -- ---- the journal of a run that Start opened with a list l, run again with l, leaves the list as that run did
 abbrev pub LiveBuffer : Inputs → List Float → Run → List Call → Type 0
-LiveBuffer i l r cs = start_of i l ≡ Accepted r → (replay_of i l (journal_of (after (opened i) cs))).list ≡ list_after r (started_list i l) cs
+LiveBuffer i l r cs = start_of i l ≡ Ok r → (replay_of i l (journal_of (after (opened i) cs))).list ≡ list_after r (started_list i l) cs
 
 -- ---- What demand 3 says of a run that Start opened (`Follows`), of a run r and a list m as the plain book b has them, no seed waiting: with b's own entries before the
 -- answers. So of the winner's mean: it is a kept line's, or rests on the share.

@@ -1,6 +1,8 @@
 -- 02, E5: running a journal again. Its lines are walked against the plain book, each recorded outcome entered as Answer's would be; what is replied, and the
 -- seed buffer afterwards. Definitions only.
-use Rattle.std.specs.Prelude.{ℕ, suc, Bool, true, false, not, ◌&&◌, cond, List, [], ◌∷◌, eqb, length, take, Float}
+use Rattle.std.specs.Prelude.{ℕ, suc, Bool, true, false, not, ◌&&◌, cond, List, [], ◌∷◌, eqb, length, take, Float, Result, Ok, Err, ⊤}
+use Rattle.common.specs.declared.Refusal.{Refusal}
+use Rattle.common.specs.declared.Refusal.TheVariants.{NothingScored}
 use Rattle.seed_rules.specs.Layout.{six, written}
 use Rattle.score_best.specs.Best.{Chosen, nothing, chosen}
 use Rattle.search_start.specs.Start.{start_refusal}
@@ -10,17 +12,19 @@ use Rattle.journal_line.specs.Outcome.{outcome_in}
 use Rattle.journal_line.specs.Reading.{read_journal}
 use Rattle.journal_replay.specs.declared.Stop.{Stop}
 use Rattle.journal_replay.specs.declared.Stop.TheVariants.{NotTheRun}
-use Rattle.journal_replay.specs.declared.Replayed.{Replayed}
-use Rattle.journal_replay.specs.declared.Replayed.TheVariants.{Winner, Unfinished, Refused}
+use Rattle.journal_replay.specs.declared.Standing.{Standing}
+use Rattle.journal_replay.specs.declared.Standing.TheVariants.{Winner, Unfinished}
+use Rattle.journal_replay.specs.declared.ReplayRefusal.{ReplayRefusal}
+use Rattle.journal_replay.specs.declared.ReplayRefusal.TheVariants.{Refused}
 use Rattle.journal_replay.specs.Stand.{same_reals, can_stand}
 use Rattle.journal_replay.specs.Walk.{stop_at}
 use Rattle.journal_replay.specs.Replay.{reply_by, ReplayLeft}
 use Rattle.book.specs.Book.{Inputs, Book, number, current, run_best_of, first_list, opened, book_enter}
 use Rattle.book.specs.Theorem.{options_of}
 
--- ---- Start's own refusals come first: the number of the first, 0 for none, where n numbers are lent
-unfoldable pub start_number : Inputs → ℕ → ℕ
-start_number i n = start_refusal i.views (options_of i) i.xs i.ys i.decomposition n
+-- ---- Start's own refusals come first, where n numbers are lent
+unfoldable pub start_refused : Inputs → ℕ → Result ⊤ Refusal
+start_refused i n = start_refusal i.views (options_of i) i.xs i.ys i.decomposition n
 
 -- ---- a line beside the book
 -- The line can be the answer to the seed that the book hands out next: number, round and seed are its own. None can once the run is over.
@@ -59,22 +63,24 @@ walked i l bs = let r = read_journal bs in walk_from (opened i) (written (first_
 abbrev pub kept_of : List ℕ → Walked → List ℕ
 kept_of bs w = journal_bytes (take w.taken (read_journal bs).lines)
 
--- ---- the reply: who won, and with which score; the seed that comes next in a run that hasn't ended; 11 for one that ended without a winner, or Start's own number;
--- 29 or 30, and the number of the line, from 1
-abbrev pub winner_or11 : Chosen → Replayed
-winner_or11 nothing = Refused 11
-winner_or11 (chosen w) = Winner w.number w.score
+-- ---- the reply: who won, and with which score; the seed that comes next in a run that hasn't ended; or what is refused: a run that ended without a winner, or
+-- what Start refuses, or a line, with its number, from 1
+abbrev pub winner_or_none : Chosen → Result Standing Refusal
+winner_or_none nothing = Err NothingScored
+winner_or_none (chosen w) = Ok (Winner w.number w.score)
 
 -- where a run stands
-unfoldable pub standing : Book → Replayed
-standing b = cond b.over (winner_or11 (run_best_of b)) (Unfinished (current b))
+unfoldable pub standing : Book → Result Standing Refusal
+standing b = cond b.over (winner_or_none (run_best_of b)) (Ok (Unfinished (current b)))
 
-abbrev pub reply_to : Walked → Replayed
+abbrev pub reply_to : Walked → Result Standing ReplayRefusal
 reply_to w = reply_by w.stop w.taken (standing w.book)
 
 -- the reply, and the seed buffer as the lines before it left it; after Start's own refusals as it was lent
 unfoldable pub replay_of : Inputs → List Float → List ℕ → ReplayLeft
 replay_of i l bs =
-    let n = start_number i (length l) in
     let w = walked i l bs in
-    cond (eqb n 0) (record { reply = reply_to w; list = w.list }) (record { reply = Refused n; list = l })
+    elim (start_refused i (length l)) [
+      | Ok nothing_refused ↦ record { reply = reply_to w; list = w.list }
+      | Err refusal ↦ record { reply = Err (Refused refusal); list = l }
+    ]

@@ -1,27 +1,29 @@
 -- 02, E2 and E5: what holds of the journal of a run and of running a journal again, as types. proofs/ proves them. Definitions only.
-use Rattle.std.specs.Prelude.{ℕ, suc, ◌*◌, ◌≤◌, ◌≡◌, ◌↔◌, ◌⊎◌, false, List, ◌∷◌, ◌++◌, length, take, drop, Float}
+use Rattle.std.specs.Prelude.{ℕ, suc, ◌*◌, ◌≤◌, ◌≡◌, ◌↔◌, ◌⊎◌, false, List, ◌∷◌, ◌++◌, length, take, drop, Float, Ok, Err}
+use Rattle.common.specs.declared.Refusal.{Refusal}
+use Rattle.common.specs.declared.Refusal.TheVariants as refusal
 use Rattle.common.specs.Each.{All}
 use Rattle.seed_rules.specs.Layout.{flat}
 use Rattle.score_outcome.specs.declared.Scoring.{Scoring}
-use Rattle.score_outcome.specs.declared.Outcome.TheVariants.{Scored}
 use Rattle.score_outcome.specs.Facts.{ScoredFacts}
 use Rattle.score_best.specs.declared.Candidate.{Candidate}
 use Rattle.journal_line.specs.declared.Line.{Line}
 use Rattle.journal_line.specs.Line.{LineFits}
 use Rattle.journal_line.specs.Reading.{line_number_of, ended, refused, read_journal}
 use Rattle.journal_replay.specs.declared.Stop.TheVariants.{AllTaken, NotOfForm, NotTheRun}
-use Rattle.journal_replay.specs.declared.Replayed.TheVariants.{Refused, RefusedAt}
+use Rattle.journal_replay.specs.declared.ReplayRefusal.TheVariants.{Refused, At}
+use Rattle.journal_replay.specs.Replay.{of_no_line}
 use Rattle.book.specs.Book.{Inputs, demand, Entry, Book, entries, number}
 use Rattle.book.specs.Conditions.{FirstHolds, NoneHolds, conditions}
 use Rattle.book.specs.Theorem.{Wins}
 use Rattle.book_journal.specs.Lines.{lines_of, journal_of}
-use Rattle.book_journal.specs.Replay.{start_number, follows, walked, kept_of, standing, replay_of}
+use Rattle.book_journal.specs.Replay.{start_refused, follows, walked, kept_of, standing, replay_of}
 use Rattle.book_journal.specs.History.{History, book_at, list_at, at_rest}
 
--- ---- Start's own refusals come first: the number is that of the first condition that holds, 0 where none does
-pub record StartNumber (i : Inputs) (n : ℕ) : Type 0 where
-  pub refuses : (m : ℕ) → (start_number i n ≡ suc m) ↔ FirstHolds (conditions i n) (suc m)
-  pub accepts : (start_number i n ≡ 0) ↔ NoneHolds (conditions i n)
+-- ---- Start's own refusals come first: that of the first condition that holds, and none where none does
+pub record StartRefused (i : Inputs) (n : ℕ) : Type 0 where
+  pub refuses : (r : Refusal) → (start_refused i n ≡ Err r) ↔ FirstHolds (conditions i n) r
+  pub accepts : (start_refused i n ≡ Ok tt) ↔ NoneHolds (conditions i n)
 
 -- ---- E2: a run's lines, whose numbers are binary64's, are those that the reader gives of its journal
 pub record LinesOfRun (b : Book) : Type 0 where
@@ -33,8 +35,8 @@ pub record RunAgain (i : Inputs) (h : History i) (l : List Float) : Type 0 where
   pub all_lines : (walked i l (journal_of (book_at h))).stop ≡ AllTaken
   -- the book is the run's, but that no seed waits: so are its lists, its entries and its best
   pub same_book : (walked i l (journal_of (book_at h))).book ≡ at_rest (book_at h)
-  -- the reply is the run's winner, 11, or Unfinished with the seed that waits or that Next hands out
-  pub same_standing : (replay_of i l (journal_of (book_at h))).reply ≡ standing (book_at h)
+  -- the reply is the run's winner, that it has none, or Unfinished with the seed that waits or that Next hands out
+  pub same_standing : (replay_of i l (journal_of (book_at h))).reply ≡ of_no_line (standing (book_at h))
   -- the seed buffer is as the run, lent the same one, left it
   pub same_buffer : (replay_of i l (journal_of (book_at h))).list ≡ list_at h l
 
@@ -57,7 +59,7 @@ pub record Accepted (i : Inputs) (l : List Float) (bs : List ℕ) (n : ℕ) (s :
 
 -- ---- of an S line what holds of a scored finding: its camera, coefficients and mean, and that its score is the one which these, seed and centre give
 abbrev pub ScoredHold : Inputs → Entry → Type 0
-ScoredHold i e = (g : Scoring) → e.outcome ≡ Scored g → ScoredFacts e.seed.sensor i.center g
+ScoredHold i e = (g : Scoring) → e.outcome ≡ Ok g → ScoredFacts e.seed.sensor i.center g
 
 -- ---- What the walk says of a journal is what the reader says of it.
 pub record SameAsReader (i : Inputs) (l : List Float) (bs : List ℕ) : Type 0 where
@@ -75,18 +77,18 @@ pub record SameAsReader (i : Inputs) (l : List Float) (bs : List ℕ) : Type 0 w
 -- ---- A line that can't be walked: 29 only where the reader refuses it, with the reader's number; 30 where it is read and can't follow the book of those before. The
 -- number is that of the line, from 1.
 pub record Declines (i : Inputs) (l : List Float) (bs : List ℕ) : Type 0 where
-  pub at_29 : (k : ℕ) → (replay_of i l bs).reply ≡ RefusedAt 29 k → (read_journal bs).ending ≡ refused k
-  pub at_30 : (k : ℕ) → (replay_of i l bs).reply ≡ RefusedAt 30 k
+  pub at_29 : (k : ℕ) → (replay_of i l bs).reply ≡ Err (At refusal.NotOfForm k) → (read_journal bs).ending ≡ refused k
+  pub at_30 : (k : ℕ) → (replay_of i l bs).reply ≡ Err (At refusal.NotTheRun k)
       → (m : Line) × (ms : List Line) × ((read_journal bs).lines ≡ lines_of (walked i l bs).book ++ m ∷ ms) × (follows (walked i l bs).book m ≡ false)
       × (k ≡ suc (length (lines_of (walked i l bs).book)))
-  pub no_others : (n k : ℕ) → (replay_of i l bs).reply ≡ RefusedAt n k → (n ≡ 29) ⊎ (n ≡ 30)
+  pub no_others : (r : Refusal) (k : ℕ) → (replay_of i l bs).reply ≡ Err (At r k) → (r ≡ refusal.NotOfForm) ⊎ (r ≡ refusal.NotTheRun)
   -- any other reply, where Start refuses nothing: every line is read and entered, and the reply is how the book stands
-  pub else_all_read : NoneHolds (conditions i (length l)) → ((n k : ℕ) → (replay_of i l bs).reply ≡ RefusedAt n k → ⊥)
-      → (read_journal bs ≡ record { lines = lines_of (walked i l bs).book; ending = ended }) × ((replay_of i l bs).reply ≡ standing (walked i l bs).book)
+  pub else_all_read : NoneHolds (conditions i (length l)) → ((r : Refusal) (k : ℕ) → (replay_of i l bs).reply ≡ Err (At r k) → ⊥)
+      → (read_journal bs ≡ record { lines = lines_of (walked i l bs).book; ending = ended }) × ((replay_of i l bs).reply ≡ of_no_line (standing (walked i l bs).book))
 
 -- Start's own refusals come before any line, and leave the buffer as it was lent.
 abbrev pub StartRefuses : Inputs → List Float → List ℕ → Type 0
-StartRefuses i l bs = (n : ℕ) → FirstHolds (conditions i (length l)) (suc n) → replay_of i l bs ≡ record { reply = Refused (suc n); list = l }
+StartRefuses i l bs = (r : Refusal) → FirstHolds (conditions i (length l)) r → replay_of i l bs ≡ record { reply = Err (Refused r); list = l }
 
 -- ---- What the walk keeps of a journal: its longest front that is walked to the end. It alone leads to the same book and the same buffer, so the buffer after a
 -- refused line is that of the lines before it.

@@ -1,14 +1,12 @@
 -- 02, E6: the report that a host writes which asks for the counts after some calls and hands them to the report's writer, and that it is right, as types.
 -- Definitions only.
-use Rattle.std.specs.Prelude.{ℕ, ◌≡◌, List, [], length, take, replicate, Float}
+use Rattle.std.specs.Prelude.{ℕ, ◌≡◌, List, [], length, take, replicate, Float, Result, Ok, Err}
+use Rattle.common.specs.declared.Refusal.{Refusal}
 use Rattle.journal_line.specs.declared.Counts.{Counts}
-use Rattle.journal_line.specs.declared.Written.{Written}
-use Rattle.journal_line.specs.declared.Written.TheVariants as written
 use Rattle.journal_line.specs.Counts.{counts_in}
 use Rattle.journal_line.specs.Reading.{read_journal}
 use Rattle.journal_line.specs.Report.{report_bytes, report_reply, report_into}
 use Rattle.search_record.specs.declared.run.Run.{Run}
-use Rattle.search_start.specs.declared.Started.TheVariants.{Accepted}
 use Rattle.search_calls.specs.Counts.{counts_def}
 use Rattle.book.specs.Calls.{Call}
 use Rattle.book.specs.Book.{Inputs, Book, opened, after}
@@ -23,9 +21,9 @@ use Rattle.book_journal.specs.Replay.{walked}
 abbrev pub small_buffer : List ℕ
 small_buffer = replicate 24 0
 
-abbrev pub report_of : Counts → Written → List ℕ
-report_of c (written.Length n) = take n (report_into c small_buffer)
-report_of c (written.Refused n) = []
+abbrev pub report_of : Counts → Result ℕ Refusal → List ℕ
+report_of c (Ok n) = take n (report_into c small_buffer)
+report_of c (Err refusal) = []
 
 -- the report after some calls
 abbrev pub reported : Run → List Float → List Call → List ℕ
@@ -38,7 +36,7 @@ pub record ReportRight (r : Run) (l : List Float) (cs : List Call) (b : Book) : 
 
 -- of a run that Start opened, and of one that Resume gave back
 abbrev pub WrittenReport : Inputs → List Float → Run → List Call → Type 0
-WrittenReport i l r cs = start_of i l ≡ Accepted r → ReportRight r (started_list i l) cs (after (opened i) cs)
+WrittenReport i l r cs = start_of i l ≡ Ok r → ReportRight r (started_list i l) cs (after (opened i) cs)
 
 abbrev pub ResumedReport : Inputs → List Float → List ℕ → List Call → Type 0
 ResumedReport i l bs cs = let w = walked i l bs in NoneHolds (conditions i (length l)) → ReportRight (run_of w.book) w.list cs (after w.book cs)

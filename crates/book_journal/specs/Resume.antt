@@ -1,5 +1,6 @@
 -- 02, E13: going on from a journal that stops anywhere: the front that is kept, what ended it, and that the run goes on as if it had not stopped. Definitions only.
-use Rattle.std.specs.Prelude.{ℕ, suc, ◌+◌, ◌≤◌, ◌≡◌, false, cond, List, [], ◌∷◌, ◌++◌, eqb, length, take, drop, Float}
+use Rattle.std.specs.Prelude.{ℕ, ◌+◌, ◌≤◌, ◌≡◌, false, cond, List, [], ◌∷◌, ◌++◌, length, take, drop, Float, Ok, Err}
+use Rattle.common.specs.declared.Refusal.{Refusal}
 use Rattle.journal_line.specs.declared.Line.{Line}
 use Rattle.journal_line.specs.Line.{line_bytes, LineFits, Writable, journal_bytes}
 use Rattle.journal_line.specs.Reading.{newlines}
@@ -12,7 +13,7 @@ use Rattle.book.specs.Calls.{Call, next}
 use Rattle.book.specs.Book.{Inputs, demand, Book, entries, number, opened, replies, after}
 use Rattle.book.specs.Conditions.{FirstHolds, NoneHolds, conditions}
 use Rattle.book_journal.specs.Lines.{lines_of, journal_of}
-use Rattle.book_journal.specs.Replay.{start_number, follows, Walked, walked, kept_of}
+use Rattle.book_journal.specs.Replay.{start_refused, follows, Walked, walked, kept_of}
 use Rattle.book_journal.specs.History.{from, opened_by, History, book_at, list_at, at_rest, entered_in}
 use Rattle.book_journal.specs.ReplayLaw.{BufferOf}
 
@@ -33,17 +34,16 @@ report_on bs w = record {
 -- ---- the reply: Start's own refusals, which leave the buffer as it was lent; or the run, as its plain book, and the buffer as the kept lines leave them
 pub data Resumed : Type 0 where
   resumed : Book → List Float → Report → Resumed
-  not_resumed : ℕ → List Float → Resumed
+  not_resumed : Refusal → List Float → Resumed
 
 unfoldable pub resume_of : Inputs → List Float → List ℕ → Resumed
 resume_of i l bs =
-    let n = start_number i (length l) in
     let w = walked i l bs in
-    cond (eqb n 0) (resumed w.book w.list (report_on bs w)) (not_resumed n l)
+    elim (start_refused i (length l)) [ Ok nothing_refused ↦ resumed w.book w.list (report_on bs w) | Err refusal ↦ not_resumed refusal l ]
 
 -- Start's own refusals come first, and leave the buffer as it was lent; all else is accepted
 abbrev pub ResumeRefuses : Inputs → List Float → List ℕ → Type 0
-ResumeRefuses i l bs = (n : ℕ) → FirstHolds (conditions i (length l)) (suc n) → resume_of i l bs ≡ not_resumed (suc n) l
+ResumeRefuses i l bs = (r : Refusal) → FirstHolds (conditions i (length l)) r → resume_of i l bs ≡ not_resumed r l
 
 abbrev pub ResumeAccepts : Inputs → List Float → List ℕ → Type 0
 ResumeAccepts i l bs = NoneHolds (conditions i (length l)) → resume_of i l bs ≡ resumed (walked i l bs).book (walked i l bs).list (report_on bs (walked i l bs))

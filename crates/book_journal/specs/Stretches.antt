@@ -1,12 +1,11 @@
 -- 02, E14: winners of stretches of a run's answers, and of a journal's lines, as types. Definitions only.
-use Rattle.std.specs.Prelude.{◌≡◌}
+use Rattle.std.specs.Prelude.{◌≡◌, Ok, Err}
 use mathlib.Core.List.{List, [], ◌∷◌, map, foldr}
 use Rattle.common.specs.Each.{All}
 use Rattle.score_best.specs.declared.Candidate.{Candidate}
 use Rattle.score_best.specs.Best.{Chosen, nothing, best_of, held, candidate_of}
 use Rattle.score_best.specs.Winners.{winner_of_two, winner_of_bests, winner_of, joined}
 use Rattle.score_best.proofs.WinnerLaws.{IsNumber}
-use Rattle.journal_line.specs.declared.Recorded.TheVariants as line
 use Rattle.journal_line.specs.declared.Line.{Line}
 use Rattle.journal_line.specs.Reading.{read_journal}
 use Rattle.journal_line.specs.Outcome.{scoring_in}
@@ -20,7 +19,7 @@ stretch_winner es = best_of (scored_of es)
 -- and of a stretch of lines
 unfoldable pub scored_in : List Line → List Candidate
 scored_in [] = []
-scored_in (l ∷ ls) = elim l.outcome [ line.Skipped reason ↦ scored_in ls | line.Scored m ↦ candidate_of l.number l.seed.sensor (scoring_in m) ∷ scored_in ls ]
+scored_in (l ∷ ls) = elim l.outcome [ Ok m ↦ candidate_of l.number l.seed.sensor (scoring_in m) ∷ scored_in ls | Err reason ↦ scored_in ls ]
 
 abbrev pub line_winner : List Line → Chosen
 line_winner ls = best_of (scored_in ls)

@@ -1,9 +1,9 @@
 -- All that is proved of journals over the plain book, as one type. `proofs/Theorem.antt` proves it. Definitions only.
-use Rattle.std.specs.Prelude.{ℕ, ◌≤◌, ◌≡◌, List, ◌++◌, length, Float}
+use Rattle.std.specs.Prelude.{ℕ, ◌≤◌, ◌≡◌, List, ◌++◌, length, Float, Ok}
 use Rattle.common.specs.Each.{All}
 use Rattle.search_record.specs.declared.run.Run.{Run}
 use Rattle.journal_line.specs.Line.{Writable}
-use Rattle.journal_replay.specs.declared.Replayed.TheVariants.{Winner}
+use Rattle.journal_replay.specs.declared.Standing.TheVariants.{Winner}
 use Rattle.journal_replay.specs.declared.Report.{Report}
 use Rattle.book.specs.Calls.{Call}
 use Rattle.book.specs.Book.{Inputs, Book, number}
@@ -13,7 +13,7 @@ use Rattle.book.proofs.RunOf.{run_of}
 use Rattle.book_journal.specs.Lines.{lines_of}
 use Rattle.book_journal.specs.Replay.{walked, replay_of}
 use Rattle.book_journal.specs.History.{opened_by, History, book_at, list_at, InputsFit, CallFits}
-use Rattle.book_journal.specs.ReplayLaw.{StartNumber, LinesOfRun, RunAgain, BufferOf, Accepted, SameAsReader, Declines, StartRefuses, FrontAlone}
+use Rattle.book_journal.specs.ReplayLaw.{StartRefused, LinesOfRun, RunAgain, BufferOf, Accepted, SameAsReader, Declines, StartRefuses, FrontAlone}
 use Rattle.book_journal.specs.Resume.{resumed, resume_of, ResumeRefuses, ResumeAccepts, GivesBack, CutAt, cut_run, uncut, GoesOn, GoesOnSomewhere, EntersOn, JournalGrows}
 use Rattle.book_journal.specs.Counts.{CountsAgree, InJournal}
 use Rattle.book_journal.specs.Stretches.{Groups, StretchesRight, LineStretchesRight}
@@ -33,11 +33,11 @@ pub record JournalsRight : Type 0 where
   -- the bytes that a host writes after each accepted Answer are the journal of the run
   pub written_is_journal : (i : Inputs) (l : List Float) (r : Run) (cs : List Call) → WrittenIsJournal i l r cs
   -- ---- E5
-  pub start_first : (i : Inputs) (n : ℕ) → StartNumber i n
+  pub start_first : (i : Inputs) (n : ℕ) → StartRefused i n
   pub start_refuses : (i : Inputs) (l : List Float) (bs : List ℕ) → StartRefuses i l bs
   pub run_again : (i : Inputs) (h : History i) → Fitting i h → (l : List Float) → NoneHolds (conditions i (length l)) → RunAgain i h l
   pub live_buffer : (i : Inputs) (l : List Float) (r : Run) (cs : List Call) → InputsFit i → All CallFits cs → LiveBuffer i l r cs
-  pub accepted : (i : Inputs) (l : List Float) (bs : List ℕ) → InputsFit i → (n : ℕ) (s : Float) → (replay_of i l bs).reply ≡ Winner n s → Accepted i l bs n s
+  pub accepted : (i : Inputs) (l : List Float) (bs : List ℕ) → InputsFit i → (n : ℕ) (s : Float) → (replay_of i l bs).reply ≡ Ok (Winner n s) → Accepted i l bs n s
   pub declines : (i : Inputs) (l : List Float) (bs : List ℕ) → InputsFit i → Declines i l bs
   pub same_as_reader : (i : Inputs) (l : List Float) (bs : List ℕ) → InputsFit i → NoneHolds (conditions i (length l)) → SameAsReader i l bs
   pub front_alone : (i : Inputs) (l : List Float) (bs : List ℕ) → FrontAlone i l bs

@@ -1,5 +1,5 @@
 -- A run of two candidates and its journal, worked out: what replay and Resume say of it, whole, damaged and cut. Proved by computing. Assumes nothing.
-use Rattle.std.specs.Prelude.{ℕ, ◌≡◌, refl, false, List, [], ◌∷◌, ◌++◌, take, replicate, Float}
+use Rattle.std.specs.Prelude.{ℕ, ◌≡◌, refl, false, List, [], ◌∷◌, ◌++◌, take, replicate, Float, Ok, Err}
 use Rattle.std.specs.Float.{binary64}
 use Rattle.std.specs.Float.Ieee.{of_bits, to_bits, of_fields, of_int, add, sub, mul, div, neg, lt, le, eq, is_nan, sum, round, units, odd, size, span, climb}
 use Rattle.common.specs.Each.{every}
@@ -13,17 +13,19 @@ use Rattle.score_camera.specs.Camera.{finite_intrinsics, finite_distortion, vali
 use Rattle.score_camera.specs.Penalties.{distortion_penalty, tilt_penalty, centre_penalty, score_of}
 use Rattle.score_best.specs.Best.{beats, unbeaten, first_unbeaten, best_of}
 use Rattle.search_start.specs.Start.{good_seed, too_many, demand_of}
-use Rattle.journal_line.specs.declared.Recorded.TheVariants as line
+use Rattle.common.specs.declared.Refusal.TheVariants.{SmallBuffer, NothingScored, NotOfForm, NotTheRun}
+use Rattle.score_outcome.specs.declared.SkipReason.TheVariants.{HostFailed, NoNumber}
 use Rattle.journal_line.specs.declared.Line.{Line}
 use Rattle.journal_line.specs.Line.{digit_byte, digits, decimal_width, decimal, real, reason_letter, outcome_fields, rest_of_line, line_bytes, recordable, writable, journal_bytes}
 use Rattle.journal_line.specs.Reading.{digit_of, number_at, decimal_width_at, real_at, reals, reason_of, outcome_at, from_round, from_seed, unchecked_line, begins, of_form, newlines, read_line, goes_on, read_all}
-use Rattle.journal_replay.specs.declared.Replayed.TheVariants.{Winner, Unfinished, Refused, RefusedAt}
+use Rattle.journal_replay.specs.declared.Standing.TheVariants.{Winner, Unfinished}
+use Rattle.journal_replay.specs.declared.ReplayRefusal.TheVariants.{Refused, At}
 use Rattle.journal_replay.specs.declared.EndedBy.TheVariants as by
 use Rattle.journal_replay.specs.declared.Report.{Report}
 use Rattle.journal_replay.specs.Stand.{same_real, same_reals, is_mean, can_be_scored}
 use Rattle.journal_replay.specs.Resume.{ended_by_of}
 use Rattle.book.specs.Book.{Inputs, demand, step_of, scored_of, round_best_of, run_best_of, first_list, list_around, opened, with_entry, with_round, with_end, close_round, book_enter}
-use Rattle.book_journal.specs.Replay.{start_number, follows, buffer_after, walk_from, walked, standing, replay_of}
+use Rattle.book_journal.specs.Replay.{start_refused, follows, buffer_after, walk_from, walked, standing, replay_of}
 use Rattle.book_journal.specs.Resume.{report_on}
 
 abbrev bits : ℕ → Float
@@ -60,13 +62,13 @@ buffer = replicate 54 f1
 
 -- the first candidate was skipped for reason 1; the second has a mean of 1, and so a score of 1.015625
 abbrev first : Line
-first = record { number = 0; round = 0; seed = seed_of f0; outcome = line.Skipped 1 }
+first = record { number = 0; round = 0; seed = seed_of f0; outcome = Err HostFailed }
 
 abbrev score : Float
 score = bits 0x3ff0_4000_0000_0000
 
 abbrev second_with : ℕ → ℕ → CandidateSeed → Float → Float → Line
-second_with n r s mean value = record { number = n; round = r; seed = s; outcome = line.Scored (record { score = value; mean = mean; k = camera; p1 = f0; p2 = f0 }) }
+second_with n r s mean value = record { number = n; round = r; seed = s; outcome = Ok (record { score = value; mean = mean; k = camera; p1 = f0; p2 = f0 }) }
 
 abbrev second : Line
 second = second_with 1 0 (seed_of quarter) f1 score
@@ -84,28 +86,28 @@ whole = journal_bytes (first ∷ second ∷ [])
 
 pub record Replays : Type 0 where
   -- the winner; Unfinished with the next seed; 11 where nothing is scored
-  pub its_winner : (replay_of given buffer whole).reply ≡ Winner 1 score
-  pub unfinished_run : (replay_of given buffer (journal_bytes (first ∷ []))).reply ≡ Unfinished (seed_of quarter)
-  pub none_scored : (replay_of given buffer (journal_bytes (first ∷ record { number = 1; round = 0; seed = seed_of quarter; outcome = line.Skipped 4 } ∷ []))).reply ≡ Refused 11
+  pub its_winner : (replay_of given buffer whole).reply ≡ Ok (Winner 1 score)
+  pub unfinished_run : (replay_of given buffer (journal_bytes (first ∷ []))).reply ≡ Ok (Unfinished (seed_of quarter))
+  pub none_scored : (replay_of given buffer (journal_bytes (first ∷ record { number = 1; round = 0; seed = seed_of quarter; outcome = Err NoNumber } ∷ []))).reply ≡ Err (Refused NothingScored)
   -- 30 on the second line: another number, another round, another camera of the seed, another score, a mean below 0
-  pub other_number : (replay_of given buffer (journal_bytes (first ∷ second_with 2 0 (seed_of quarter) f1 score ∷ []))).reply ≡ RefusedAt 30 2
-  pub other_round : (replay_of given buffer (journal_bytes (first ∷ second_with 1 1 (seed_of quarter) f1 score ∷ []))).reply ≡ RefusedAt 30 2
-  pub other_camera : (replay_of given buffer (journal_bytes (first ∷ second_with 1 0 other_seed f1 score ∷ []))).reply ≡ RefusedAt 30 2
-  pub other_score : (replay_of given buffer (journal_bytes (first ∷ second_with 1 0 (seed_of quarter) f1 f1 ∷ []))).reply ≡ RefusedAt 30 2
-  pub mean_below : (replay_of given buffer (journal_bytes (first ∷ second_with 1 0 (seed_of quarter) (bits 0xbff0_0000_0000_0000) below ∷ []))).reply ≡ RefusedAt 30 2
+  pub other_number : (replay_of given buffer (journal_bytes (first ∷ second_with 2 0 (seed_of quarter) f1 score ∷ []))).reply ≡ Err (At NotTheRun 2)
+  pub other_round : (replay_of given buffer (journal_bytes (first ∷ second_with 1 1 (seed_of quarter) f1 score ∷ []))).reply ≡ Err (At NotTheRun 2)
+  pub other_camera : (replay_of given buffer (journal_bytes (first ∷ second_with 1 0 other_seed f1 score ∷ []))).reply ≡ Err (At NotTheRun 2)
+  pub other_score : (replay_of given buffer (journal_bytes (first ∷ second_with 1 0 (seed_of quarter) f1 f1 ∷ []))).reply ≡ Err (At NotTheRun 2)
+  pub mean_below : (replay_of given buffer (journal_bytes (first ∷ second_with 1 0 (seed_of quarter) (bits 0xbff0_0000_0000_0000) below ∷ []))).reply ≡ Err (At NotTheRun 2)
   -- behind the end: a line is 30, other bytes are 29
-  pub line_behind : (replay_of given buffer (journal_bytes (first ∷ second ∷ second ∷ []))).reply ≡ RefusedAt 30 3
-  pub bytes_behind : (replay_of given buffer (whole ++ 120 ∷ 10 ∷ [])).reply ≡ RefusedAt 29 3
+  pub line_behind : (replay_of given buffer (journal_bytes (first ∷ second ∷ second ∷ []))).reply ≡ Err (At NotTheRun 3)
+  pub bytes_behind : (replay_of given buffer (whole ++ 120 ∷ 10 ∷ [])).reply ≡ Err (At NotOfForm 3)
   -- with a round to follow: around the winner the seeds of the next list within the bound are six; the first comes next, and they stand in the buffer
-  pub next_seed : (replay_of (inputs_with 1) buffer whole).reply ≡ Unfinished (record { reference_k = camera; sensor = record { tilt_x = f0; tilt_y = neg quarter } })
+  pub next_seed : (replay_of (inputs_with 1) buffer whole).reply ≡ Ok (Unfinished (record { reference_k = camera; sensor = record { tilt_x = f0; tilt_y = neg quarter } }))
   pub next_list_lem : take 12 (replay_of (inputs_with 1) buffer whole).list ≡ f1 ∷ f1 ∷ f0 ∷ f0 ∷ f0 ∷ neg quarter ∷ f1 ∷ f1 ∷ f0 ∷ f0 ∷ f0 ∷ f0 ∷ []
   -- after a 30 on the first line the buffer holds round 0's list, and what stood behind it
   pub first_list_lem : take 14 (replay_of given buffer (journal_bytes (second ∷ []))).list ≡ six (seed_of f0) ++ six (seed_of quarter) ++ (f1 ∷ f1 ∷ [])
   -- Start's own refusal comes before all, and leaves the buffer
-  pub too_short : replay_of given [] (120 ∷ []) ≡ record { reply = Refused 8; list = [] }
+  pub too_short : replay_of given [] (120 ∷ []) ≡ record { reply = Err (Refused SmallBuffer); list = [] }
 
 pub replays : Replays
-unfolding replay_of start_number good_seed too_many demand_of every walked walk_from buffer_after follows is_mean can_be_scored same_real same_reals standing opened first_list book_enter close_round with_entry with_round with_end round_best_of run_best_of scored_of best_of first_unbeaten unbeaten beats demand step_of list_around offsets y_offsets next_list digit_byte digits decimal_width decimal bits_of real reason_letter outcome_fields rest_of_line line_bytes recordable writable journal_bytes digit_of number_at decimal_width_at real_at reals reason_of outcome_at from_round from_seed unchecked_line begins of_form newlines read_line goes_on read_all keep has_near push merged_into closer tilt_near camera_near near within in_bound pairs seed_grid initial_list laid read_from finite_intrinsics finite_distortion valid_camera distortion_penalty tilt_penalty centre_penalty score_of abs_of is_finite min_of max_of to_bits add sub mul div neg lt le eq is_nan of_bits of_fields of_int sum round units odd size span climb
+unfolding replay_of start_refused good_seed too_many demand_of every walked walk_from buffer_after follows is_mean can_be_scored same_real same_reals standing opened first_list book_enter close_round with_entry with_round with_end round_best_of run_best_of scored_of best_of first_unbeaten unbeaten beats demand step_of list_around offsets y_offsets next_list digit_byte digits decimal_width decimal bits_of real reason_letter outcome_fields rest_of_line line_bytes recordable writable journal_bytes digit_of number_at decimal_width_at real_at reals reason_of outcome_at from_round from_seed unchecked_line begins of_form newlines read_line goes_on read_all keep has_near push merged_into closer tilt_near camera_near near within in_bound pairs seed_grid initial_list laid read_from finite_intrinsics finite_distortion valid_camera distortion_penalty tilt_penalty centre_penalty score_of abs_of is_finite min_of max_of to_bits add sub mul div neg lt le eq is_nan of_bits of_fields of_int sum round units odd size span climb
 replays = record {
   its_winner = refl;
   unfinished_run = refl;

@@ -1,13 +1,9 @@
 -- 02, E2: the bytes that a host writes which asks for the last line after each accepted Answer and hands it to the writer, along a walk. Definitions only.
-use Rattle.std.specs.Prelude.{ℕ, ◌≡◌, cond, List, [], ◌∷◌, ◌++◌, eqb, take, replicate, Float}
+use Rattle.std.specs.Prelude.{ℕ, ◌≡◌, cond, List, [], ◌∷◌, ◌++◌, eqb, take, replicate, Float, Option, Some, None, Result, Ok, Err}
+use Rattle.common.specs.declared.Refusal.{Refusal}
 use Rattle.journal_line.specs.declared.Line.{Line}
-use Rattle.journal_line.specs.declared.Written.{Written}
-use Rattle.journal_line.specs.declared.Written.TheVariants as written
 use Rattle.journal_line.specs.Writing.{write_reply, write_into}
 use Rattle.search_record.specs.declared.run.Run.{Run}
-use Rattle.search_start.specs.declared.Started.TheVariants.{Accepted}
-use Rattle.search_calls.specs.declared.last.LastLine.{LastLine}
-use Rattle.search_calls.specs.declared.last.LastLine.TheVariants as lastline
 use Rattle.search_calls.specs.Last.{last_def}
 use Rattle.book.specs.Calls.{Call}
 use Rattle.book.specs.Book.{Inputs, opened, after}
@@ -20,13 +16,13 @@ use Rattle.book_journal.specs.Counts.{is_answer}
 abbrev pub buffer : List ℕ
 buffer = replicate 256 0
 
-abbrev pub front : Line → Written → List ℕ
-front m (written.Length n) = take n (write_into m buffer)
-front m (written.Refused n) = []
+abbrev pub front : Line → Result ℕ Refusal → List ℕ
+front m (Ok n) = take n (write_into m buffer)
+front m (Err refusal) = []
 
-abbrev pub bytes_of : LastLine → List ℕ
-bytes_of (lastline.Answered m) = front m (write_reply m buffer)
-bytes_of lastline.Nothing = []
+abbrev pub bytes_of : Option Line → List ℕ
+bytes_of (Some m) = front m (write_reply m buffer)
+bytes_of None = []
 
 -- after a call: the last line's bytes if its reply is an answer's
 abbrev pub written_after : Step → List ℕ
@@ -38,4 +34,4 @@ written_along r l (c ∷ cs) = let a = run_call r l c in written_after a ++ writ
 
 -- they are the journal of the run
 abbrev pub WrittenIsJournal : Inputs → List Float → Run → List Call → Type 0
-WrittenIsJournal i l r cs = start_of i l ≡ Accepted r → written_along r (started_list i l) cs ≡ journal_of (after (opened i) cs)
+WrittenIsJournal i l r cs = start_of i l ≡ Ok r → written_along r (started_list i l) cs ≡ journal_of (after (opened i) cs)

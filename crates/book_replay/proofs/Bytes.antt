@@ -1,22 +1,23 @@
 -- Replay and Resume of any inputs, list and bytes are the plain book's. Assumes nothing.
-use Rattle.std.proofs.Common.{ℕ, zero, suc, ◌+◌, arith, ◌≡◌, refl, ap, ◌∙◌, List, length, take, Float}
+use Rattle.std.proofs.Common.{ℕ, ◌+◌, arith, ◌≡◌, ap, ◌∙◌, List, length, take, Float, Ok, Err}
+use Rattle.common.specs.declared.Refusal.{Refusal}
 use Rattle.journal_line.specs.Line.{journal_bytes}
 use Rattle.journal_line.specs.Reading.{read_journal}
 use Rattle.journal_line.proofs.Fronts.{whole_front}
-use Rattle.search_start.specs.declared.Started.TheVariants as started
 use Rattle.journal_replay.specs.Walk.{stop_at, walk_of}
 use Rattle.journal_replay.specs.Replay.{reply_to}
 use Rattle.journal_replay.specs.Resume as code
 use Rattle.book.specs.Book.{Inputs, first_list, opened}
 use Rattle.book.specs.Conditions.{FirstHolds, NoneHolds, conditions}
 use Rattle.book.specs.Theorem.{start_of, started_list}
+use Rattle.book.proofs.Cases.{case_result}
 use Rattle.book.proofs.RunOf.{run_of, State}
 use Rattle.book.proofs.Starts.{accepted, list_is, starts}
 use Rattle.book.proofs.Opening.{opens}
 use Rattle.seed_rules.specs.Layout.{written}
-use Rattle.book_journal.specs.Replay.{start_number, walk_from, walked, kept_of, replay_of}
+use Rattle.book_journal.specs.Replay.{start_refused, walk_from, walked, kept_of, replay_of}
 use Rattle.book_journal.specs.Resume.{report_on}
-use Rattle.book_journal.proofs.Opening.{start_number_lem, none_refused}
+use Rattle.book_journal.proofs.Opening.{start_refused_lem, none_refused}
 use Rattle.book_journal.proofs.Accepted.{start_refuses}
 use Rattle.book_journal.proofs.Cut.{opened_waits, none_waits, resume_refuses, resume_accepts}
 use Rattle.book_journal.proofs.Live.{walked_state}
@@ -26,8 +27,8 @@ use Rattle.book_replay.proofs.Lines.{record_walk, walks, stands_same}
 module _ (i : Inputs) (l : List Float) (bs : List ℕ) where
   -- ---- an accepted Start
   module _ (a : NoneHolds (conditions i (length l))) where
-    start_run : start_of i l ≡ started.Accepted (run_of (opened i))
-    start_run = let s = (starts i l).accepts_others a in s.1 ∙ ap started.Accepted (opens i l s.0 s.1).run_is
+    start_run : start_of i l ≡ Ok (run_of (opened i))
+    start_run = let s = (starts i l).accepts_others a in s.1 ∙ ap Ok (opens i l s.0 s.1).run_is
 
     pub start_list_lem : started_list i l ≡ written (first_list i) l
     start_list_lem = list_is i l (accepted i l (run_of (opened i)) start_run).0
@@ -53,32 +54,31 @@ module _ (i : Inputs) (l : List Float) (bs : List ℕ) where
     replay_accepted =
         let w = walked i l bs in
         rw (start_run, start_list_lem, walk_same, stands_same i w.book w.list (walked_state i l bs a) (none_waits i l bs))
-        (simp (none_refused i (length l) a))
+        (simp (replay_of, none_refused i (length l) a))
 
     resume_accepted : ResumeIsBook i l bs
     unfolding code.report_on report_on
     resume_accepted = rw (start_run, start_list_lem, walk_same, resume_accepts i l bs a)
 
   -- ---- a refused one
-  module _ (n : ℕ) (h : FirstHolds (conditions i (length l)) (suc n)) where
-    start_refused : start_of i l ≡ started.Refused (suc n)
-    start_refused = (starts i l).refuses_all (suc n) h
+  module _ (r : Refusal) (h : FirstHolds (conditions i (length l)) r) where
+    refused_lem : start_of i l ≡ Err r
+    refused_lem = (starts i l).refuses_all r h
 
     list_left : started_list i l ≡ l
-    list_left = (starts i l).leaves_list (suc n) start_refused
+    list_left = (starts i l).leaves_list r refused_lem
 
     replay_refused : ReplayIsBook i l bs
-    replay_refused = rw (start_refused, list_left, start_refuses i l bs n h)
+    replay_refused = rw (refused_lem, list_left, start_refuses i l bs r h)
 
     resume_refused : ResumeIsBook i l bs
-    resume_refused = rw (start_refused, list_left, resume_refuses i l bs n h)
+    resume_refused = rw (refused_lem, list_left, resume_refuses i l bs r h)
 
-  pub either : {P : Type 0} → (NoneHolds (conditions i (length l)) → P) → ((n : ℕ) → FirstHolds (conditions i (length l)) (suc n) → P) → P
-  either {P} f g = go (start_number i (length l)) refl
-    where
-      go : (n : ℕ) → start_number i (length l) ≡ n → P
-      go zero e = f ((start_number_lem i (length l)).accepts.0 e)
-      go (suc n) e = g n (((start_number_lem i (length l)).refuses n).0 e)
+  pub either : {P : Type 0} → (NoneHolds (conditions i (length l)) → P) → ((r : Refusal) → FirstHolds (conditions i (length l)) r → P) → P
+  either f g =
+      case_result (start_refused i (length l))
+      (λ u e. f ((start_refused_lem i (length l)).accepts.0 e))
+      (λ r e. g r (((start_refused_lem i (length l)).refuses r).0 e))
 
   pub replay_is_book : ReplayIsBook i l bs
   replay_is_book = either replay_accepted replay_refused

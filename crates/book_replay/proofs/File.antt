@@ -1,6 +1,8 @@
 -- A run that Start or Resume opened, any calls after it, and its file: Replay says of the file how the run stands, and Resume gives the run back from it, whole or
 -- cut. Assumes nothing.
-use Rattle.std.proofs.Common.{ℕ, suc, ◌≤◌, arith, ◌≡◌, refl, sym, ap, ◌∙◌, true, false, List, [], ◌++◌, append_assoc, append-nil, length, take, drop, take-append-drop, take_at, drop_at, Float}
+use Rattle.std.proofs.Common.{ℕ, ◌≤◌, ◌≡◌, refl, sym, ap, ◌∙◌, true, false, List, [], ◌++◌, append_assoc, append-nil, length, take, drop, take-append-drop, take_at, drop_at, Float, Result, Ok, Err}
+use Rattle.common.specs.declared.Refusal.{Refusal}
+use Rattle.common.specs.declared.Refusal.TheVariants.{NothingScored, NotOver}
 use lib.ListN.{length-map}
 use Rattle.common.specs.Tests.{case}
 use Rattle.common.specs.Each.{All}
@@ -11,11 +13,11 @@ use Rattle.journal_line.specs.declared.Line.{Line}
 use Rattle.journal_line.specs.Line.{journal_bytes}
 use Rattle.journal_line.specs.Reading.{Lines}
 use Rattle.search_record.specs.declared.run.Run.{Run}
-use Rattle.search_calls.specs.declared.result.Resulted.TheVariants as resulted
 use Rattle.search_calls.specs.Result.{result_def}
 use Rattle.journal_replay.specs.declared.Stop.TheVariants.{AllTaken}
 use Rattle.journal_replay.specs.declared.Report.{Report}
-use Rattle.journal_replay.specs.declared.Resumed.TheVariants as resume
+use Rattle.journal_replay.specs.declared.Resumed.{Resumed}
+use Rattle.journal_replay.specs.Replay.{of_no_line}
 use Rattle.journal_replay.specs.Replay.{ReplayLeft, replay_from}
 use Rattle.journal_replay.specs.Resume.{ended_by_of, ResumeLeft}
 use Rattle.book.specs.Calls.{Call}
@@ -32,11 +34,11 @@ use Rattle.book.proofs.Opening.{opens}
 use Rattle.book.proofs.Walks as calls
 use Rattle.book.proofs.Theorem.{result_over}
 use Rattle.book_journal.specs.Lines.{lines_of, journal_of}
-use Rattle.book_journal.specs.Replay.{start_number, Walked, walked, kept_of, standing}
+use Rattle.book_journal.specs.Replay.{start_refused, Walked, walked, kept_of, standing}
 use Rattle.book_journal.specs.History.{Opening, fresh, from, opened_by, History, book_at, InputsFit, CallFits, at_rest, opened_list, list_under, list_at}
 use Rattle.book_journal.specs.Resume.{report_on, cut_journal, report, cut_run, GivesBack, GoesOn}
 use Rattle.book_journal.specs.Resume as book
-use Rattle.book_journal.proofs.Opening.{start_number_lem}
+use Rattle.book_journal.proofs.Opening.{start_refused_lem}
 use Rattle.book_journal.proofs.Walk.{walk_end, any_buffer}
 use Rattle.book_journal.proofs.Again.{Sound, sound_at, lines_right, list_along, walked_again}
 use Rattle.book_journal.proofs.Buffer.{along, history_along, run_again}
@@ -63,11 +65,11 @@ module _ (i : Inputs) (l : List Float) (bs : List ℕ) where
     report_is : q ≡ report_on bs (walked i l bs)
     list_is : m ≡ (walked i l bs).list
 
-  reply_same : (r s : Run) (q p : Report) → resume.Resumed r q ≡ resume.Resumed s p → (r ≡ s) × (q ≡ p)
-  reply_same r s q p h = (cc, cc)
+  reply_same : (x y : Resumed) → ◌≡◌ {A = Result Resumed Refusal} (Ok x) (Ok y) → (x.run ≡ y.run) × (x.report ≡ y.report)
+  reply_same x y h = let e : x ≡ y = cc in (ap (λ (z : Resumed). z.run) e, ap (λ (z : Resumed). z.report) e)
 
-  never_both : (n : ℕ) (r : Run) (q : Report) → resume.Resumed r q ≡ resume.Refused n → ⊥
-  never_both n r q h = let z : ◌≡◌ {A = ℕ} 0 1 = cc in omega arith
+  never_both : (r : Refusal) (x : Resumed) → ◌≡◌ {A = Result Resumed Refusal} (Ok x) (Err r) → ⊥
+  never_both r x h = cc
 
   comes_from : (r : Run) (q : Report) (m : List Float) → GivesRun i l bs r q m → ComesFrom r q m
   comes_from r q m h =
@@ -75,9 +77,9 @@ module _ (i : Inputs) (l : List Float) (bs : List ℕ) where
       (λ a.
       let w = walked i l bs in
       let e = sym h ∙ given_back a in
-      let p = reply_same r (run_of w.book) q (report_on bs w) (ap (λ (x : ResumeLeft). x.reply) e) in
+      let p = reply_same (record { run = r; report = q }) (record { run = run_of w.book; report = report_on bs w }) (ap (λ (x : ResumeLeft). x.reply) e) in
       record { started = a; run_is = p.0; report_is = p.1; list_is = ap (λ (x : ResumeLeft). x.list) e })
-      (λ n c. absurd (never_both (suc n) r q (ap (λ (x : ResumeLeft). x.reply) (sym h ∙ resume_is_book i l bs ∙ ap with_record (resume_refuses i l bs n c)))))
+      (λ s c. absurd (never_both s (record { run = r; report = q }) (ap (λ (x : ResumeLeft). x.reply) (sym h ∙ resume_is_book i l bs ∙ ap with_record (resume_refuses i l bs s c)))))
 
   pub resumed_run : InputsFit i → (r : Run) (q : Report) (m : List Float) → GivesRun i l bs r q m → ResumedRun i l bs r q m
   resumed_run f r q m h =
@@ -116,7 +118,7 @@ resumed_record i h f k l a =
 pub cut_record : (i : Inputs) (h : History i) (at : ℕ) (l : List Float) → NoneHolds (conditions i (length l)) → CutRecord i h at l
 cut_record i h at l a =
     let j = cut_journal i h at in
-    given_back i l j a ∙ ap (λ (b : Book). record { reply = resume.Resumed (run_of b) (report i h at l); list = (walked i l j).list }) (any_buffer i l [] j).0
+    given_back i l j a ∙ ap (λ (b : Book). record { reply = Ok (record { run = run_of b; report = report i h at l }); list = (walked i l j).list }) (any_buffer i l [] j).0
 
 -- whichever list is lent: the walk is the same but for its list
 same_report : (bs : List ℕ) (v w : Walked) → v.taken ≡ w.taken → v.stop ≡ w.stop → report_on bs v ≡ report_on bs w
@@ -134,39 +136,39 @@ cut_any_list i h at l =
     (λ k a.
     let w = any_buffer i k l j in
     let m = (walked i k j).list in
-    (m, cut_record i h at k a ∙ ap (λ (q : Report). record { reply = resume.Resumed s q; list = m }) (same_report j (walked i k j) (walked i l j) w.1 w.2)))
+    (m, cut_record i h at k a ∙ ap (λ (q : Report). record { reply = Ok (record { run = s; report = q }); list = m }) (same_report j (walked i k j) (walked i l j) w.1 w.2)))
 
 -- ---- how a run stands
 module _ (i : Inputs) (b : Book) (g : Good i b) where
-  result_none : b.over ≡ true → run_best_of b ≡ nothing → result_def (run_of b) ≡ resulted.Refused 11
+  result_none : b.over ≡ true → run_best_of b ≡ nothing → result_def (run_of b) ≡ Err NothingScored
   unfolding result_def
-  result_none o e = simp (run-fields, run-bests, sound_run i b g, o, e)
+  result_none o e = simp (result_def, run-fields, run-bests, sound_run i b g, o, e)
 
-  result_won : (v : Candidate) → b.over ≡ true → run_best_of b ≡ chosen v → result_def (run_of b) ≡ resulted.Result v
+  result_won : (v : Candidate) → b.over ≡ true → run_best_of b ≡ chosen v → result_def (run_of b) ≡ Ok v
   unfolding result_def
-  result_won v o e = simp (run-fields, run-bests, sound_run i b g, o, e)
+  result_won v o e = simp (result_def, run-fields, run-bests, sound_run i b g, o, e)
 
-  result_going : b.over ≡ false → result_def (run_of b) ≡ resulted.Refused 14
+  result_going : b.over ≡ false → result_def (run_of b) ≡ Err NotOver
   unfolding result_def
-  result_going o = simp (run-fields, sound_run i b g, o)
+  result_going o = simp (result_def, run-fields, sound_run i b g, o)
 
-  none_of : result_def (run_of b) ≡ resulted.Refused 11 → (b.over ≡ true) × (run_best_of b ≡ nothing)
+  none_of : result_def (run_of b) ≡ Err NothingScored → (b.over ≡ true) × (run_best_of b ≡ nothing)
   none_of h =
       case b.over
       (λ o. case_chosen (run_best_of b)
       (λ e. (o, e))
-      (λ v e. let q : resulted.Result v ≡ resulted.Refused 11 = sym (result_won v o e) ∙ h in let z : ◌≡◌ {A = ℕ} 0 1 = cc in absurd (omega arith)))
-      (λ o. let q : resulted.Refused 14 ≡ resulted.Refused 11 = sym (result_going o) ∙ h in let z : ◌≡◌ {A = ℕ} 14 11 = cc in absurd (omega arith))
+      (λ v e. let q : ◌≡◌ {A = Result Candidate Refusal} (Ok v) (Err NothingScored) = sym (result_won v o e) ∙ h in cc))
+      (λ o. let q : ◌≡◌ {A = Result Candidate Refusal} (Err NotOver) (Err NothingScored) = sym (result_going o) ∙ h in cc)
 
-  going_of : result_def (run_of b) ≡ resulted.Refused 14 → b.over ≡ false
+  going_of : result_def (run_of b) ≡ Err NotOver → b.over ≡ false
   going_of h =
       case b.over
       (λ o. case_chosen (run_best_of b)
-      (λ e. let q : resulted.Refused 11 ≡ resulted.Refused 14 = sym (result_none o e) ∙ h in let z : ◌≡◌ {A = ℕ} 11 14 = cc in absurd (omega arith))
-      (λ v e. let q : resulted.Result v ≡ resulted.Refused 14 = sym (result_won v o e) ∙ h in let z : ◌≡◌ {A = ℕ} 0 1 = cc in absurd (omega arith)))
+      (λ e. let q : ◌≡◌ {A = Result Candidate Refusal} (Err NothingScored) (Err NotOver) = sym (result_none o e) ∙ h in cc)
+      (λ v e. let q : ◌≡◌ {A = Result Candidate Refusal} (Ok v) (Err NotOver) = sym (result_won v o e) ∙ h in cc))
       (λ o. o)
 
-stands_as : (i : Inputs) (b : Book) (l : List Float) → State i b l → StandsAs (run_of b) l (standing b)
+stands_as : (i : Inputs) (b : Book) (l : List Float) → State i b l → StandsAs (run_of b) l (of_no_line (standing b))
 unfolding standing
 stands_as i b l f =
     let g = f.good in
@@ -219,7 +221,7 @@ resumed_from i l bs r q m f h =
 
 opened_from : (i : Inputs) (l : List Float) (r : Run) (m : List Float) (held : List ℕ) → InputsFit i → OpenedAs i l r m held → From i l r m held
 opened_from i l r m held f (by_start x h) =
-    let a : NoneHolds (conditions i (length l)) = (start_number_lem i (length l)).accepts.0 (unfold start_number in (accepted i l x h).0) in
+    let a : NoneHolds (conditions i (length l)) = (start_refused_lem i (length l)).accepts.0 (unfold start_refused in (accepted i l x h).0) in
     record { started = a; opening = fresh; run_is = (opens i l x h).run_is; list_is = start_list_lem i l [] a; state = start_state i l [] a; held_is = none_held i }
 opened_from i l r m held f (by_resume bs x q y h) = resumed_from i l bs x q y f h
 
@@ -257,7 +259,7 @@ module _ (i : Inputs) (l : List Float) (a : NoneHolds (conditions i (length l)))
     file_stands : (x : List Float) → NoneHolds (conditions i (length x))
         → StandsAs (trace.run_after first list cs) (trace.list_after first list cs) (replay_from (start_of i x) (started_list i x) (file i l first list held cs)).reply
     file_stands x c =
-        let e : (replay_from (start_of i x) (started_list i x) (journal_of now)).reply ≡ standing now =
+        let e : (replay_from (start_of i x) (started_list i x) (journal_of now)).reply ≡ of_no_line (standing now) =
         ap (λ (z : ReplayLeft). z.reply) (replay_is_book i x (journal_of now)) ∙ (run_again i (past cs) f k x c).same_standing in
         rw (file_now cs, run_now cs, list_now cs, e) (stands_as i now (list_at (past cs) l) (state_now cs))
 

@@ -1,10 +1,10 @@
 -- One line, and then any lines, walked against the run's record that goes with a book: the walk is the book's. Assumes nothing.
-use Rattle.std.proofs.Common.{ℕ, suc, ◌+◌, arith, ◌≡◌, refl, sym, ap, ◌∙◌, Bool, true, false, ◌&&◌, true≢false, List, [], ◌∷◌, le-ltb, eqb, length, take, length-append, Float}
-use mathlib.Core.Option.{none, some}
+use Rattle.std.proofs.Common.{ℕ, suc, ◌+◌, arith, ◌≡◌, refl, sym, ap, ◌∙◌, Bool, true, false, ◌&&◌, true≢false, List, [], ◌∷◌, le-ltb, eqb, length, take, length-append, Float, Some, None, Ok, Err}
+use Rattle.common.specs.declared.Refusal.TheVariants.{NothingScored}
 use Rattle.common.specs.Tests.{case}
 use Rattle.common.specs.Each.{All}
 use Rattle.seed_rules.specs.Layout.{six}
-use Rattle.score_outcome.specs.declared.Outcome.{Outcome}
+use Rattle.score_outcome.specs.Reasons.{Outcome}
 use Rattle.score_best.specs.declared.Candidate.{Candidate}
 use Rattle.score_best.specs.Best.{nothing, chosen}
 use Rattle.journal_line.specs.declared.Line.{Line}
@@ -32,18 +32,18 @@ use Rattle.book_journal.proofs.Live.{enter_list}
 
 -- ---- Next, where no seed waits
 module _ (i : Inputs) (b : Book) (l : List Float) (f : State i b l) (w : b.waits ≡ false) where
-  pub next_going : b.over ≡ false → next_def (run_of b) l ≡ record { reply = handed.Candidate (number b); run = run_of (with_waiting b) }
+  pub next_going : b.over ≡ false → next_def (run_of b) l ≡ record { reply = Ok (handed.Candidate (number b)); run = run_of (with_waiting b) }
   unfolding next_def
   next_going o =
-      simp (run-fields, sound_run i b f.good, w, o, le-ltb (length l) (demand b.inputs) f.there.long, in_list b l f.there (f.good.room o), await_run b)
+      simp (next_def, run-fields, sound_run i b f.good, w, o, le-ltb (length l) (demand b.inputs) f.there.long, in_list b l f.there (f.good.room o), await_run b)
 
-  next_none : b.over ≡ true → run_best_of b ≡ nothing → next_def (run_of b) l ≡ record { reply = handed.Refused 11; run = run_of b }
+  next_none : b.over ≡ true → run_best_of b ≡ nothing → next_def (run_of b) l ≡ record { reply = Err NothingScored; run = run_of b }
   unfolding next_def
-  next_none o e = simp (run-fields, run-bests, sound_run i b f.good, w, o, e, le-ltb (length l) (demand b.inputs) f.there.long)
+  next_none o e = simp (next_def, run-fields, run-bests, sound_run i b f.good, w, o, e, le-ltb (length l) (demand b.inputs) f.there.long)
 
-  next_over : (v : Candidate) → b.over ≡ true → run_best_of b ≡ chosen v → next_def (run_of b) l ≡ record { reply = handed.Over; run = run_of b }
+  next_over : (v : Candidate) → b.over ≡ true → run_best_of b ≡ chosen v → next_def (run_of b) l ≡ record { reply = Ok handed.Over; run = run_of b }
   unfolding next_def
-  next_over v o e = simp (run-fields, run-bests, sound_run i b f.good, w, o, e, le-ltb (length l) (demand b.inputs) f.there.long)
+  next_over v o e = simp (next_def, run-fields, run-bests, sound_run i b f.good, w, o, e, le-ltb (length l) (demand b.inputs) f.there.long)
 
 -- ---- a line beside the record is the line beside the book
 abbrev is_next : Book → Line → Bool
@@ -97,14 +97,14 @@ module _ (i : Inputs) (b : Book) (l : List Float) (f : State i b l) (w : b.waits
   abbrev next : Book
   next = book_enter b (outcome_in m.outcome)
 
-  line_taken : follows b m ≡ true → take_line (run_of b) l m ≡ some (left (run_of next) (buffer_after b next l))
+  line_taken : follows b m ≡ true → take_line (run_of b) l m ≡ Some (left (run_of next) (buffer_after b next l))
   unfolding take_line
   line_taken t =
       case b.over
       (λ o. absurd (true≢false (sym t ∙ follows_over b m o)))
       (λ o. simp (next_going i b l f w o, answers_next b m, sym (follows_going b m o) ∙ t, enter_left i b l f (outcome_in m.outcome)))
 
-  line_refused : follows b m ≡ false → take_line (run_of b) l m ≡ none
+  line_refused : follows b m ≡ false → take_line (run_of b) l m ≡ None
   unfolding take_line
   line_refused t =
       case b.over
@@ -120,12 +120,12 @@ module _ (i : Inputs) (b : Book) (l : List Float) (f : State i b l) (w : b.waits
       }
 
 -- ---- any lines
-walk_none : (r : Run) (l : List Float) (n k : ℕ) (m : Line) (ms : List Line) (e : Stop) → take_line r l m ≡ none
+walk_none : (r : Run) (l : List Float) (n k : ℕ) (m : Line) (ms : List Line) (e : Stop) → take_line r l m ≡ None
     → walk_lines r l n k (m ∷ ms) e ≡ record { run = r; list = l; lines = n; bytes = k; stop = NotTheRun }
 unfolding walk_lines
 walk_none r l n k m ms e t = simp (walk_lines, t)
 
-walk_some : (r : Run) (l : List Float) (n k : ℕ) (m : Line) (ms : List Line) (e : Stop) (x : Left) → take_line r l m ≡ some x
+walk_some : (r : Run) (l : List Float) (n k : ℕ) (m : Line) (ms : List Line) (e : Stop) (x : Left) → take_line r l m ≡ Some x
     → walk_lines r l n k (m ∷ ms) e ≡ walk_lines x.run x.list (suc n) (k + length (line_bytes m)) ms e
 unfolding walk_lines
 walk_some r l n k m ms e x t = simp (walk_lines, t)

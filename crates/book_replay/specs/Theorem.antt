@@ -1,21 +1,21 @@
 -- 02, E5 and E13: what the code does with a journal is what the plain book says; and what follows for a run and its own file, over the code's definitions alone. As
 -- types: `proofs/Theorem.antt` proves them. Definitions only.
-use Rattle.std.specs.Prelude.{ℕ, ◌≤◌, ◌≡◌, true, false, cond, List, [], ◌∷◌, ◌++◌, length, take, Float}
+use Rattle.std.specs.Prelude.{ℕ, ◌≤◌, ◌≡◌, true, false, cond, List, [], ◌∷◌, ◌++◌, length, take, Float, Result, Ok, Err}
+use Rattle.common.specs.declared.Refusal.TheVariants.{NothingScored, NotOver}
 use Rattle.common.specs.Each.{All}
 use Rattle.score_best.specs.declared.Candidate.{Candidate}
 use Rattle.journal_line.specs.Reading.{newlines}
 use Rattle.search_record.specs.declared.run.Run.{Run}
 use Rattle.search_record.specs.Record.{nobody}
-use Rattle.search_start.specs.declared.Started.TheVariants.{Accepted}
 use Rattle.search_calls.specs.declared.next.Handed.TheVariants as handed
-use Rattle.search_calls.specs.declared.result.Resulted.TheVariants as resulted
 use Rattle.search_calls.specs.Next.{next_def}
 use Rattle.search_calls.specs.Result.{result_def}
-use Rattle.journal_replay.specs.declared.Replayed.{Replayed}
-use Rattle.journal_replay.specs.declared.Replayed.TheVariants.{Winner, Unfinished, Refused}
+use Rattle.journal_replay.specs.declared.Standing.{Standing}
+use Rattle.journal_replay.specs.declared.Standing.TheVariants.{Winner, Unfinished}
+use Rattle.journal_replay.specs.declared.ReplayRefusal.{ReplayRefusal}
+use Rattle.journal_replay.specs.declared.ReplayRefusal.TheVariants.{Refused}
 use Rattle.journal_replay.specs.declared.EndedBy.TheVariants as by
 use Rattle.journal_replay.specs.declared.Report.{Report}
-use Rattle.journal_replay.specs.declared.Resumed.TheVariants as resume
 use Rattle.journal_replay.specs.Replay.{replay_from}
 use Rattle.journal_replay.specs.Resume.{ResumeLeft, resume_from}
 use Rattle.book.specs.Calls.{Call, next}
@@ -39,19 +39,19 @@ ReplayIsBook i l bs = replay_from (start_of i l) (started_list i l) bs ≡ repla
 
 -- E13: the run given back is the record that goes with the book, field by field
 abbrev pub with_record : Resumed → ResumeLeft
-with_record (resumed b m q) = record { reply = resume.Resumed (run_of b) q; list = m }
-with_record (not_resumed n m) = record { reply = resume.Refused n; list = m }
+with_record (resumed b m q) = record { reply = Ok (record { run = run_of b; report = q }); list = m }
+with_record (not_resumed r m) = record { reply = Err r; list = m }
 
 abbrev pub ResumeIsBook : Inputs → List Float → List ℕ → Type 0
 ResumeIsBook i l bs = resume_from (start_of i l) (started_list i l) bs ≡ with_record (resume_of i l bs)
 
 -- ---- Resume, from these bytes, gives back this run, this report and this list
 abbrev pub GivesRun : Inputs → List Float → List ℕ → Run → Report → List Float → Type 0
-GivesRun i l bs r q m = resume_from (start_of i l) (started_list i l) bs ≡ record { reply = resume.Resumed r q; list = m }
+GivesRun i l bs r q m = resume_from (start_of i l) (started_list i l) bs ≡ record { reply = Ok (record { run = r; report = q }); list = m }
 
 -- whichever list k is lent: this run and this report
 abbrev pub WithAnyList : Inputs → List ℕ → Run → Report → Type 0
-WithAnyList i bs r q = (k : List Float) → NoneHolds (conditions i (length k)) → (resume_from (start_of i k) (started_list i k) bs).reply ≡ resume.Resumed r q
+WithAnyList i bs r q = (k : List Float) → NoneHolds (conditions i (length k)) → (resume_from (start_of i k) (started_list i k) bs).reply ≡ Ok (record { run = r; report = q })
 
 -- Whatever it gives back is the record of a plain book, no seed waiting, with all that E13 says of it; and demand 3 holds of the calls that follow.
 pub record ResumedRun (i : Inputs) (l : List Float) (bs : List ℕ) (r : Run) (q : Report) (m : List Float) : Type 0 where
@@ -74,7 +74,7 @@ CutRecord i h at l = GivesRun i l (cut_journal i h at) (run_of (cut_run i h at))
 
 -- ---- The same over the code's definitions alone. A run that Start or Resume opened, where l was lent: its record, its list, and the bytes of its file
 pub data OpenedAs (i : Inputs) (l : List Float) : Run → List Float → List ℕ → Type 0 where
-  by_start : (r : Run) → start_of i l ≡ Accepted r → OpenedAs i l r (started_list i l) []
+  by_start : (r : Run) → start_of i l ≡ Ok r → OpenedAs i l r (started_list i l) []
   by_resume : (bs : List ℕ) (r : Run) (q : Report) (m : List Float) → GivesRun i l bs r q m → OpenedAs i l r m (take q.kept bs)
 
 -- a record with no seed waiting, and all else as it is
@@ -91,12 +91,12 @@ none_waiting r = record {
 }
 
 -- the reply a says how the run s, with its list n, stands: who won, that nobody did, or the seed that waits or that Next hands out
-pub record StandsAs (s : Run) (n : List Float) (a : Replayed) : Type 0 where
-  pub won : (w : Candidate) → result_def s ≡ resulted.Result w → a ≡ Winner w.number w.score
-  pub none_won : result_def s ≡ resulted.Refused 11 → a ≡ Refused 11
-  pub waits : result_def s ≡ resulted.Refused 14 → s.waiting.is_waiting ≡ true → a ≡ Unfinished s.waiting.seed
-  pub comes_next : result_def s ≡ resulted.Refused 14 → s.waiting.is_waiting ≡ false
-      → ((next_def s n).reply ≡ handed.Candidate s.place.number) × (a ≡ Unfinished (next_def s n).run.waiting.seed)
+pub record StandsAs (s : Run) (n : List Float) (a : Result Standing ReplayRefusal) : Type 0 where
+  pub won : (w : Candidate) → result_def s ≡ Ok w → a ≡ Ok (Winner w.number w.score)
+  pub none_won : result_def s ≡ Err NothingScored → a ≡ Err (Refused NothingScored)
+  pub waits : result_def s ≡ Err NotOver → s.waiting.is_waiting ≡ true → a ≡ Ok (Unfinished s.waiting.seed)
+  pub comes_next : result_def s ≡ Err NotOver → s.waiting.is_waiting ≡ false
+      → ((next_def s n).reply ≡ Ok (handed.Candidate s.place.number)) × (a ≡ Ok (Unfinished (next_def s n).run.waiting.seed))
 
 -- the seed that waited is handed out again
 abbrev pub again : Run → List Call

@@ -8,7 +8,7 @@ use crate::math::Pt2;
 
 // Radial coefficients k1, k2, k3 and tangential p1, p2.
 #[repr(C)]
-#[derive(Clone, Copy)]
+#[derive(Clone, Copy, Default)]
 pub struct BrownConrady5 {
     pub k1: f64,
     pub k2: f64,

@@ -8,7 +8,7 @@ use crate::math::Pt2;
 
 // Focal lengths and principal point, in pixels.
 #[repr(C)]
-#[derive(Clone, Copy)]
+#[derive(Clone, Copy, Default)]
 pub struct FxFyCxCy {
     pub fx: f64,
     pub fy: f64,

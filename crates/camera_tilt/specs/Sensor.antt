@@ -1,14 +1,15 @@
 -- The tilted sensor: OpenCV's homography of two tilts, its verdict, and a point under a homography and under an inverse. Definitions only.
-use Rattle.std.specs.Prelude.{ℕ, Bool, cond, [], ◌∷◌, Float}
+use Rattle.std.specs.Prelude.{ℕ, Bool, cond, [], ◌∷◌, Float, Result, Ok, Err, ⊤}
 use Rattle.std.specs.Float.Ieee.{neg, lt, eq}
 use Rattle.float.specs.Float.{abs_of}
 use Rattle.float.specs.Literals.{plus_zero, one₆₄}
 use Rattle.float.specs.Binary64.{◌+₆₄◌, ◌*₆₄◌, ◌/₆₄◌}
 use Rattle.camera_models.specs.Constants.{tiny}
-use Rattle.camera_tilt.specs.Matrix.{Matrix, at, product_of, determinant_of}
+use Rattle.camera_tilt.specs.Matrix.{Matrix, at, product_of, determinant_of, inverse_of}
 use Rattle.camera_models.specs.declared.math.Pt2.{Pt2}
-use Rattle.camera_tilt.specs.declared.sensor.Tilt.{Tilt}
-use Rattle.camera_tilt.specs.declared.sensor.Tilt.TheVariants.{Invertible, Refused}
+use Rattle.common.specs.Checks.{◌when◌, first_refusal}
+use Rattle.common.specs.declared.Refusal.{Refusal}
+use Rattle.common.specs.declared.Refusal.TheVariants.{SingularTilt}
 
 -- the rotations about the two axes, from a tilt's sine s and cosine c
 abbrev pub rot_x : Float → Float → Matrix
@@ -24,16 +25,16 @@ proj_z r = (at r 2 2 ∷ plus_zero ∷ neg (at r 0 2) ∷ []) ∷ (plus_zero ∷
 unfoldable pub tilt_projection_matrix : Float → Float → Float → Float → Matrix
 tilt_projection_matrix sinX cosX sinY cosY = let r = product_of (rot_y sinY cosY) (rot_x sinX cosX) in product_of (proj_z r) r
 
--- 15: the determinant equals 0, of either sign
+-- the determinant equals 0, of either sign
 abbrev pub is_singular : Matrix → Bool
 is_singular h = eq (determinant_of h) plus_zero
 
-unfoldable pub tilt_verdict : Matrix → Tilt
-tilt_verdict h = cond (is_singular h) (Refused 15) Invertible
+abbrev pub tilt_verdict : Matrix → Result ⊤ Refusal
+tilt_verdict h = first_refusal ((SingularTilt when is_singular h) ∷ [])
 
-abbrev pub tilt_number : Tilt → ℕ
-tilt_number Invertible = 0
-tilt_number (Refused n) = n
+-- the inverse, of a matrix that the verdict lets pass
+abbrev pub checked_inverse : Matrix → Result Matrix Refusal
+checked_inverse h = elim (tilt_verdict h) [ Ok _ ↦ Ok (inverse_of h) | Err r ↦ Err r ]
 
 -- coordinate i of the matrix times (x, y, 1)
 abbrev pub homogeneous : Matrix → Pt2 → ℕ → Float

@@ -1,5 +1,7 @@
 // Matrices of three rows and columns: product, determinant, cofactor inverse.
 // Each function equals its formula, rounded operation by operation, for every input.
+// Kept: the three entries of a row, and the three rows, are written out: a closure over the index would have to say again that the index is below 3.
+// Kept: an index is a plain number below 3: as a type of its own it would be made from a literal at each call, and taken apart at each read.
 
 ghost use Rattle.std.specs.Prelude.{◌≡◌, ◌<◌};
 ghost use Rattle.float.specs.Binary64.{◌*₆₄◌};
@@ -33,6 +35,7 @@ fn product_row(a: [[f64; 3]; 3], b: [[f64; 3]; 3], i: usize) -> [f64; 3]
     ]
 }
 
+#[tactic(auto, unfolding(crate::specs::Matrix::product_of))]
 pub fn product(a: [[f64; 3]; 3], b: [[f64; 3]; 3]) -> [[f64; 3]; 3]
     ensures { result ≡ product_of a b }
 {
@@ -43,12 +46,14 @@ pub fn product(a: [[f64; 3]; 3], b: [[f64; 3]; 3]) -> [[f64; 3]; 3]
     ]
 }
 
+#[tactic(auto, unfolding(crate::specs::Matrix::first_other))]
 fn first_other(i: usize) -> usize
     ensures { (result ≡ first_other i) × (result < 3) }
 {
     if i == 0 { 1 } else { 0 }
 }
 
+#[tactic(auto, unfolding(crate::specs::Matrix::second_other))]
 fn second_other(i: usize) -> usize
     ensures { (result ≡ second_other i) × (result < 3) }
 {
@@ -63,6 +68,7 @@ fn determinant2(m: [[f64; 3]; 3], r0: usize, r1: usize, c0: usize, c1: usize) ->
     entry(m, r0, c0) * entry(m, r1, c1) - entry(m, r0, c1) * entry(m, r1, c0)
 }
 
+#[tactic(auto, unfolding(crate::specs::Matrix::minor_of))]
 fn minor(m: [[f64; 3]; 3], i: usize, j: usize) -> f64
     ensures { result ≡ minor_of m i j }
 {
@@ -75,6 +81,7 @@ fn minor(m: [[f64; 3]; 3], i: usize, j: usize) -> f64
     )
 }
 
+#[tactic(auto, unfolding(crate::specs::Matrix::cofactor_of))]
 fn cofactor(m: [[f64; 3]; 3], i: usize, j: usize) -> f64
     requires { (i < 3) × (j < 3) }
     ensures { result ≡ cofactor_of m i j }
@@ -91,6 +98,7 @@ fn expansion_term(m: [[f64; 3]; 3], j: usize) -> f64
     entry(m, 0, j) * minor(m, 0, j)
 }
 
+#[tactic(auto, unfolding(crate::specs::Matrix::determinant_of))]
 pub fn determinant(m: [[f64; 3]; 3]) -> f64
     ensures { result ≡ determinant_of m }
 {
@@ -109,6 +117,7 @@ fn inverse_row(m: [[f64; 3]; 3], i: usize) -> [f64; 3]
     ]
 }
 
+#[tactic(auto, unfolding(crate::specs::Matrix::inverse_of))]
 pub fn inverse(m: [[f64; 3]; 3]) -> [[f64; 3]; 3]
     ensures { result ≡ inverse_of m }
 {

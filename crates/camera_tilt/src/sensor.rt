@@ -1,32 +1,40 @@
 // The tilted (Scheimpflug) sensor: its homography, whether it has an inverse, and a point under each.
 // Each function equals its formula, rounded operation by operation, for every input.
 
-ghost use Rattle.std.specs.Prelude.{◌≡◌, ◌<◌};
+ghost use Rattle.std.specs.Prelude.{◌≡◌, ◌<◌, Float};
 ghost use Rattle.camera_tilt.specs.Matrix.{product_of};
-ghost use Rattle.camera_tilt.specs.Sensor.{rot_x, rot_y, proj_z, tilt_projection_matrix, is_singular, tilt_verdict, tilt_number, homogeneous, forward_depth, inverse_depth, apply_homography, apply_homography_inverse};
+ghost use Rattle.camera_tilt.specs.Sensor.{rot_x, rot_y, proj_z, tilt_projection_matrix, is_singular, tilt_verdict, checked_inverse, homogeneous, forward_depth, inverse_depth, divided_by, apply_homography, apply_homography_inverse};
 
-use crate::matrix::{determinant, entry, product};
+use crate::matrix::{determinant, entry, inverse, product};
 use camera_models::math::Pt2;
+use common::Refusal;
 
 // Tilt about each axis of the sensor, in radians.
 #[repr(C)]
-#[derive(Clone, Copy)]
+#[derive(Clone, Copy, Default)]
 pub struct ScheimpflugParams {
     pub tilt_x: f64,
     pub tilt_y: f64,
 }
 
-// Whether a tilt's homography has an inverse.
+// Sine and cosine of the tilt about each axis.
+#[repr(C)]
 #[derive(Clone, Copy)]
-pub enum Tilt {
-    Invertible,
-    Refused(u8),
+pub struct TiltTrig {
+    pub sin_x: f64,
+    pub cos_x: f64,
+    pub sin_y: f64,
+    pub cos_y: f64,
 }
 
-// The rotation by both tilts, from the sine and cosine of each.
-fn rotation(sin_x: f64, cos_x: f64, sin_y: f64, cos_y: f64) -> [[f64; 3]; 3]
-    ensures { result ≡ product_of (rot_y sin_y cos_y) (rot_x sin_x cos_x) }
+// The rotation by both tilts.
+fn rotation(trig: TiltTrig) -> [[f64; 3]; 3]
+    ensures { result ≡ product_of (rot_y trig.sin_y trig.cos_y) (rot_x trig.sin_x trig.cos_x) }
 {
+    let sin_x = trig.sin_x;
+    let cos_x = trig.cos_x;
+    let sin_y = trig.sin_y;
+    let cos_y = trig.cos_y;
     let rot_x = [[1.0, 0.0, 0.0], [0.0, cos_x, sin_x], [0.0, -sin_x, cos_x]];
     let rot_y = [[cos_y, 0.0, -sin_y], [0.0, 1.0, 0.0], [sin_y, 0.0, cos_y]];
     product(rot_y, rot_x)
@@ -44,11 +52,12 @@ fn plane_projection(r: [[f64; 3]; 3]) -> [[f64; 3]; 3]
     ]
 }
 
-// OpenCV's homography of a tilted sensor, from the sine and cosine of each tilt.
-pub fn tilt_projection_matrix(sin_x: f64, cos_x: f64, sin_y: f64, cos_y: f64) -> [[f64; 3]; 3]
-    ensures { result ≡ tilt_projection_matrix sin_x cos_x sin_y cos_y }
+// OpenCV's homography of a tilted sensor.
+#[tactic(auto, unfolding(crate::specs::Sensor::tilt_projection_matrix))]
+pub fn tilt_projection_matrix(trig: TiltTrig) -> [[f64; 3]; 3]
+    ensures { result ≡ tilt_projection_matrix trig.sin_x trig.cos_x trig.sin_y trig.cos_y }
 {
-    let r = rotation(sin_x, cos_x, sin_y, cos_y);
+    let r = rotation(trig);
     product(plane_projection(r), r)
 }
 
@@ -59,26 +68,24 @@ fn is_singular(h: [[f64; 3]; 3]) -> bool
 }
 
 // A determinant of either zero is refused; a NaN or an infinity is not zero, and passes.
-pub fn tilt_verdict(h: [[f64; 3]; 3]) -> Tilt
+pub fn tilt_verdict(h: [[f64; 3]; 3]) -> Result<(), Refusal>
     ensures { result ≡ tilt_verdict h }
 {
     if is_singular(h) {
-        Tilt::Refused(15)
-    } else {
-        Tilt::Invertible
+        return Err(Refusal::SingularTilt);
     }
+    Ok(())
 }
 
-// The number of a refusal, 0 where there is none.
-pub fn tilt_number(t: Tilt) -> u8
-    ensures { result ≡ tilt_number t }
+// The inverse of a matrix that has one.
+pub fn checked_inverse(h: [[f64; 3]; 3]) -> Result<[[f64; 3]; 3], Refusal>
+    ensures { result ≡ checked_inverse h }
 {
-    match t {
-        Tilt::Invertible => 0,
-        Tilt::Refused(n) => n,
-    }
+    tilt_verdict(h)?;
+    Ok(inverse(h))
 }
 
+// Kept: the index is a plain number below 3: as a type of its own it would be made from a literal at each call, and taken apart at each read.
 fn homogeneous_entry(h: [[f64; 3]; 3], p: Pt2, i: usize) -> f64
     requires { i < 3 }
     ensures { result ≡ homogeneous h p i }
@@ -86,34 +93,42 @@ fn homogeneous_entry(h: [[f64; 3]; 3], p: Pt2, i: usize) -> f64
     entry(h, i, 0) * p.x + entry(h, i, 1) * p.y + entry(h, i, 2) * 1.0
 }
 
+#[tactic(auto, unfolding(crate::specs::Sensor::forward_depth))]
 fn forward_depth(z: f64) -> f64
     ensures { result ≡ forward_depth z }
 {
     if z > 1e-12 { z } else { 1e-12 }
 }
 
+#[tactic(auto, unfolding(crate::specs::Sensor::inverse_depth))]
 fn inverse_depth(z: f64) -> f64
     ensures { result ≡ inverse_depth z }
 {
     if float::abs(z) > 1e-12 { z } else { 1e-12 }
 }
 
-pub fn apply_homography(h: [[f64; 3]; 3], p: Pt2) -> Pt2
-    ensures { result ≡ apply_homography h p }
+// A point under a matrix: the first two coordinates, divided by what `depth` makes of the third.
+fn divided<F: Fn(f64) -> f64>(h: [[f64; 3]; 3], p: Pt2, depth: F) -> Pt2
+    requires { F.IsAlwaysCallable depth }
+    ensures { (d : Float) × F.post depth (homogeneous h p 2) d × (result ≡ divided_by d h p) }
 {
-    let d = forward_depth(homogeneous_entry(h, p, 2));
+    let d = depth(homogeneous_entry(h, p, 2));
     Pt2 {
         x: homogeneous_entry(h, p, 0) / d,
         y: homogeneous_entry(h, p, 1) / d,
     }
 }
 
+#[tactic(auto, unfolding(crate::specs::Sensor::apply_homography))]
+pub fn apply_homography(h: [[f64; 3]; 3], p: Pt2) -> Pt2
+    ensures { result ≡ apply_homography h p }
+{
+    divided(h, p, forward_depth)
+}
+
+#[tactic(auto, unfolding(crate::specs::Sensor::apply_homography_inverse))]
 pub fn apply_homography_inverse(h_inv: [[f64; 3]; 3], p: Pt2) -> Pt2
     ensures { result ≡ apply_homography_inverse h_inv p }
 {
-    let d = inverse_depth(homogeneous_entry(h_inv, p, 2));
-    Pt2 {
-        x: homogeneous_entry(h_inv, p, 0) / d,
-        y: homogeneous_entry(h_inv, p, 1) / d,
-    }
+    divided(h_inv, p, inverse_depth)
 }

@@ -1,6 +1,6 @@
--- With our own sine and cosine of two tilts, each at most 0.5 in size, the determinant of the tilted sensor's matrix is above 0.5: no such tilt gives 15.
+-- With our own sine and cosine of two tilts, each at most 0.5 in size, the determinant of the tilted sensor's matrix is above 0.5: no such tilt is refused.
 -- Assumes nothing.
-use Rattle.std.specs.Prelude.{◌≡◌, refl, Bool, true, false, ℕ, ◌+◌, ◌*◌, ◌^◌, ◌≤◌, ◌<◌, ℤ, Float}
+use Rattle.std.specs.Prelude.{◌≡◌, refl, Bool, true, false, ℕ, ◌+◌, ◌*◌, ◌^◌, ◌≤◌, ◌<◌, ℤ, Float, Ok}
 use Rattle.std.proofs.Common.{◌∙◌, sym, true≢false, zero-mul, mul-zero, mul-le-mul, mul-le-mul_right, mul-pos, lt_of_mul-lt-mul_right, arith, ltb-true, lt-ltb, ne_eqb}
 use Rattle.std.specs.Float.{nan, inf, fin}
 use Rattle.std.specs.Float.Ieee.{of_bits, up, down, lt, eq}
@@ -9,7 +9,6 @@ use Rattle.float.specs.Sign.{eq_zero}
 use Rattle.float.specs.Literals.{plus_zero, half₆₄}
 use Rattle.camera_tilt.specs.Matrix.{determinant_of}
 use Rattle.camera_tilt.specs.Sensor.{tilt_projection_matrix, tilt_verdict}
-use Rattle.camera_tilt.specs.declared.sensor.Tilt.TheVariants.{Invertible}
 use Rattle.float_laws.specs.Fraction.{Fraction, signed, opposite, ◌⊕◌, ◌⊗◌, Near, size_signed, ring}
 use Rattle.float_laws.specs.Rounded.{value, Within, within, exact}
 use Rattle.float_laws.specs.Known.{Known}
@@ -104,6 +103,5 @@ module _ (x y : Float) (g : beyond_half x ≡ false) (h : beyond_half y ≡ fals
   pub above_half : lt half₆₄ (determinant_of (tilt_projection_matrix (series_of sines x) (series_of cosines x) (series_of sines y) (series_of cosines y))) ≡ true
   above_half = in_range (sine_cosine x g) (sine_cosine y h)
 
-  pub never_singular : tilt_verdict (tilt_projection_matrix (series_of sines x) (series_of cosines x) (series_of sines y) (series_of cosines y)) ≡ Invertible
-  unfolding tilt_verdict
+  pub never_singular : tilt_verdict (tilt_projection_matrix (series_of sines x) (series_of cosines x) (series_of sines y) (series_of cosines y)) ≡ Ok tt
   never_singular = rw (not_zero _ above_half)

@@ -1,6 +1,6 @@
 -- The squared length of `distorted b p - target` falls strictly along the points that undistortion accepts, from the target on; the reply is the last Newton step
 -- from the last of them. Of that step itself nothing is claimed: no trial looks at it. Assumes nothing.
-use Rattle.std.specs.Prelude.{◌≡◌, Bool, true, false, cond, List, [], ◌∷◌, eqb, Float}
+use Rattle.std.specs.Prelude.{◌≡◌, Bool, true, false, cond, List, [], ◌∷◌, eqb, Option, Some, None, Float}
 use Rattle.std.proofs.Math.Path.{refl}
 use Rattle.std.proofs.Common.{sym, ap, subst}
 use Prim.Native.Nat.{ℕ, zero, suc}
@@ -13,8 +13,7 @@ use Rattle.camera_undistort.specs.Undistortion.{estimate_at, minus_point, halved
 use Rattle.camera_models.specs.declared.math.Pt2.{Pt2}
 use Rattle.camera_models.specs.declared.distortion.BrownConrady5.{BrownConrady5}
 use Rattle.camera_undistort.specs.declared.Estimate.{Estimate}
-use Rattle.camera_undistort.specs.declared.TrialResult.{TrialResult}
-use Rattle.camera_undistort.specs.declared.TrialResult.TheVariants.{Accepted, Exhausted}
+use Rattle.camera_undistort.specs.declared.Trial.{Trial}
 use Rattle.camera_undistort.specs.declared.Turn.{Turn}
 use Rattle.camera_undistort.specs.declared.Turn.TheVariants.{Ended, Last, Further}
 
@@ -58,11 +57,11 @@ module _ (b : BrownConrady5) (target : Pt2) where
   unfolding improves estimate_at
   improves_better p q h = let c = both_true _ _ h in (refl, record { finite = c.0; lower = c.1 })
 
-  abbrev Found : Pt2 → TrialResult → Type 0
-  Found p Exhausted = Unit {0}
-  Found p (Accepted next step) = Better p next
+  abbrev Found : Pt2 → Option Trial → Type 0
+  Found p None = Unit {0}
+  Found p (Some trial) = Better p trial.estimate
 
-  chosen : (c : Bool) (p q step : Pt2) (s : TrialResult) → c ≡ improves (estimate_at b target q) (estimate_at b target p) → Found p s → Found p (cond c (Accepted (estimate_at b target q) step) s)
+  chosen : (c : Bool) (p q step : Pt2) (s : Option Trial) → c ≡ improves (estimate_at b target q) (estimate_at b target p) → Found p s → Found p (cond c (Some (record { estimate = estimate_at b target q; step = step })) s)
   chosen true p q step s h f = improves_better p q (sym h)
   chosen false p q step s h f = f
 
@@ -80,10 +79,10 @@ module _ (b : BrownConrady5) (target : Pt2) where
   small_or_not true p next h = h
   small_or_not false p next h = h
 
-  after : (p : Pt2) (s : TrialResult) → Found p s → Taken p (after_trials s)
+  after : (p : Pt2) (s : Option Trial) → Found p s → Taken p (after_trials s)
   unfolding after_trials
-  after p Exhausted f = tt
-  after p (Accepted next step) f = small_or_not (small_step step next.point) p next f
+  after p None f = tt
+  after p (Some trial) f = small_or_not (small_step trial.step trial.estimate.point) p trial.estimate f
 
   or_ended : (c : Bool) (p : Pt2) (t : Turn) → Taken p t → Taken p (cond c Ended t)
   or_ended true p t h = tt

@@ -1,5 +1,5 @@
 -- The undistorted point, by Newton's method on the distortion, each operation rounded. Definitions only.
-use Rattle.std.specs.Prelude.{ℕ, zero, suc, Bool, not, ◌&&◌, ◌||◌, cond, eqb, Float}
+use Rattle.std.specs.Prelude.{ℕ, zero, suc, Bool, not, ◌&&◌, ◌||◌, cond, eqb, Option, Some, None, Float}
 use Rattle.std.specs.Float.Ieee.{lt, le, eq}
 use Rattle.float.specs.Float.{is_finite}
 use Rattle.float.specs.Literals.{plus_zero, one₆₄, half₆₄}
@@ -10,8 +10,7 @@ use Rattle.camera_models.specs.declared.math.Pt2.{Pt2}
 use Rattle.camera_models.specs.declared.distortion.BrownConrady5.{BrownConrady5}
 use Rattle.camera_models.specs.declared.distortion.Jacobian.{Jacobian}
 use Rattle.camera_undistort.specs.declared.Estimate.{Estimate}
-use Rattle.camera_undistort.specs.declared.TrialResult.{TrialResult}
-use Rattle.camera_undistort.specs.declared.TrialResult.TheVariants.{Accepted, Exhausted}
+use Rattle.camera_undistort.specs.declared.Trial.{Trial}
 use Rattle.camera_undistort.specs.declared.Turn.{Turn}
 use Rattle.camera_undistort.specs.declared.Turn.TheVariants.{Ended, Last, Further}
 
@@ -52,20 +51,20 @@ unfoldable pub improves : Estimate → Estimate → Bool
 improves next e = is_finite (squared_residual next) && lt (squared_residual next) (squared_residual e)
 
 -- at most n trials, each with half the step of the one before: the first that improves on e, with its step
-unfoldable pub trials : ℕ → BrownConrady5 → Pt2 → Estimate → Pt2 → TrialResult
-trials zero b target e step = Exhausted
+unfoldable pub trials : ℕ → BrownConrady5 → Pt2 → Estimate → Pt2 → Option Trial
+trials zero b target e step = None
 trials (suc n) b target e step =
     let next = estimate_at b target (minus_point e.point step) in
-    cond (improves next e) (Accepted next step) (trials n b target e (halved step))
+    cond (improves next e) (Some (record { estimate = next; step = step })) (trials n b target e (halved step))
 
 -- the step is as small as the point's rounding
 unfoldable pub small_step : Pt2 → Pt2 → Bool
 small_step step p = le (squared_norm step) (tolerance *₆₄ (one₆₄ +₆₄ p.x *₆₄ p.x +₆₄ p.y *₆₄ p.y))
 
 -- after the trials: an accepted estimate is the last where its step was small
-unfoldable pub after_trials : TrialResult → Turn
-after_trials Exhausted = Ended
-after_trials (Accepted next step) = cond (small_step step next.point) (Last next) (Further next)
+unfoldable pub after_trials : Option Trial → Turn
+after_trials None = Ended
+after_trials (Some trial) = cond (small_step trial.step trial.estimate.point) (Last trial.estimate) (Further trial.estimate)
 
 -- one turn of the method: it also ends at an exact solution and at a singular Jacobian
 unfoldable pub newton_turn : BrownConrady5 → Pt2 → Estimate → Turn

@@ -1,10 +1,11 @@
 // Each struct as it came: a caller in another language tests with these that both sides lay a struct out alike.
+// Kept: C has no generic functions, and the header names each of these: one function for each struct.
 ghost use Rattle.std.specs.Prelude.{◌≡◌};
 
 use camera_models::distortion::{BrownConrady5, DistortedPoint, Jacobian};
 use camera_models::intrinsics::FxFyCxCy;
 use camera_models::math::Pt2;
-use camera_tilt::sensor::ScheimpflugParams;
+use camera_tilt::sensor::{ScheimpflugParams, TiltTrig};
 use capi_records::camera::{CameraReply, InverseReply, Matrix3, SumReply};
 use capi_records::journal::{LineRecord, ReadReply, WriteReply};
 use capi_records::lists::{CenterReply, LineReply, NormalizeReply};
@@ -18,7 +19,6 @@ use capi_records::scoring::ErrorCountReply;
 use journal_line::Counts;
 use score_best::Candidate;
 use score_camera::pinhole::PinholeCamera;
-use score_rows::TiltTrig;
 use search_calls::progress::ProgressReply;
 use seed_rules::CandidateSeed;
 use zhang::Conic;

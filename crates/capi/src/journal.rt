@@ -1,21 +1,30 @@
 // The journal: a line written to a lent buffer, and read from a place; and the report of a run's counts.
 ghost use Rattle.std.specs.Prelude.{◌≡◌};
-ghost use Rattle.journal_line.specs.Writing.{write_reply, write_into};
 ghost use Rattle.journal_line.specs.Reading.{read_line};
 ghost use Rattle.journal_line.specs.Report.{report_reply, report_into};
-ghost use Rattle.capi_records.specs.Journal.{line_from, flat_written, flat_read};
+ghost use Rattle.capi_records.specs.Journal.{flat_written, flat_read, record_reply, record_into};
 
-use capi_records::journal::{LineRecord, ReadReply, WriteReply, line_of, read_reply, write_reply};
+use capi_records::journal::{LineRecord, ReadReply, WriteReply, read_reply};
+use common::Refusal;
 use journal_bytes::{report, writing};
-use journal_line::Counts;
+use journal_line::{Counts, Line};
+
+// The line of a record, written; a record that is no line is refused before anything is.
+fn write_record(flat: LineRecord, to: &mut [u8]) -> Result<usize, Refusal>
+    ensures reply { result ≡ record_reply flat to.old }
+    ensures written { to.new ≡ record_into flat to.old }
+{
+    let line = Line::try_from(flat)?;
+    writing::write_line(line, to)
+}
 
 // The line's bytes at the front of `to`; 0 and how many, or 28.
 #[unsafe(no_mangle)]
 pub extern "C" fn jc_write_line(line: LineRecord, to: &mut [u8]) -> WriteReply
-    ensures reply { result ≡ flat_written (write_reply (line_from line) to.old) }
-    ensures written { to.new ≡ write_into (line_from line) to.old }
+    ensures reply { result ≡ flat_written (record_reply line to.old) }
+    ensures written { to.new ≡ record_into line to.old }
 {
-    write_reply(writing::write_line(line_of(line), to))
+    write_record(line, to).into()
 }
 
 // The line at a place of a journal; or its end; or 29.
@@ -32,5 +41,5 @@ pub extern "C" fn jc_write_report(counts: Counts, to: &mut [u8]) -> WriteReply
     ensures reply { result ≡ flat_written (report_reply counts to.old) }
     ensures written { to.new ≡ report_into counts to.old }
 {
-    write_reply(report::write_report(counts, to))
+    report::write_report(counts, to).into()
 }

@@ -1,24 +1,22 @@
 // Operations on lists of points: the point maps, normalising, the line test, the design rows and the centre.
 ghost use Rattle.std.specs.Prelude.{◌≡◌, length};
 ghost use Rattle.camera_tilt.specs.Sensor.{tilt_projection_matrix};
-ghost use Rattle.point_maps.specs.declared.maps.Lens.{Lens};
+ghost use Rattle.camera_undistort.specs.Undistortion.{undistorted};
 ghost use Rattle.point_maps.specs.Maps.{map_reply, map_destination};
 ghost use Rattle.point_normalise.specs.Linalg.{normalize_reply, normalize_into};
 ghost use Rattle.point_homography.specs.Line.{line_reply};
 ghost use Rattle.point_homography.specs.Rows.{rows_reply, rows_into};
 ghost use Rattle.point_maps.specs.Centre.{center_reply};
-ghost use Rattle.capi_records.specs.Lists.{mapped_number, rows_number, flat_normalized, flat_line_test, flat_center};
+ghost use Rattle.capi_records.specs.Lists.{refusal_number, flat_normalized, flat_line_test, flat_center};
 
 use camera_models::intrinsics::FxFyCxCy;
-use capi_records::lists::{
-    CenterReply, LineReply, NormalizeReply, center_reply, line_reply, mapped_number,
-    normalize_reply, rows_number,
-};
+use camera_tilt::sensor::TiltTrig;
+use capi_records::lists::{CenterReply, LineReply, NormalizeReply, refusal_number};
 use point_maps::{centre, maps};
 use score_camera::pinhole::PinholeCamera;
-use score_rows::TiltTrig;
 
 // The pixels of a sensor that is not tilted, at the front of `to`; 0, or 17, 18 or 15.
+// Kept: the header's type: a refusal is handed to C as its number.
 #[unsafe(no_mangle)]
 pub extern "C" fn jc_untilt_points(
     k: FxFyCxCy,
@@ -26,15 +24,14 @@ pub extern "C" fn jc_untilt_points(
     points: &[f64],
     to: &mut [f64],
 ) -> u8
-    ensures number { result ≡ mapped_number (map_reply (tilt_projection_matrix trig.sin_x trig.cos_x trig.sin_y trig.cos_y) points.now to.old) }
-    ensures destination { to.new ≡ map_destination k Lens.Kept (tilt_projection_matrix trig.sin_x trig.cos_x trig.sin_y trig.cos_y) points.now to.old }
+    ensures number { result ≡ refusal_number (map_reply (tilt_projection_matrix trig.sin_x trig.cos_x trig.sin_y trig.cos_y) points.now to.old) }
+    ensures destination { to.new ≡ map_destination k (λ p. p) (tilt_projection_matrix trig.sin_x trig.cos_x trig.sin_y trig.cos_y) points.now to.old }
 {
-    mapped_number(maps::untilt_points(
-        k, trig.sin_x, trig.cos_x, trig.sin_y, trig.cos_y, points, to,
-    ))
+    refusal_number(maps::untilt_points(k, trig, points, to))
 }
 
 // The pixels of a camera with neither tilt nor distortion, at the front of `to`; 0, or 17, 18 or 15.
+// Kept: the header's type: a refusal is handed to C as its number.
 #[unsafe(no_mangle)]
 pub extern "C" fn jc_ideal_points(
     camera: PinholeCamera,
@@ -43,14 +40,10 @@ pub extern "C" fn jc_ideal_points(
     points: &[f64],
     to: &mut [f64],
 ) -> u8
-    ensures number { result ≡ mapped_number (map_reply (tilt_projection_matrix trig.sin_x trig.cos_x trig.sin_y trig.cos_y) points.now to.old) }
-    ensures destination { to.new ≡ map_destination camera.k (Lens.Removed camera.dist iters) (tilt_projection_matrix trig.sin_x trig.cos_x trig.sin_y trig.cos_y) points.now to.old }
+    ensures number { result ≡ refusal_number (map_reply (tilt_projection_matrix trig.sin_x trig.cos_x trig.sin_y trig.cos_y) points.now to.old) }
+    ensures destination { to.new ≡ map_destination camera.k (undistorted camera.dist iters) (tilt_projection_matrix trig.sin_x trig.cos_x trig.sin_y trig.cos_y) points.now to.old }
 {
-    let k = camera.k;
-    let dist = camera.dist;
-    mapped_number(maps::ideal_points(
-        k, dist, iters, trig.sin_x, trig.cos_x, trig.sin_y, trig.cos_y, points, to,
-    ))
+    refusal_number(maps::ideal_points(camera.k, camera.dist, iters, trig, points, to))
 }
 
 // The normalised points at the front of `to`, and the transform.
@@ -59,28 +52,29 @@ pub extern "C" fn jc_normalize_points_2d(points: &[f64], to: &mut [f64]) -> Norm
     ensures reply { result ≡ flat_normalized (normalize_reply points.now (length to.old)) }
     ensures written { to.new ≡ normalize_into points.now to.old }
 {
-    normalize_reply(point_normalise::linalg::normalize_points_2d(points, to))
+    point_normalise::linalg::normalize_points_2d(points, to).into()
 }
 
 #[unsafe(no_mangle)]
 pub extern "C" fn jc_points_are_collinear(points: &[f64]) -> LineReply
     ensures { result ≡ flat_line_test (line_reply points.now) }
 {
-    line_reply(point_homography::points_are_collinear(points))
+    point_homography::points_are_collinear(points).into()
 }
 
 // The design rows at the front of `to`, 18 numbers a point; 0, or 17, 18 or 20 to 25.
+// Kept: the header's type: a refusal is handed to C as its number.
 #[unsafe(no_mangle)]
 pub extern "C" fn jc_design_rows(source: &[f64], destination: &[f64], to: &mut [f64]) -> u8
-    ensures number { result ≡ rows_number (rows_reply source.now destination.now (length to.old)) }
+    ensures number { result ≡ refusal_number (rows_reply source.now destination.now (length to.old)) }
     ensures written { to.new ≡ rows_into source.now destination.now to.old }
 {
-    rows_number(point_homography::design_rows(source, destination, to))
+    refusal_number(point_homography::design_rows(source, destination, to))
 }
 
 #[unsafe(no_mangle)]
 pub extern "C" fn jc_observed_pixel_center(pixels: &[f64]) -> CenterReply
     ensures { result ≡ flat_center (center_reply pixels.now) }
 {
-    center_reply(centre::observed_pixel_center(pixels))
+    centre::observed_pixel_center(pixels).into()
 }

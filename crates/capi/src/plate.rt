@@ -4,11 +4,11 @@ ghost use Rattle.zhang_plate.specs.Plate.{plate_of};
 ghost use Rattle.capi_records.specs.Plate.{flat_plate};
 
 use camera_models::intrinsics::FxFyCxCy;
-use capi_records::plate::{PlateReply, plate_reply};
+use capi_records::plate::PlateReply;
 
 #[unsafe(no_mangle)]
 pub extern "C" fn jc_known_plate(k: FxFyCxCy) -> PlateReply
     ensures { result ≡ flat_plate (plate_of k) }
 {
-    plate_reply(zhang_plate::known_plate(k))
+    zhang_plate::known_plate(k).into()
 }

@@ -7,12 +7,14 @@ ghost use Rattle.capi_records.specs.Replay.{flat_replayed, flat_resumed};
 
 use camera_models::intrinsics::FxFyCxCy;
 use camera_models::math::Pt2;
-use capi_records::record::{OptionsRecord, options_of};
-use capi_records::replay::{ReplayFlat, ResumeFlat, replay_flat, resume_flat};
+use capi_records::record::OptionsRecord;
+use capi_records::replay::{ReplayFlat, ResumeFlat};
 use journal_replay::replay::replay;
 use journal_replay::resume::resume;
+use search_start::Inputs;
 
 // Replay: who won, or what comes next, and the list as the lines leave it.
+// Kept: C lends each list apart, the journal's bytes too, and the header has these nine parameters.
 #[unsafe(no_mangle)]
 pub extern "C" fn jc_replay(
     views: usize,
@@ -28,20 +30,20 @@ pub extern "C" fn jc_replay(
     ensures reply { result ≡ flat_replayed (replay_def views (options_from options) tilt_x_seeds.now tilt_y_seeds.now decomposition.now base center list.old bytes.now).reply }
     ensures written { list.new ≡ (replay_def views (options_from options) tilt_x_seeds.now tilt_y_seeds.now decomposition.now base center list.old bytes.now).list }
 {
-    replay_flat(replay(
+    let inputs = Inputs {
         views,
-        options_of(options),
+        options: options.into(),
         tilt_x_seeds,
         tilt_y_seeds,
         decomposition,
         base,
         center,
-        bytes,
-        list,
-    ))
+    };
+    replay(inputs, bytes, list).into()
 }
 
 // Resume: the run and the list as the kept lines leave them, and what was kept.
+// Kept: C lends each list apart, the journal's bytes too, and the header has these nine parameters.
 #[unsafe(no_mangle)]
 pub extern "C" fn jc_resume(
     views: usize,
@@ -57,15 +59,14 @@ pub extern "C" fn jc_resume(
     ensures reply { result ≡ flat_resumed (resume_def views (options_from options) tilt_x_seeds.now tilt_y_seeds.now decomposition.now base center list.old bytes.now).reply }
     ensures written { list.new ≡ (resume_def views (options_from options) tilt_x_seeds.now tilt_y_seeds.now decomposition.now base center list.old bytes.now).list }
 {
-    resume_flat(resume(
+    let inputs = Inputs {
         views,
-        options_of(options),
+        options: options.into(),
         tilt_x_seeds,
         tilt_y_seeds,
         decomposition,
         base,
         center,
-        bytes,
-        list,
-    ))
+    };
+    resume(inputs, bytes, list).into()
 }

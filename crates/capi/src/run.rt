@@ -14,18 +14,17 @@ ghost use Rattle.capi_records.specs.Run.{flat_started, flat_next, flat_answer, f
 
 use camera_models::intrinsics::FxFyCxCy;
 use camera_models::math::Pt2;
-use capi_records::record::{
-    BestRecord, LastRecord, OptionsRecord, RunRecord, best_of, best_record, options_of, run_of,
-};
+use capi_records::record::{BestRecord, LastRecord, OptionsRecord, RunRecord};
 use capi_records::run::{
-    AnswerFlat, NextFlat, ResultFlat, StartFlat, StopFlat, answer_flat, copy_part, finding_of,
-    last_flat, next_flat, result_flat, start_flat, stop_flat,
+    AnswerFlat, NextFlat, ResultFlat, StartFlat, StopFlat, copy_part, finding_of,
 };
 use journal_line::Counts;
 use score_camera::pinhole::PinholeCamera;
 use search_calls::progress::ProgressReply;
+use search_start::{Inputs, start};
 
 // Start: round 0's list is written to the front of `list`.
+// Kept: C lends each list apart, and the header has these eight parameters.
 #[unsafe(no_mangle)]
 pub extern "C" fn jc_start(
     views: usize,
@@ -40,16 +39,16 @@ pub extern "C" fn jc_start(
     ensures reply { result ≡ flat_started (start_reply views (options_from options) tilt_x_seeds.now tilt_y_seeds.now decomposition.now base center list.old) }
     ensures written { list.new ≡ start_list views (options_from options) tilt_x_seeds.now tilt_y_seeds.now decomposition.now base center list.old }
 {
-    start_flat(search_start::start(
+    let inputs = Inputs {
         views,
-        options_of(options),
+        options: options.into(),
         tilt_x_seeds,
         tilt_y_seeds,
         decomposition,
         base,
         center,
-        list,
-    ))
+    };
+    start(inputs, list).into()
 }
 
 // Next: the number of the candidate whose seed is handed out.
@@ -57,7 +56,7 @@ pub extern "C" fn jc_start(
 pub extern "C" fn jc_next(run: RunRecord, list: &[f64]) -> NextFlat
     ensures { result ≡ flat_next (next_def (run_from run) list.now) }
 {
-    next_flat(search_calls::next::next(run_of(run), list))
+    search_calls::next::next(run.into(), list).into()
 }
 
 // The seed call: the waiting seed's six numbers are copied to the front of `to`. How many were copied: 6, or 0 where none waits, or the list or `to` is too short.
@@ -66,10 +65,11 @@ pub extern "C" fn jc_seed(run: RunRecord, list: &[f64], to: &mut [f64]) -> usize
     ensures count { result ≡ copy_count (seed_part (run_from run) list.now) to.old }
     ensures copy { to.new ≡ copied (seed_part (run_from run) list.now) to.old }
 {
-    copy_part(search_calls::next::seed(run_of(run), list), to)
+    copy_part(search_calls::next::seed(run.into(), list), to)
 }
 
 // Answer: Failed where `is_solved` is 0, else Solved. A round's last one writes the next list to the front of `list`.
+// Kept: the flag is the header's type: C hands a finding over as a byte and a camera.
 #[unsafe(no_mangle)]
 pub extern "C" fn jc_answer(
     run: RunRecord,
@@ -82,13 +82,7 @@ pub extern "C" fn jc_answer(
     ensures reply { result ≡ flat_answer (answer_def (run_from run) (finding_of is_solved solved) rows.now flags.now list.old).reply }
     ensures written { list.new ≡ (answer_def (run_from run) (finding_of is_solved solved) rows.now flags.now list.old).list }
 {
-    answer_flat(search_answer::answer(
-        run_of(run),
-        finding_of(is_solved, solved),
-        rows,
-        flags,
-        list,
-    ))
+    search_answer::answer(run.into(), finding_of(is_solved, solved), rows, flags, list).into()
 }
 
 // Result: the run's best, once it is over.
@@ -96,7 +90,7 @@ pub extern "C" fn jc_answer(
 pub extern "C" fn jc_result(run: RunRecord) -> ResultFlat
     ensures { result ≡ flat_result (result_def (run_from run)) }
 {
-    result_flat(search_calls::result::result(run_of(run)))
+    search_calls::result::result(run.into()).into()
 }
 
 // The progress call: how far the run has come.
@@ -104,7 +98,7 @@ pub extern "C" fn jc_result(run: RunRecord) -> ResultFlat
 pub extern "C" fn jc_progress(run: RunRecord) -> ProgressReply
     ensures { result ≡ progress_def (run_from run) }
 {
-    search_calls::progress::progress(run_of(run))
+    search_calls::progress::progress(run.into())
 }
 
 // The stop call: the best so far, and how much this round could still gain.
@@ -112,7 +106,7 @@ pub extern "C" fn jc_progress(run: RunRecord) -> ProgressReply
 pub extern "C" fn jc_stop(run: RunRecord, list: &[f64]) -> StopFlat
     ensures { result ≡ flat_stopped (stop_def (run_from run) list.now) }
 {
-    stop_flat(search_calls::stop::stop(run_of(run), list))
+    search_calls::stop::stop(run.into(), list).into()
 }
 
 // The last answered candidate's line, or nothing before the first answer.
@@ -120,7 +114,7 @@ pub extern "C" fn jc_stop(run: RunRecord, list: &[f64]) -> StopFlat
 pub extern "C" fn jc_last_line(run: RunRecord) -> LastRecord
     ensures { result ≡ flat_last_line (last_def (run_from run)) }
 {
-    last_flat(search_calls::last::last_line(run_of(run)))
+    search_calls::last::last_line(run.into()).into()
 }
 
 // How many candidates were scored, and how many skipped for each reason.
@@ -128,7 +122,7 @@ pub extern "C" fn jc_last_line(run: RunRecord) -> LastRecord
 pub extern "C" fn jc_counts(run: RunRecord) -> Counts
     ensures { result ≡ counts_def (run_from run) }
 {
-    search_calls::counts::counts(run_of(run))
+    search_calls::counts::counts(run.into())
 }
 
 // 02, E14: the winner of two stretches of candidates, the earlier one first.
@@ -136,5 +130,5 @@ pub extern "C" fn jc_counts(run: RunRecord) -> Counts
 pub extern "C" fn jc_winner(first: BestRecord, second: BestRecord) -> BestRecord
     ensures { result ≡ flat_best (winner_of_bests (best_from first) (best_from second)) }
 {
-    best_record(score_best::winner(best_of(first), best_of(second)))
+    score_best::winner(first.into(), second.into()).into()
 }

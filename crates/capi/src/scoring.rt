@@ -10,11 +10,10 @@ ghost use Rattle.capi_records.specs.Scoring.{flat_error_count};
 use camera_models::distortion::BrownConrady5;
 use camera_models::intrinsics::FxFyCxCy;
 use camera_models::math::Pt2;
-use camera_tilt::sensor::ScheimpflugParams;
-use capi_records::scoring::{ErrorCountReply, error_count_reply};
+use camera_tilt::sensor::{ScheimpflugParams, TiltTrig};
+use capi_records::scoring::ErrorCountReply;
 use score_camera::pinhole::PinholeCamera;
 use score_camera::{penalties, pinhole};
-use score_rows::TiltTrig;
 
 #[unsafe(no_mangle)]
 pub extern "C" fn jc_damp_seed_distortion(distortion: BrownConrady5) -> BrownConrady5
@@ -67,5 +66,5 @@ pub extern "C" fn jc_count_errors(
 ) -> ErrorCountReply
     ensures { result ≡ flat_error_count (error_count_of solved sensor rows.now flags.now) }
 {
-    error_count_reply(score_outcome::count_errors(solved, sensor, rows, flags))
+    score_outcome::count_errors(solved, sensor, rows, flags).into()
 }

@@ -1,7 +1,13 @@
 -- The exported calls, what a host reads off their flat replies, and a list of such calls, each given the flat record and the seed list as the
 -- calls before left them, by the very definitions that the exported functions' contracts name. Definitions only.
-use Rattle.std.specs.Prelude.{ℕ, ◌≤◌, cond, List, [], ◌∷◌, ◌++◌, eqb, length, take, drop, Float}
+use Rattle.std.specs.Prelude.{ℕ, ◌≤◌, cond, List, [], ◌∷◌, ◌++◌, eqb, length, take, drop, Float, Option, Some, None, Result, Ok, Err}
+use Rattle.common.specs.declared.Refusal.{Refusal}
+use Rattle.common.specs.declared.Refusal.TheVariants.{TooFewViews, NoTilts, BadBound, BadStep, TooMany, BadSeed, TiltNotFinite, SmallBuffer, SeedWaits, ShortList, NothingScored, NoSeedWaits, BadRows, NotOver, SingularTilt, DegenerateViews, BadLength, NoRoom, NoSpread, SourceNotFinite, DestinationNotFinite, TooFewPoints, CountsDiffer, SourceCollinear, DestinationCollinear, BeyondHalf, NotWritable, NotOfForm, NotTheRun, TwoAxes, TiltedSeed, ShareAboveAll, NoPlate}
+use Rattle.common.specs.Number.{number_of}
 use Rattle.score_camera.specs.declared.pinhole.PinholeCamera.{PinholeCamera}
+use Rattle.score_outcome.specs.declared.SkipReason.{SkipReason}
+use Rattle.score_outcome.specs.Reasons.{reason_numbered}
+use Rattle.journal_line.specs.declared.Line.{Line}
 use Rattle.search_calls.specs.Next.{next_def, seed_part}
 use Rattle.search_answer.specs.Answer.{answer_def}
 use Rattle.search_calls.specs.declared.progress.ProgressReply.{ProgressReply}
@@ -10,13 +16,14 @@ use Rattle.search_calls.specs.Progress.{progress_def}
 use Rattle.search_calls.specs.Stop.{stop_def}
 use Rattle.search_calls.specs.Last.{last_def}
 use Rattle.search_calls.specs.Counts.{counts_def}
-use Rattle.journal_replay.specs.declared.Replayed.{Replayed}
-use Rattle.journal_replay.specs.declared.Replayed.TheVariants as replayed
+use Rattle.journal_replay.specs.declared.Standing.{Standing}
+use Rattle.journal_replay.specs.declared.Standing.TheVariants.{Winner, Unfinished}
+use Rattle.journal_replay.specs.declared.ReplayRefusal.{ReplayRefusal}
+use Rattle.journal_replay.specs.declared.ReplayRefusal.TheVariants.{Refused, At}
 use Rattle.journal_replay.specs.declared.EndedBy.{EndedBy}
 use Rattle.journal_replay.specs.declared.EndedBy.TheVariants as by
 use Rattle.journal_replay.specs.declared.Report.{Report}
 use Rattle.journal_replay.specs.declared.Resumed.{Resumed}
-use Rattle.journal_replay.specs.declared.Resumed.TheVariants as resumed
 use Rattle.capi_records.specs.declared.record.LastRecord.{LastRecord}
 use Rattle.capi_records.specs.declared.record.RunRecord.{RunRecord}
 use Rattle.capi_records.specs.declared.run.NextFlat.{NextFlat}
@@ -55,34 +62,62 @@ call_of (jc_stop_lem n) = book.stop n
 call_of jc_last_line_lem = book.last
 call_of jc_counts_lem = book.counts
 
--- ---- what a host reads off a reply: a number that isn't 0 is a refusal's, and then the flags say which field counts
+-- ---- what a host reads off a reply: whether its number is a refusal's, and then the flags say which field counts
+abbrev pub refusals : List Refusal
+refusals = TooFewViews ∷ NoTilts ∷ BadBound ∷ BadStep ∷ TooMany ∷ BadSeed ∷ TiltNotFinite ∷ SmallBuffer ∷ SeedWaits ∷ ShortList ∷ NothingScored ∷ NoSeedWaits ∷ BadRows ∷ NotOver ∷ SingularTilt ∷ DegenerateViews ∷ BadLength ∷ NoRoom ∷ NoSpread ∷ SourceNotFinite ∷ DestinationNotFinite ∷ TooFewPoints ∷ CountsDiffer ∷ SourceCollinear ∷ DestinationCollinear ∷ BeyondHalf ∷ NotWritable ∷ NotOfForm ∷ NotTheRun ∷ TwoAxes ∷ TiltedSeed ∷ ShareAboveAll ∷ NoPlate ∷ []
+
+abbrev pub first_with : ℕ → List Refusal → Option Refusal
+first_with n [] = None
+first_with n (r ∷ rs) = cond (eqb n (number_of r)) (Some r) (first_with n rs)
+
+-- the refusal that has a number; 0 is none's
+abbrev pub refusal_with : ℕ → Option Refusal
+refusal_with n = first_with n refusals
+
+-- a refusal, or else the answer
+abbrev pub unless_refused : Option Refusal → Reply → Reply
+unless_refused (Some r) a = refused r
+unless_refused None a = a
+
+abbrev pub refused_or : ℕ → Reply → Reply
+refused_or n a = unless_refused (refusal_with n) a
+
 abbrev pub read_next : NextFlat → Reply
-read_next f = cond (eqb f.number 0) (cond (eqb f.over 0) (candidate f.candidate) over) (refused f.number)
+read_next f = refused_or f.number (cond (eqb f.over 0) (candidate f.candidate) over)
+
+-- a skip for the reason that a number names, or else a score
+abbrev pub skipped_or : Result SkipReason Refusal → Float → Reply
+skipped_or (Ok reason) s = skipped reason
+skipped_or (Err none) s = scored s
 
 abbrev pub read_answer : AnswerFlat → Reply
-read_answer f = cond (eqb f.number 0) (cond (eqb f.skipped 0) (scored f.score) (skipped f.skipped)) (refused f.number)
+read_answer f = refused_or f.number (skipped_or (reason_numbered f.skipped) f.score)
 
 abbrev pub read_result : ResultFlat → Reply
-read_result f = cond (eqb f.number 0) (result f.candidate) (refused f.number)
+read_result f = refused_or f.number (result f.candidate)
 
 abbrev pub read_progress : ProgressReply → Reply
 read_progress p = bar (record { round = p.round; rounds = p.rounds; answered = p.answered; total = p.total; in_run = p.answered_in_run })
 
 abbrev pub read_stop : StopFlat → Reply
 read_stop f =
-    cond (eqb f.number 0)
+    refused_or f.number
     (stopped (cond (eqb f.has_best 0) nothing (chosen f.best)) (cond (eqb f.has_floor 0) nothing_left (floor f.floor (is_set f.no_gain))))
-    (refused f.number)
+
+abbrev pub line_or_none : Result Line Refusal → Reply
+line_or_none (Ok l) = line l
+line_or_none (Err none) = no_line
 
 abbrev pub read_last : LastRecord → Reply
-read_last f = cond (eqb f.found 0) no_line (line (line_from f.line))
+read_last f = cond (eqb f.found 0) no_line (line_or_none (line_from f.line))
 
--- of jc_replay's record (02, E5): with a number also the line's, if there is one
-abbrev pub read_replay : ReplayFlat → Replayed
-read_replay f =
-    cond (eqb f.number 0)
-    (cond (eqb f.is_over 0) (replayed.Unfinished f.next) (replayed.Winner f.candidate f.score))
-    (cond (eqb f.line_number 0) (replayed.Refused f.number) (replayed.RefusedAt f.number f.line_number))
+-- of jc_replay's record (02, E5): with a refusal also the line's number, if there is one
+abbrev pub replay_unless : Option Refusal → ReplayFlat → Result Standing ReplayRefusal
+replay_unless (Some r) f = Err (cond (eqb f.line_number 0) (Refused r) (At r f.line_number))
+replay_unless None f = Ok (cond (eqb f.is_over 0) (Unfinished f.next) (Winner f.candidate f.score))
+
+abbrev pub read_replay : ReplayFlat → Result Standing ReplayRefusal
+read_replay f = replay_unless (refusal_with f.number) f
 
 -- of jc_resume's (02, E13): the run and the report
 abbrev pub read_ended : ℕ → EndedBy
@@ -91,8 +126,12 @@ read_ended n = cond (eqb n 0) by.Nothing (cond (eqb n 1) by.MissingNewline (cond
 abbrev pub read_report : ResumeFlat → Report
 read_report f = record { lines = f.lines; kept = f.kept; dropped = f.dropped; ended_by = read_ended f.ended_by }
 
-abbrev pub read_resume : ResumeFlat → Resumed
-read_resume f = cond (eqb f.number 0) (resumed.Resumed (run_from f.run) (read_report f)) (resumed.Refused f.number)
+abbrev pub resumed_unless : Option Refusal → ResumeFlat → Result Resumed Refusal
+resumed_unless (Some r) f = Err r
+resumed_unless None f = Ok (record { run = run_from f.run; report = read_report f })
+
+abbrev pub read_resume : ResumeFlat → Result Resumed Refusal
+read_resume f = resumed_unless (refusal_with f.number) f
 
 -- ---- what is read of a call, and the record and the whole seed list after it
 pub record FlatStep : Type 0 where

@@ -1,7 +1,8 @@
 -- What holds of the exported calls, as types. `capi_book/proofs/Theorem.antt` proves them. Definitions only.
-use Rattle.std.specs.Prelude.{ℕ, ◌≡◌, List, map, length, Float}
+use Rattle.std.specs.Prelude.{ℕ, ◌≡◌, List, map, length, Float, Result}
+use Rattle.common.specs.declared.Refusal.{Refusal}
+use Rattle.common.specs.Number.{number_of}
 use Rattle.search_record.specs.declared.run.Run.{Run}
-use Rattle.search_start.specs.declared.Started.{Started}
 use Rattle.search_start.specs.Start.{start_reply, start_list}
 use Rattle.capi_records.specs.declared.record.OptionsRecord.{OptionsRecord}
 use Rattle.capi_records.specs.declared.run.StartFlat.{StartFlat}
@@ -22,7 +23,7 @@ use Rattle.book_replay.specs.Theorem.{with_record}
 use Rattle.capi_book.specs.Exported.{Exported, call_of, read_replay, read_resume, flat_walk}
 
 -- Start's reply with the options that the record reads as
-abbrev pub start_with : Inputs → OptionsRecord → List Float → Started
+abbrev pub start_with : Inputs → OptionsRecord → List Float → Result Run Refusal
 start_with i o l = start_reply i.views (options_from o) i.xs i.ys i.decomposition i.base i.center l
 
 -- jc_start's reply, and the list after it
@@ -36,7 +37,7 @@ flat_start_list i o l = start_list i.views (options_from o) i.xs i.ys i.decompos
 -- book's options.
 abbrev pub ExportedStarts : Type 0
 ExportedStarts = (i : Inputs) (o : OptionsRecord) (l : List Float) → options_from o ≡ options_of i
-    → ((n : ℕ) → FirstHolds (conditions i (length l)) n → ((flat_start i o l).number ≡ n) × (flat_start_list i o l ≡ l))
+    → ((r : Refusal) → FirstHolds (conditions i (length l)) r → ((flat_start i o l).number ≡ number_of r) × (flat_start_list i o l ≡ l))
     × (NoneHolds (conditions i (length l)) → (flat_start i o l).number ≡ 0)
 
 -- From any run on, the exported calls are the walk's.

@@ -1,21 +1,19 @@
 -- Sine and cosine, matrices and a camera as flat records: a refusal's number, and zeros for what it leaves out. Definitions only.
-use Rattle.std.specs.Prelude.{cond, [], ◌∷◌, eqb}
+use Rattle.std.specs.Prelude.{[], ◌∷◌, Float, Result, Ok, Err}
+use Rattle.common.specs.declared.Refusal.{Refusal}
+use Rattle.common.specs.Number.{number_of}
 use Rattle.float.specs.Literals.{plus_zero}
-use Rattle.float_series.specs.declared.Sum.{Sum}
-use Rattle.float_series.specs.declared.Sum.TheVariants as sum
-use Rattle.camera_tilt.specs.Matrix.{Matrix, at, inverse_of}
-use Rattle.camera_tilt.specs.Sensor.{tilt_verdict, tilt_number}
-use Rattle.zhang.specs.declared.Estimated.{Estimated}
-use Rattle.zhang.specs.declared.Estimated.TheVariants.{Camera, Refused}
+use Rattle.camera_models.specs.declared.intrinsics.FxFyCxCy.{FxFyCxCy}
+use Rattle.camera_tilt.specs.Matrix.{Matrix, at}
 use Rattle.capi_records.specs.declared.camera.SumReply.{SumReply}
 use Rattle.capi_records.specs.declared.camera.Matrix3.{Matrix3}
 use Rattle.capi_records.specs.declared.camera.InverseReply.{InverseReply}
 use Rattle.capi_records.specs.declared.camera.CameraReply.{CameraReply}
 
 -- 02, E1: the sine or the cosine, or 27
-abbrev pub flat_sum : Sum → SumReply
-flat_sum (sum.Value x) = record { number = 0; value = x }
-flat_sum (sum.Refused n) = record { number = n; value = plus_zero }
+abbrev pub flat_sum : Result Float Refusal → SumReply
+flat_sum (Ok x) = record { number = 0; value = x }
+flat_sum (Err r) = record { number = number_of r; value = plus_zero }
 
 -- the nine numbers as three rows
 abbrev pub matrix_of : Matrix3 → Matrix
@@ -49,12 +47,11 @@ no_matrix = record {
 }
 
 -- 01, 'Tilt': the inverse, or 15
-abbrev pub flat_inverse : Matrix → InverseReply
-flat_inverse h =
-    let n = tilt_number (tilt_verdict h) in
-    cond (eqb n 0) (record { number = 0; inverse = flat_matrix (inverse_of h) }) (record { number = n; inverse = no_matrix })
+abbrev pub flat_inverse : Result Matrix Refusal → InverseReply
+flat_inverse (Ok h) = record { number = 0; inverse = flat_matrix h }
+flat_inverse (Err r) = record { number = number_of r; inverse = no_matrix }
 
 -- 01, 'Conic to camera': the camera, or 16
-abbrev pub flat_estimate : Estimated → CameraReply
-flat_estimate (Camera k) = record { number = 0; camera = k }
-flat_estimate (Refused n) = record { number = n; camera = record { fx = plus_zero; fy = plus_zero; cx = plus_zero; cy = plus_zero } }
+abbrev pub flat_estimate : Result FxFyCxCy Refusal → CameraReply
+flat_estimate (Ok k) = record { number = 0; camera = k }
+flat_estimate (Err r) = record { number = number_of r; camera = record { fx = plus_zero; fy = plus_zero; cx = plus_zero; cy = plus_zero } }

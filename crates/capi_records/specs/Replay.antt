@@ -1,31 +1,31 @@
 -- The replies of a journal that is run again (02, E5) or gone on from (02, E13), as flat records: 02's numbers, and zeros for what a reply leaves out. Definitions only.
-use Rattle.std.specs.Prelude.{ℕ}
+use Rattle.std.specs.Prelude.{ℕ, Result, Ok, Err}
+use Rattle.common.specs.declared.Refusal.{Refusal}
+use Rattle.common.specs.Number.{number_of}
 use Rattle.float.specs.Literals.{plus_zero}
 use Rattle.search_record.specs.Record.{no_seed}
 use Rattle.journal_replay.specs.declared.EndedBy.{EndedBy}
-use Rattle.journal_replay.specs.declared.EndedBy.TheVariants.{Nothing, MissingNewline, NotOfForm, NotTheRun}
-use Rattle.journal_replay.specs.declared.Replayed.{Replayed}
-use Rattle.journal_replay.specs.declared.Replayed.TheVariants as replayed
+use Rattle.journal_replay.specs.declared.Standing.{Standing}
+use Rattle.journal_replay.specs.declared.Standing.TheVariants.{Winner, Unfinished}
+use Rattle.journal_replay.specs.declared.ReplayRefusal.{ReplayRefusal}
+use Rattle.journal_replay.specs.declared.ReplayRefusal.TheVariants.{Refused, At}
 use Rattle.journal_replay.specs.declared.Resumed.{Resumed}
-use Rattle.journal_replay.specs.declared.Resumed.TheVariants as resumed
+use Rattle.journal_replay.specs.Resume as resume
 use Rattle.capi_records.specs.declared.replay.ReplayFlat.{ReplayFlat}
 use Rattle.capi_records.specs.declared.replay.ResumeFlat.{ResumeFlat}
 use Rattle.capi_records.specs.Record.{flat_run, no_run}
 
 -- 02, E5
-abbrev pub flat_replayed : Replayed → ReplayFlat
-flat_replayed (replayed.Winner n s) = record { number = 0; is_over = 1; line_number = 0; candidate = n; score = s; next = no_seed }
-flat_replayed (replayed.Unfinished s) = record { number = 0; is_over = 0; line_number = 0; candidate = 0; score = plus_zero; next = s }
-flat_replayed (replayed.Refused k) = record { number = k; is_over = 0; line_number = 0; candidate = 0; score = plus_zero; next = no_seed }
-flat_replayed (replayed.RefusedAt k n) = record { number = k; is_over = 0; line_number = n; candidate = 0; score = plus_zero; next = no_seed }
+abbrev pub flat_replayed : Result Standing ReplayRefusal → ReplayFlat
+flat_replayed (Ok (Winner n s)) = record { number = 0; is_over = 1; line_number = 0; candidate = n; score = s; next = no_seed }
+flat_replayed (Ok (Unfinished s)) = record { number = 0; is_over = 0; line_number = 0; candidate = 0; score = plus_zero; next = s }
+flat_replayed (Err (Refused e)) = record { number = number_of e; is_over = 0; line_number = 0; candidate = 0; score = plus_zero; next = no_seed }
+flat_replayed (Err (At e n)) = record { number = number_of e; is_over = 0; line_number = n; candidate = 0; score = plus_zero; next = no_seed }
 
 -- 02, E13: nothing, a missing newline, 29, 30
 abbrev pub ended_number : EndedBy → ℕ
-ended_number Nothing = 0
-ended_number MissingNewline = 1
-ended_number NotOfForm = 29
-ended_number NotTheRun = 30
+ended_number ended = resume.ended_number ended
 
-abbrev pub flat_resumed : Resumed → ResumeFlat
-flat_resumed (resumed.Resumed r q) = record { number = 0; ended_by = ended_number q.ended_by; lines = q.lines; kept = q.kept; dropped = q.dropped; run = flat_run r }
-flat_resumed (resumed.Refused n) = record { number = n; ended_by = 0; lines = 0; kept = 0; dropped = 0; run = no_run }
+abbrev pub flat_resumed : Result Resumed Refusal → ResumeFlat
+flat_resumed (Ok s) = let q = s.report in record { number = 0; ended_by = ended_number q.ended_by; lines = q.lines; kept = q.kept; dropped = q.dropped; run = flat_run s.run }
+flat_resumed (Err e) = record { number = number_of e; ended_by = 0; lines = 0; kept = 0; dropped = 0; run = no_run }

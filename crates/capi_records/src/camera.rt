@@ -1,11 +1,10 @@
 // A sine or cosine, a matrix, its inverse and an estimated camera.
+// Kept: the C interface names the structs of this file, field by field.
 ghost use Rattle.std.specs.Prelude.{◌≡◌};
-ghost use Rattle.capi_records.specs.Camera.{flat_sum, matrix_of, flat_matrix, no_matrix, flat_inverse, flat_estimate};
+ghost use Rattle.capi_records.specs.Camera.{flat_sum, matrix_of, flat_matrix, flat_inverse, flat_estimate};
 
 use camera_models::intrinsics::FxFyCxCy;
-use camera_tilt::{matrix, sensor};
-use float_series::Sum;
-use zhang::Estimated;
+use common::Refusal;
 
 // 0 and the sine or the cosine, or 27.
 #[repr(C)]
@@ -17,7 +16,7 @@ pub struct SumReply {
 
 // Three rows of three numbers.
 #[repr(C)]
-#[derive(Clone, Copy)]
+#[derive(Clone, Copy, Default)]
 pub struct Matrix3 {
     pub m00: f64,
     pub m01: f64,
@@ -46,92 +45,78 @@ pub struct CameraReply {
     pub camera: FxFyCxCy,
 }
 
-pub fn sum_reply(s: Sum) -> SumReply
-    ensures { result ≡ flat_sum s }
-{
-    match s {
-        Sum::Value(value) => SumReply { number: 0, value },
-        Sum::Refused(number) => SumReply { number, value: 0.0 },
-    }
-}
+impl From<Result<f64, Refusal>> for SumReply {
+    ghost from_gives = { λ sum reply. reply ≡ flat_sum sum };
 
-pub fn rows_of(m: Matrix3) -> [[f64; 3]; 3]
-    ensures { result ≡ matrix_of m }
-{
-    [
-        [m.m00, m.m01, m.m02],
-        [m.m10, m.m11, m.m12],
-        [m.m20, m.m21, m.m22],
-    ]
-}
-
-pub fn matrix_of(h: [[f64; 3]; 3]) -> Matrix3
-    ensures { result ≡ flat_matrix h }
-{
-    let top = h[0];
-    let middle = h[1];
-    let bottom = h[2];
-    Matrix3 {
-        m00: top[0],
-        m01: top[1],
-        m02: top[2],
-        m10: middle[0],
-        m11: middle[1],
-        m12: middle[2],
-        m20: bottom[0],
-        m21: bottom[1],
-        m22: bottom[2],
-    }
-}
-
-fn no_matrix() -> Matrix3
-    ensures { result ≡ no_matrix }
-{
-    Matrix3 {
-        m00: 0.0,
-        m01: 0.0,
-        m02: 0.0,
-        m10: 0.0,
-        m11: 0.0,
-        m12: 0.0,
-        m20: 0.0,
-        m21: 0.0,
-        m22: 0.0,
-    }
-}
-
-pub fn inverse_reply(h: [[f64; 3]; 3]) -> InverseReply
-    ensures { result ≡ flat_inverse h }
-{
-    let number = sensor::tilt_number(sensor::tilt_verdict(h));
-    if number != 0 {
-        return InverseReply {
-            number,
-            inverse: no_matrix(),
-        };
-    }
-    InverseReply {
-        number: 0,
-        inverse: matrix_of(matrix::inverse(h)),
-    }
-}
-
-pub fn estimate_reply(e: Estimated) -> CameraReply
-    ensures { result ≡ flat_estimate e }
-{
-    match e {
-        Estimated::Camera(k) => CameraReply {
-            number: 0,
-            camera: k,
-        },
-        Estimated::Refused(n) => CameraReply {
-            number: n,
-            camera: FxFyCxCy {
-                fx: 0.0,
-                fy: 0.0,
-                cx: 0.0,
-                cy: 0.0,
+    fn from(sum: Result<f64, Refusal>) -> SumReply {
+        match sum {
+            Ok(value) => SumReply { number: 0, value },
+            Err(refusal) => SumReply {
+                number: refusal.into(),
+                value: 0.0,
             },
-        },
+        }
+    }
+}
+
+impl From<Matrix3> for [[f64; 3]; 3] {
+    ghost from_gives = { λ m rows. rows ≡ matrix_of m };
+
+    fn from(m: Matrix3) -> [[f64; 3]; 3] {
+        [
+            [m.m00, m.m01, m.m02],
+            [m.m10, m.m11, m.m12],
+            [m.m20, m.m21, m.m22],
+        ]
+    }
+}
+
+impl From<[[f64; 3]; 3]> for Matrix3 {
+    ghost from_gives = { λ rows m. m ≡ flat_matrix rows };
+
+    fn from(rows: [[f64; 3]; 3]) -> Matrix3 {
+        let [top, middle, bottom] = rows;
+        Matrix3 {
+            m00: top[0],
+            m01: top[1],
+            m02: top[2],
+            m10: middle[0],
+            m11: middle[1],
+            m12: middle[2],
+            m20: bottom[0],
+            m21: bottom[1],
+            m22: bottom[2],
+        }
+    }
+}
+
+impl From<Result<[[f64; 3]; 3], Refusal>> for InverseReply {
+    ghost from_gives = { λ inverse reply. reply ≡ flat_inverse inverse };
+
+    fn from(inverse: Result<[[f64; 3]; 3], Refusal>) -> InverseReply {
+        match inverse {
+            Ok(rows) => InverseReply {
+                number: 0,
+                inverse: rows.into(),
+            },
+            Err(refusal) => InverseReply {
+                number: refusal.into(),
+                inverse: Matrix3::default(),
+            },
+        }
+    }
+}
+
+impl From<Result<FxFyCxCy, Refusal>> for CameraReply {
+    ghost from_gives = { λ estimated reply. reply ≡ flat_estimate estimated };
+
+    fn from(estimated: Result<FxFyCxCy, Refusal>) -> CameraReply {
+        match estimated {
+            Ok(camera) => CameraReply { number: 0, camera },
+            Err(refusal) => CameraReply {
+                number: refusal.into(),
+                camera: FxFyCxCy::default(),
+            },
+        }
     }
 }

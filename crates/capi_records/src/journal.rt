@@ -1,15 +1,17 @@
 // A line of the journal, and the replies of its writer and its reader.
+// Kept: the C interface names the structs of this file, field by field.
 ghost use Rattle.std.specs.Prelude.{◌≡◌};
-ghost use Rattle.capi_records.specs.Journal.{recorded_from, line_from, no_intrinsics, no_line, flat_line, flat_written, flat_read};
+ghost use Rattle.capi_records.specs.Journal.{recorded_from, line_from, flat_line, flat_written, flat_read};
 
 use camera_models::intrinsics::FxFyCxCy;
-use camera_tilt::sensor::ScheimpflugParams;
-use journal_line::{Line, Read, Recorded, ScoredFields, Written};
+use common::Refusal;
+use journal_line::{Line, Read, Recorded, ScoredFields};
+use score_outcome::SkipReason;
 use seed_rules::CandidateSeed;
 
 // A line's fields. Scored where skipped is 0; else skipped is the reason, and score and all behind it have no meaning.
 #[repr(C)]
-#[derive(Clone, Copy)]
+#[derive(Clone, Copy, Default)]
 pub struct LineRecord {
     pub number: usize,
     pub round: usize,
@@ -32,7 +34,7 @@ pub struct WriteReply {
 
 // 0 and a line; or 0 and the end; or 29 and the line's number, from 1. The next place is behind a line, and else where it was.
 #[repr(C)]
-#[derive(Clone, Copy)]
+#[derive(Clone, Copy, Default)]
 pub struct ReadReply {
     pub number: u8,
     pub end: u8,
@@ -41,136 +43,100 @@ pub struct ReadReply {
     pub next: usize,
 }
 
-fn recorded_of(r: LineRecord) -> Recorded
-    ensures { result ≡ recorded_from r }
+// What C's line records. A reason that is none of the four is refused, as a line that the journal can't hold.
+fn recorded_in(flat: LineRecord) -> Result<Recorded, Refusal>
+    ensures { result ≡ recorded_from flat }
 {
-    if r.skipped != 0 {
-        return Recorded::Skipped(r.skipped);
+    if flat.skipped != 0 {
+        let reason = SkipReason::try_from(flat.skipped)?;
+        return Ok(Err(reason));
     }
-    let k = r.k;
-    Recorded::Scored(ScoredFields {
-        score: r.score,
-        mean: r.mean,
-        k,
-        p1: r.p1,
-        p2: r.p2,
-    })
+    Ok(Ok(ScoredFields {
+        score: flat.score,
+        mean: flat.mean,
+        k: flat.k,
+        p1: flat.p1,
+        p2: flat.p2,
+    }))
 }
 
-pub fn line_of(r: LineRecord) -> Line
-    ensures { result ≡ line_from r }
-{
-    let outcome = recorded_of(r);
-    let seed = r.seed;
-    Line {
-        number: r.number,
-        round: r.round,
-        seed,
-        outcome,
-    }
-}
+impl TryFrom<LineRecord> for Line {
+    type Error = Refusal;
 
-fn no_intrinsics() -> FxFyCxCy
-    ensures { result ≡ no_intrinsics }
-{
-    FxFyCxCy {
-        fx: 0.0,
-        fy: 0.0,
-        cx: 0.0,
-        cy: 0.0,
+    ghost try_from_gives = { λ flat line. line ≡ line_from flat };
+
+    fn try_from(flat: LineRecord) -> Result<Self, Refusal> {
+        let outcome = recorded_in(flat)?;
+        Ok(Line {
+            number: flat.number,
+            round: flat.round,
+            seed: flat.seed,
+            outcome,
+        })
     }
 }
 
-pub fn no_line() -> LineRecord
-    ensures { result ≡ no_line }
-{
-    let k = no_intrinsics();
-    LineRecord {
-        number: 0,
-        round: 0,
-        seed: CandidateSeed {
-            reference_k: k,
-            sensor: ScheimpflugParams {
-                tilt_x: 0.0,
-                tilt_y: 0.0,
+impl From<Line> for LineRecord {
+    ghost from_gives = { λ line flat. flat ≡ flat_line line };
+
+    fn from(line: Line) -> LineRecord {
+        let flat = LineRecord {
+            number: line.number,
+            round: line.round,
+            seed: line.seed,
+            ..LineRecord::default()
+        };
+        match line.outcome {
+            Ok(fields) => LineRecord {
+                score: fields.score,
+                mean: fields.mean,
+                k: fields.k,
+                p1: fields.p1,
+                p2: fields.p2,
+                ..flat
             },
-        },
-        skipped: 0,
-        score: 0.0,
-        mean: 0.0,
-        k,
-        p1: 0.0,
-        p2: 0.0,
-    }
-}
-
-pub fn line_record(l: Line) -> LineRecord
-    ensures { result ≡ flat_line l }
-{
-    let seed = l.seed;
-    let outcome = l.outcome;
-    match outcome {
-        Recorded::Scored(s) => {
-            let k = s.k;
-            LineRecord {
-                number: l.number,
-                round: l.round,
-                seed,
-                skipped: 0,
-                score: s.score,
-                mean: s.mean,
-                k,
-                p1: s.p1,
-                p2: s.p2,
-            }
+            Err(reason) => LineRecord {
+                skipped: reason.into(),
+                ..flat
+            },
         }
-        Recorded::Skipped(reason) => LineRecord {
-            number: l.number,
-            round: l.round,
-            seed,
-            skipped: reason,
-            score: 0.0,
-            mean: 0.0,
-            k: no_intrinsics(),
-            p1: 0.0,
-            p2: 0.0,
-        },
     }
 }
 
-pub fn write_reply(w: Written) -> WriteReply
-    ensures { result ≡ flat_written w }
-{
-    match w {
-        Written::Length(len) => WriteReply { number: 0, len },
-        Written::Refused(number) => WriteReply { number, len: 0 },
+impl From<Result<usize, Refusal>> for WriteReply {
+    ghost from_gives = { λ written reply. reply ≡ flat_written written };
+
+    fn from(written: Result<usize, Refusal>) -> WriteReply {
+        match written {
+            Ok(len) => WriteReply { number: 0, len },
+            Err(refusal) => WriteReply {
+                number: refusal.into(),
+                len: 0,
+            },
+        }
     }
 }
 
+// Kept: what was read and its place are two values, and From takes one: a pair would have to be made at the call and taken apart here.
 pub fn read_reply(r: Read, at: usize) -> ReadReply
     ensures { result ≡ flat_read r at }
 {
     match r {
         Read::Got(line, next) => ReadReply {
-            number: 0,
-            end: 0,
-            line_number: 0,
-            line: line_record(line),
+            line: line.into(),
             next,
+            ..ReadReply::default()
         },
         Read::End => ReadReply {
-            number: 0,
             end: 1,
-            line_number: 0,
-            line: no_line(),
             next: at,
+            ..ReadReply::default()
         },
-        Read::Refused(number, line_number) => ReadReply {
-            number,
-            end: 0,
+        Read::NotOfForm(line_number) => ReadReply {
+            number: Refusal::NotOfForm.into(),
             line_number,
-            line: no_line(),
             next: at,
+            ..ReadReply::default()
         },
     }
 }

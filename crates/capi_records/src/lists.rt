@@ -1,16 +1,15 @@
 // The replies of the operations on lists of points.
+// Kept: the C interface names the structs of this file, field by field.
 ghost use Rattle.std.specs.Prelude.{◌≡◌};
-ghost use Rattle.capi_records.specs.Lists.{mapped_number, rows_number, flat_normalized, flat_line_test, flat_center};
+ghost use Rattle.capi_records.specs.Lists.{refusal_number, flat_normalized, flat_line_test, flat_center};
 
 use camera_models::math::Pt2;
-use point_homography::{LineTest, Rows};
-use point_maps::centre::Center;
-use point_maps::maps::Mapped;
-use point_normalise::linalg::Normalized;
+use common::Refusal;
+use point_normalise::linalg::Transform;
 
 // 0 and the transform's numbers that are neither 0 nor 1, or 17, 18 or 19.
 #[repr(C)]
-#[derive(Clone, Copy)]
+#[derive(Clone, Copy, Default)]
 pub struct NormalizeReply {
     pub number: u8,
     pub t00: f64,
@@ -34,69 +33,63 @@ pub struct CenterReply {
     pub center: Pt2,
 }
 
-pub fn mapped_number(m: Mapped) -> u8
-    ensures { result ≡ mapped_number m }
+// 0 where nothing is refused.
+// Kept: neither Result nor u8 is a type of a crate here, so From can't be written for them in any: a type around the number would be no plainer.
+pub fn refusal_number(done: Result<(), Refusal>) -> u8
+    ensures { result ≡ refusal_number done }
 {
-    match m {
-        Mapped::Done => 0,
-        Mapped::Refused(n) => n,
+    match done {
+        Ok(()) => 0,
+        Err(refusal) => refusal.into(),
     }
 }
 
-pub fn rows_number(w: Rows) -> u8
-    ensures { result ≡ rows_number w }
-{
-    match w {
-        Rows::Written => 0,
-        Rows::Refused(n) => n,
+impl From<Result<Transform, Refusal>> for NormalizeReply {
+    ghost from_gives = { λ normalized reply. reply ≡ flat_normalized normalized };
+
+    fn from(normalized: Result<Transform, Refusal>) -> NormalizeReply {
+        match normalized {
+            Ok(transform) => NormalizeReply {
+                number: 0,
+                t00: transform.t00,
+                t02: transform.t02,
+                t12: transform.t12,
+            },
+            Err(refusal) => NormalizeReply {
+                number: refusal.into(),
+                ..NormalizeReply::default()
+            },
+        }
     }
 }
 
-pub fn normalize_reply(t: Normalized) -> NormalizeReply
-    ensures { result ≡ flat_normalized t }
-{
-    match t {
-        Normalized::Transform { t00, t02, t12 } => NormalizeReply {
-            number: 0,
-            t00,
-            t02,
-            t12,
-        },
-        Normalized::Refused(n) => NormalizeReply {
-            number: n,
-            t00: 0.0,
-            t02: 0.0,
-            t12: 0.0,
-        },
+impl From<Result<bool, Refusal>> for LineReply {
+    ghost from_gives = { λ test reply. reply ≡ flat_line_test test };
+
+    fn from(test: Result<bool, Refusal>) -> LineReply {
+        match test {
+            Ok(yes) => LineReply {
+                number: 0,
+                collinear: yes.into(),
+            },
+            Err(refusal) => LineReply {
+                number: refusal.into(),
+                collinear: 0,
+            },
+        }
     }
 }
 
-pub fn line_reply(t: LineTest) -> LineReply
-    ensures { result ≡ flat_line_test t }
-{
-    match t {
-        LineTest::Collinear(yes) => LineReply {
-            number: 0,
-            collinear: crate::record::flag(yes),
-        },
-        LineTest::Refused(n) => LineReply {
-            number: n,
-            collinear: 0,
-        },
-    }
-}
+impl From<Result<Pt2, Refusal>> for CenterReply {
+    ghost from_gives = { λ center reply. reply ≡ flat_center center };
 
-pub fn center_reply(c: Center) -> CenterReply
-    ensures { result ≡ flat_center c }
-{
-    match c {
-        Center::At(p) => CenterReply {
-            number: 0,
-            center: p,
-        },
-        Center::Refused(n) => CenterReply {
-            number: n,
-            center: Pt2 { x: 0.0, y: 0.0 },
-        },
+    fn from(center: Result<Pt2, Refusal>) -> CenterReply {
+        match center {
+            Ok(center) => CenterReply { number: 0, center },
+            Err(refusal) => CenterReply {
+                number: refusal.into(),
+                center: Pt2::default(),
+            },
+        }
     }
 }

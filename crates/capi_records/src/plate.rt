@@ -1,9 +1,10 @@
 // A plate with a known answer.
+// Kept: the C interface names the struct of this file, field by field.
 ghost use Rattle.std.specs.Prelude.{◌≡◌};
 ghost use Rattle.capi_records.specs.Plate.{flat_plate};
 
+use common::Refusal;
 use zhang::Conic;
-use zhang_plate::Plate;
 
 // 0 and the six numbers, or 34.
 #[repr(C)]
@@ -13,21 +14,16 @@ pub struct PlateReply {
     pub conic: Conic,
 }
 
-pub fn plate_reply(p: Plate) -> PlateReply
-    ensures { result ≡ flat_plate p }
-{
-    match p {
-        Plate::Numbers(conic) => PlateReply { number: 0, conic },
-        Plate::Refused(n) => PlateReply {
-            number: n,
-            conic: Conic {
-                b11: 0.0,
-                b12: 0.0,
-                b22: 0.0,
-                b13: 0.0,
-                b23: 0.0,
-                b33: 0.0,
+impl From<Result<Conic, Refusal>> for PlateReply {
+    ghost from_gives = { λ plate reply. reply ≡ flat_plate plate };
+
+    fn from(plate: Result<Conic, Refusal>) -> PlateReply {
+        match plate {
+            Ok(conic) => PlateReply { number: 0, conic },
+            Err(refusal) => PlateReply {
+                number: refusal.into(),
+                conic: Conic::default(),
             },
-        },
+        }
     }
 }

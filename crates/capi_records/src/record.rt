@@ -1,17 +1,17 @@
 // The run's record with its flags as bytes, and the ways there and back.
+// Kept: the C interface names the structs of this file, field by field.
 ghost use Rattle.std.specs.Prelude.{◌≡◌};
-ghost use Rattle.capi_records.specs.Record.{flag_of, options_from, flat_options, place_from, flat_place, waiting_from, flat_waiting, best_from, flat_best, last_from, flat_last, run_from, flat_run, no_run};
+ghost use Rattle.capi_records.specs.Record.{options_from, flat_options, place_from, flat_place, waiting_from, flat_waiting, best_from, flat_best, last_from, flat_last, run_from, flat_run};
 
-use crate::journal::{LineRecord, no_line};
+use crate::journal::LineRecord;
 use camera_models::math::Pt2;
 use journal_line::{Counts, ScoredFields};
 use score_best::{Best, Candidate};
-use search_record::counts::no_counts;
 use search_record::run::{LastAnswer, Options, Place, Run, Waiting};
 use seed_rules::CandidateSeed;
 
 #[repr(C)]
-#[derive(Clone, Copy)]
+#[derive(Clone, Copy, Default)]
 pub struct OptionsRecord {
     pub refine_rounds: usize,
     pub refine_step: f64,
@@ -21,7 +21,7 @@ pub struct OptionsRecord {
 }
 
 #[repr(C)]
-#[derive(Clone, Copy)]
+#[derive(Clone, Copy, Default)]
 pub struct PlaceRecord {
     pub demand: usize,
     pub round: usize,
@@ -33,14 +33,14 @@ pub struct PlaceRecord {
 }
 
 #[repr(C)]
-#[derive(Clone, Copy)]
+#[derive(Clone, Copy, Default)]
 pub struct WaitingRecord {
     pub is_waiting: u8,
     pub seed: CandidateSeed,
 }
 
 #[repr(C)]
-#[derive(Clone, Copy)]
+#[derive(Clone, Copy, Default)]
 pub struct BestRecord {
     pub found: u8,
     pub candidate: Candidate,
@@ -48,14 +48,15 @@ pub struct BestRecord {
 
 // The last answered candidate's line, if found is not 0.
 #[repr(C)]
-#[derive(Clone, Copy)]
+#[derive(Clone, Copy, Default)]
 pub struct LastRecord {
     pub found: u8,
     pub line: LineRecord,
 }
 
+// A record of zeros (`default`) is one that every call answers as a run that ended with nothing scored.
 #[repr(C)]
-#[derive(Clone, Copy)]
+#[derive(Clone, Copy, Default)]
 pub struct RunRecord {
     pub options: OptionsRecord,
     pub center: Pt2,
@@ -67,209 +68,184 @@ pub struct RunRecord {
     pub counts: Counts,
 }
 
-pub fn flag(b: bool) -> u8
-    ensures { result ≡ flag_of b }
-{
-    if b { 1 } else { 0 }
-}
+impl From<OptionsRecord> for Options {
+    ghost from_gives = { λ flat options. options ≡ options_from flat };
 
-pub fn options_of(o: OptionsRecord) -> Options
-    ensures { result ≡ options_from o }
-{
-    Options {
-        refine_rounds: o.refine_rounds,
-        refine_step: o.refine_step,
-        max_abs_tilt: o.max_abs_tilt,
-        one_axis: o.one_axis != 0,
-        min_counted: o.min_counted,
+    fn from(flat: OptionsRecord) -> Options {
+        Options {
+            refine_rounds: flat.refine_rounds,
+            refine_step: flat.refine_step,
+            max_abs_tilt: flat.max_abs_tilt,
+            one_axis: flat.one_axis != 0,
+            min_counted: flat.min_counted,
+        }
     }
 }
 
-fn options_record(o: Options) -> OptionsRecord
-    ensures { result ≡ flat_options o }
-{
-    OptionsRecord {
-        refine_rounds: o.refine_rounds,
-        refine_step: o.refine_step,
-        max_abs_tilt: o.max_abs_tilt,
-        one_axis: flag(o.one_axis),
-        min_counted: o.min_counted,
+impl From<Options> for OptionsRecord {
+    ghost from_gives = { λ options flat. flat ≡ flat_options options };
+
+    fn from(options: Options) -> OptionsRecord {
+        OptionsRecord {
+            refine_rounds: options.refine_rounds,
+            refine_step: options.refine_step,
+            max_abs_tilt: options.max_abs_tilt,
+            one_axis: options.one_axis.into(),
+            min_counted: options.min_counted,
+        }
     }
 }
 
-fn place_of(p: PlaceRecord) -> Place
-    ensures { result ≡ place_from p }
-{
-    Place {
-        demand: p.demand,
-        round: p.round,
-        step: p.step,
-        len: p.len,
-        at: p.at,
-        number: p.number,
-        over: p.over != 0,
+impl From<PlaceRecord> for Place {
+    ghost from_gives = { λ flat place. place ≡ place_from flat };
+
+    fn from(flat: PlaceRecord) -> Place {
+        Place {
+            demand: flat.demand,
+            round: flat.round,
+            step: flat.step,
+            len: flat.len,
+            at: flat.at,
+            number: flat.number,
+            over: flat.over != 0,
+        }
     }
 }
 
-fn place_record(p: Place) -> PlaceRecord
-    ensures { result ≡ flat_place p }
-{
-    PlaceRecord {
-        demand: p.demand,
-        round: p.round,
-        step: p.step,
-        len: p.len,
-        at: p.at,
-        number: p.number,
-        over: flag(p.over),
+impl From<Place> for PlaceRecord {
+    ghost from_gives = { λ place flat. flat ≡ flat_place place };
+
+    fn from(place: Place) -> PlaceRecord {
+        PlaceRecord {
+            demand: place.demand,
+            round: place.round,
+            step: place.step,
+            len: place.len,
+            at: place.at,
+            number: place.number,
+            over: place.over.into(),
+        }
     }
 }
 
-fn waiting_of(w: WaitingRecord) -> Waiting
-    ensures { result ≡ waiting_from w }
-{
-    let seed = w.seed;
-    Waiting {
-        is_waiting: w.is_waiting != 0,
-        seed,
+impl From<WaitingRecord> for Waiting {
+    ghost from_gives = { λ flat waiting. waiting ≡ waiting_from flat };
+
+    fn from(flat: WaitingRecord) -> Waiting {
+        Waiting {
+            is_waiting: flat.is_waiting != 0,
+            seed: flat.seed,
+        }
     }
 }
 
-fn waiting_record(w: Waiting) -> WaitingRecord
-    ensures { result ≡ flat_waiting w }
-{
-    let seed = w.seed;
-    WaitingRecord {
-        is_waiting: flag(w.is_waiting),
-        seed,
+impl From<Waiting> for WaitingRecord {
+    ghost from_gives = { λ waiting flat. flat ≡ flat_waiting waiting };
+
+    fn from(waiting: Waiting) -> WaitingRecord {
+        WaitingRecord {
+            is_waiting: waiting.is_waiting.into(),
+            seed: waiting.seed,
+        }
     }
 }
 
-pub fn best_of(b: BestRecord) -> Best
-    ensures { result ≡ best_from b }
-{
-    let candidate = b.candidate;
-    Best {
-        found: b.found != 0,
-        candidate,
+impl From<BestRecord> for Best {
+    ghost from_gives = { λ flat best. best ≡ best_from flat };
+
+    fn from(flat: BestRecord) -> Best {
+        Best {
+            found: flat.found != 0,
+            candidate: flat.candidate,
+        }
     }
 }
 
-pub fn best_record(b: Best) -> BestRecord
-    ensures { result ≡ flat_best b }
-{
-    let candidate = b.candidate;
-    BestRecord {
-        found: flag(b.found),
-        candidate,
+impl From<Best> for BestRecord {
+    ghost from_gives = { λ best flat. flat ≡ flat_best best };
+
+    fn from(best: Best) -> BestRecord {
+        BestRecord {
+            found: best.found.into(),
+            candidate: best.candidate,
+        }
     }
 }
 
-fn last_of(l: LastRecord) -> LastAnswer
-    ensures { result ≡ last_from l }
-{
-    let seed = l.line.seed;
-    let k = l.line.k;
-    LastAnswer {
-        found: l.found != 0,
-        number: l.line.number,
-        round: l.line.round,
-        seed,
-        skipped: l.line.skipped,
-        scored: ScoredFields {
-            score: l.line.score,
-            mean: l.line.mean,
-            k,
-            p1: l.line.p1,
-            p2: l.line.p2,
-        },
+impl From<LastRecord> for LastAnswer {
+    ghost from_gives = { λ last answer. answer ≡ last_from last };
+
+    fn from(last: LastRecord) -> LastAnswer {
+        let line = last.line;
+        LastAnswer {
+            found: last.found != 0,
+            number: line.number,
+            round: line.round,
+            seed: line.seed,
+            skipped: line.skipped,
+            scored: ScoredFields {
+                score: line.score,
+                mean: line.mean,
+                k: line.k,
+                p1: line.p1,
+                p2: line.p2,
+            },
+        }
     }
 }
 
-fn last_record(a: LastAnswer) -> LastRecord
-    ensures { result ≡ flat_last a }
-{
-    let seed = a.seed;
-    let k = a.scored.k;
-    LastRecord {
-        found: flag(a.found),
-        line: LineRecord {
-            number: a.number,
-            round: a.round,
-            seed,
-            skipped: a.skipped,
-            score: a.scored.score,
-            mean: a.scored.mean,
-            k,
-            p1: a.scored.p1,
-            p2: a.scored.p2,
-        },
+impl From<LastAnswer> for LastRecord {
+    ghost from_gives = { λ answer last. last ≡ flat_last answer };
+
+    fn from(answer: LastAnswer) -> LastRecord {
+        let scored = answer.scored;
+        LastRecord {
+            found: answer.found.into(),
+            line: LineRecord {
+                number: answer.number,
+                round: answer.round,
+                seed: answer.seed,
+                skipped: answer.skipped,
+                score: scored.score,
+                mean: scored.mean,
+                k: scored.k,
+                p1: scored.p1,
+                p2: scored.p2,
+            },
+        }
     }
 }
 
-pub fn run_of(r: RunRecord) -> Run
-    ensures { result ≡ run_from r }
-{
-    let center = r.center;
-    let counts = r.counts;
-    Run {
-        options: options_of(r.options),
-        center,
-        place: place_of(r.place),
-        waiting: waiting_of(r.waiting),
-        round_best: best_of(r.round_best),
-        run_best: best_of(r.run_best),
-        last: last_of(r.last),
-        counts,
+impl From<RunRecord> for Run {
+    ghost from_gives = { λ flat run. run ≡ run_from flat };
+
+    fn from(flat: RunRecord) -> Run {
+        Run {
+            options: flat.options.into(),
+            center: flat.center,
+            place: flat.place.into(),
+            waiting: flat.waiting.into(),
+            round_best: flat.round_best.into(),
+            run_best: flat.run_best.into(),
+            last: flat.last.into(),
+            counts: flat.counts,
+        }
     }
 }
 
-pub fn run_record(r: Run) -> RunRecord
-    ensures { result ≡ flat_run r }
-{
-    let center = r.center;
-    let counts = r.counts;
-    RunRecord {
-        options: options_record(r.options),
-        center,
-        place: place_record(r.place),
-        waiting: waiting_record(r.waiting),
-        round_best: best_record(r.round_best),
-        run_best: best_record(r.run_best),
-        last: last_record(r.last),
-        counts,
-    }
-}
+impl From<Run> for RunRecord {
+    ghost from_gives = { λ run flat. flat ≡ flat_run run };
 
-// A record of zeros, which every call answers as a run that ended with nothing scored.
-pub fn no_run() -> RunRecord
-    ensures { result ≡ no_run }
-{
-    RunRecord {
-        options: OptionsRecord {
-            refine_rounds: 0,
-            refine_step: 0.0,
-            max_abs_tilt: 0.0,
-            one_axis: 0,
-            min_counted: 0,
-        },
-        center: Pt2 { x: 0.0, y: 0.0 },
-        place: PlaceRecord {
-            demand: 0,
-            round: 0,
-            step: 0.0,
-            len: 0,
-            at: 0,
-            number: 0,
-            over: 0,
-        },
-        waiting: waiting_record(search_record::run::nobody()),
-        round_best: best_record(score_best::no_best()),
-        run_best: best_record(score_best::no_best()),
-        last: LastRecord {
-            found: 0,
-            line: no_line(),
-        },
-        counts: no_counts(),
+    fn from(run: Run) -> RunRecord {
+        RunRecord {
+            options: run.options.into(),
+            center: run.center,
+            place: run.place.into(),
+            waiting: run.waiting.into(),
+            round_best: run.round_best.into(),
+            run_best: run.run_best.into(),
+            last: run.last.into(),
+            counts: run.counts,
+        }
     }
 }

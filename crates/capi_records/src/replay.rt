@@ -1,17 +1,17 @@
 // The replies of a journal that is run again (02, E5) or gone on from (02, E13).
+// Kept: the C interface names the structs of this file, field by field.
 ghost use Rattle.std.specs.Prelude.{◌≡◌};
-ghost use Rattle.search_record.specs.Record.{no_seed};
-ghost use Rattle.capi_records.specs.Replay.{flat_replayed, ended_number, flat_resumed};
+ghost use Rattle.capi_records.specs.Replay.{flat_replayed, flat_resumed};
 
-use crate::journal::no_line;
-use crate::record::{RunRecord, no_run, run_record};
-use journal_replay::{EndedBy, Replayed, Resumed};
+use crate::record::RunRecord;
+use common::Refusal;
+use journal_replay::{ReplayRefusal, Resumed, Standing};
 use seed_rules::CandidateSeed;
 
 // 0 and, where the run is over, the winner's number and score, else the seed that comes next; 11, or a refusal of Start's; or 29 or 30 and the line's number,
 // from 1.
 #[repr(C)]
-#[derive(Clone, Copy)]
+#[derive(Clone, Copy, Default)]
 pub struct ReplayFlat {
     pub number: u8,
     pub is_over: u8,
@@ -23,7 +23,7 @@ pub struct ReplayFlat {
 
 // 0, how much is kept and dropped, what ended it (0 nothing, 1 a missing newline, 29, 30), and the run; or a refusal of Start's.
 #[repr(C)]
-#[derive(Clone, Copy)]
+#[derive(Clone, Copy, Default)]
 pub struct ResumeFlat {
     pub number: u8,
     pub ended_by: u8,
@@ -33,73 +33,50 @@ pub struct ResumeFlat {
     pub run: RunRecord,
 }
 
-fn no_seed() -> CandidateSeed
-    ensures { result ≡ no_seed }
-{
-    let line = no_line();
-    line.seed
-}
+impl From<Result<Standing, ReplayRefusal>> for ReplayFlat {
+    ghost from_gives = { λ replayed flat. flat ≡ flat_replayed replayed };
 
-pub fn replay_flat(r: Replayed) -> ReplayFlat
-    ensures { result ≡ flat_replayed r }
-{
-    let mut flat = ReplayFlat {
-        number: 0,
-        is_over: 0,
-        line_number: 0,
-        candidate: 0,
-        score: 0.0,
-        next: no_seed(),
-    };
-    match r {
-        Replayed::Winner(candidate, score) => {
-            flat.is_over = 1;
-            flat.candidate = candidate;
-            flat.score = score;
-        }
-        Replayed::Unfinished(seed) => flat.next = seed,
-        Replayed::Refused(number) => flat.number = number,
-        Replayed::RefusedAt(number, line) => {
-            flat.number = number;
-            flat.line_number = line;
+    fn from(replayed: Result<Standing, ReplayRefusal>) -> ReplayFlat {
+        let flat = ReplayFlat::default();
+        match replayed {
+            Ok(Standing::Winner { number, score }) => ReplayFlat {
+                is_over: 1,
+                candidate: number,
+                score,
+                ..flat
+            },
+            Ok(Standing::Unfinished(next)) => ReplayFlat { next, ..flat },
+            Err(ReplayRefusal::Refused(refusal)) => ReplayFlat {
+                number: refusal.into(),
+                ..flat
+            },
+            Err(ReplayRefusal::At(refusal, line_number)) => ReplayFlat {
+                number: refusal.into(),
+                line_number,
+                ..flat
+            },
         }
     }
-    flat
 }
 
-fn ended_number(e: EndedBy) -> u8
-    ensures { result ≡ ended_number e }
-{
-    match e {
-        EndedBy::Nothing => 0,
-        EndedBy::MissingNewline => 1,
-        EndedBy::NotOfForm => 29,
-        EndedBy::NotTheRun => 30,
-    }
-}
+impl From<Result<Resumed, Refusal>> for ResumeFlat {
+    ghost from_gives = { λ resumed flat. flat ≡ flat_resumed resumed };
 
-pub fn resume_flat(r: Resumed) -> ResumeFlat
-    ensures { result ≡ flat_resumed r }
-{
-    match r {
-        Resumed::Resumed(run, report) => {
-            let ended_by = report.ended_by;
-            ResumeFlat {
+    #[tactic(auto, unfolding(score_best::specs::Best::no_best))]
+    fn from(resumed: Result<Resumed, Refusal>) -> ResumeFlat {
+        match resumed {
+            Ok(Resumed { run, report }) => ResumeFlat {
                 number: 0,
-                ended_by: ended_number(ended_by),
+                ended_by: report.ended_by.into(),
                 lines: report.lines,
                 kept: report.kept,
                 dropped: report.dropped,
-                run: run_record(run),
-            }
+                run: run.into(),
+            },
+            Err(refusal) => ResumeFlat {
+                number: refusal.into(),
+                ..ResumeFlat::default()
+            },
         }
-        Resumed::Refused(number) => ResumeFlat {
-            number,
-            ended_by: 0,
-            lines: 0,
-            kept: 0,
-            dropped: 0,
-            run: no_run(),
-        },
     }
 }

@@ -1,24 +1,22 @@
 // The replies of the search, the host's finding, and a seed's copy.
-ghost use Rattle.std.specs.Prelude.{◌≡◌, ◌≤◌, length};
-ghost use Rattle.std.proofs.lemmas.List.Edits.{sets};
-ghost use Rattle.score_best.specs.Best.{no_best};
+// Kept: the C interface names the structs of this file, field by field.
+ghost use Rattle.std.specs.Prelude.{◌≡◌};
 ghost use Rattle.capi_records.specs.Run.{flat_started, flat_next, flat_answer, flat_result, flat_outlook, flat_stopped, flat_last_line, finding_of, copied, copy_count};
 
-use crate::journal::{line_record, no_line};
-use crate::record::{LastRecord, RunRecord, flag, no_run, run_record};
+use crate::record::{LastRecord, RunRecord};
+use common::Refusal;
+use journal_line::Line;
 use score_best::Candidate;
 use score_camera::pinhole::PinholeCamera;
 use score_outcome::Finding;
 use search_answer::{AnswerReply, Answered};
-use search_calls::last::LastLine;
 use search_calls::next::{Handed, NextReply};
-use search_calls::result::Resulted;
-use search_calls::stop::{Outlook, Stopped};
-use search_start::Started;
+use search_calls::stop::Outlook;
+use search_record::run::Run;
 
 // 0 and the run, or 1 to 8, 27, 31, 32, 33.
 #[repr(C)]
-#[derive(Clone, Copy)]
+#[derive(Clone, Copy, Default)]
 pub struct StartFlat {
     pub number: u8,
     pub run: RunRecord,
@@ -26,7 +24,7 @@ pub struct StartFlat {
 
 // 0 and the candidate's number; or 0 and over; or 9, 10 or 11.
 #[repr(C)]
-#[derive(Clone, Copy)]
+#[derive(Clone, Copy, Default)]
 pub struct NextFlat {
     pub number: u8,
     pub over: u8,
@@ -36,7 +34,7 @@ pub struct NextFlat {
 
 // 0 and the score; or 0 and the reason of a skip, 1 to 4; or 12, 10, 13 or 27.
 #[repr(C)]
-#[derive(Clone, Copy)]
+#[derive(Clone, Copy, Default)]
 pub struct AnswerFlat {
     pub number: u8,
     pub skipped: u8,
@@ -46,7 +44,7 @@ pub struct AnswerFlat {
 
 // 0 and the winner, or 14 or 11.
 #[repr(C)]
-#[derive(Clone, Copy)]
+#[derive(Clone, Copy, Default)]
 pub struct ResultFlat {
     pub number: u8,
     pub candidate: Candidate,
@@ -54,7 +52,7 @@ pub struct ResultFlat {
 
 // 0, the run's best where has_best is 1, and the floor where has_floor is 1; or 10.
 #[repr(C)]
-#[derive(Clone, Copy)]
+#[derive(Clone, Copy, Default)]
 pub struct StopFlat {
     pub number: u8,
     pub has_best: u8,
@@ -64,127 +62,128 @@ pub struct StopFlat {
     pub floor: f64,
 }
 
-pub fn start_flat(s: Started) -> StartFlat
-    ensures { result ≡ flat_started s }
-{
-    match s {
-        Started::Accepted(run) => StartFlat {
-            number: 0,
-            run: run_record(run),
-        },
-        Started::Refused(n) => StartFlat {
-            number: n,
-            run: no_run(),
-        },
+impl From<Result<Run, Refusal>> for StartFlat {
+    ghost from_gives = { λ started flat. flat ≡ flat_started started };
+
+    #[tactic(auto, unfolding(score_best::specs::Best::no_best))]
+    fn from(started: Result<Run, Refusal>) -> StartFlat {
+        match started {
+            Ok(run) => StartFlat {
+                number: 0,
+                run: run.into(),
+            },
+            Err(refusal) => StartFlat {
+                number: refusal.into(),
+                ..StartFlat::default()
+            },
+        }
     }
 }
 
-pub fn next_flat(n: NextReply) -> NextFlat
-    ensures { result ≡ flat_next n }
-{
-    let handed = n.reply;
-    let run = run_record(n.run);
-    match handed {
-        Handed::Candidate(candidate) => NextFlat {
-            number: 0,
-            over: 0,
-            candidate,
-            run,
-        },
-        Handed::Over => NextFlat {
-            number: 0,
-            over: 1,
-            candidate: 0,
-            run,
-        },
-        Handed::Refused(number) => NextFlat {
-            number,
-            over: 0,
-            candidate: 0,
-            run,
-        },
+impl From<NextReply> for NextFlat {
+    ghost from_gives = { λ next flat. flat ≡ flat_next next };
+
+    fn from(next: NextReply) -> NextFlat {
+        let flat = NextFlat {
+            run: next.run.into(),
+            ..NextFlat::default()
+        };
+        match next.reply {
+            Ok(Handed::Candidate(candidate)) => NextFlat { candidate, ..flat },
+            Ok(Handed::Over) => NextFlat { over: 1, ..flat },
+            Err(refusal) => NextFlat {
+                number: refusal.into(),
+                ..flat
+            },
+        }
     }
 }
 
-pub fn answer_flat(a: AnswerReply) -> AnswerFlat
-    ensures { result ≡ flat_answer a }
-{
-    let answered = a.reply;
-    let run = run_record(a.run);
-    match answered {
-        Answered::Scored(score) => AnswerFlat {
+impl From<AnswerReply> for AnswerFlat {
+    ghost from_gives = { λ answer flat. flat ≡ flat_answer answer };
+
+    fn from(answer: AnswerReply) -> AnswerFlat {
+        let flat = AnswerFlat {
+            run: answer.run.into(),
+            ..AnswerFlat::default()
+        };
+        match answer.reply {
+            Ok(Answered::Scored(score)) => AnswerFlat { score, ..flat },
+            Ok(Answered::Skipped(reason)) => AnswerFlat {
+                skipped: reason.into(),
+                ..flat
+            },
+            Err(refusal) => AnswerFlat {
+                number: refusal.into(),
+                ..flat
+            },
+        }
+    }
+}
+
+impl From<Result<Candidate, Refusal>> for ResultFlat {
+    ghost from_gives = { λ best flat. flat ≡ flat_result best };
+
+    #[tactic(auto, unfolding(score_best::specs::Best::no_best))]
+    fn from(best: Result<Candidate, Refusal>) -> ResultFlat {
+        match best {
+            Ok(candidate) => ResultFlat {
+                number: 0,
+                candidate,
+            },
+            Err(refusal) => ResultFlat {
+                number: refusal.into(),
+                ..ResultFlat::default()
+            },
+        }
+    }
+}
+
+impl From<Outlook> for StopFlat {
+    ghost from_gives = { λ outlook flat. flat ≡ flat_outlook outlook };
+
+    fn from(outlook: Outlook) -> StopFlat {
+        StopFlat {
             number: 0,
-            skipped: 0,
-            score,
-            run,
-        },
-        Answered::Skipped(skipped) => AnswerFlat {
-            number: 0,
-            skipped,
-            score: 0.0,
-            run,
-        },
-        Answered::Refused(number) => AnswerFlat {
-            number,
-            skipped: 0,
-            score: 0.0,
-            run,
-        },
+            has_best: outlook.best.found.into(),
+            has_floor: outlook.floor.is_some().into(),
+            no_gain: outlook.no_gain.into(),
+            best: outlook.best.candidate,
+            floor: outlook.floor.unwrap_or(0.0),
+        }
     }
 }
 
-fn no_candidate() -> Candidate
-    ensures { result ≡ no_best.candidate }
-{
-    let nothing = score_best::no_best();
-    nothing.candidate
-}
+impl From<Result<Outlook, Refusal>> for StopFlat {
+    ghost from_gives = { λ stopped flat. flat ≡ flat_stopped stopped };
 
-pub fn result_flat(s: Resulted) -> ResultFlat
-    ensures { result ≡ flat_result s }
-{
-    match s {
-        Resulted::Result(candidate) => ResultFlat {
-            number: 0,
-            candidate,
-        },
-        Resulted::Refused(n) => ResultFlat {
-            number: n,
-            candidate: no_candidate(),
-        },
+    #[tactic(auto, unfolding(score_best::specs::Best::no_best))]
+    fn from(stopped: Result<Outlook, Refusal>) -> StopFlat {
+        match stopped {
+            Ok(outlook) => outlook.into(),
+            Err(refusal) => StopFlat {
+                number: refusal.into(),
+                ..StopFlat::default()
+            },
+        }
     }
 }
 
-fn outlook_flat(outlook: Outlook) -> StopFlat
-    ensures { result ≡ flat_outlook outlook }
-{
-    let best = outlook.best.candidate;
-    StopFlat {
-        number: 0,
-        has_best: flag(outlook.best.found),
-        has_floor: flag(outlook.has_floor),
-        no_gain: flag(outlook.no_gain),
-        best,
-        floor: outlook.floor,
+impl From<Option<Line>> for LastRecord {
+    ghost from_gives = { λ last flat. flat ≡ flat_last_line last };
+
+    fn from(last: Option<Line>) -> LastRecord {
+        match last {
+            Some(line) => LastRecord {
+                found: 1,
+                line: line.into(),
+            },
+            None => LastRecord::default(),
+        }
     }
 }
 
-pub fn stop_flat(s: Stopped) -> StopFlat
-    ensures { result ≡ flat_stopped s }
-{
-    match s {
-        Stopped::Standing(outlook) => outlook_flat(outlook),
-        Stopped::Refused(number) => StopFlat {
-            number,
-            has_best: 0,
-            has_floor: 0,
-            no_gain: 0,
-            best: no_candidate(),
-            floor: 0.0,
-        },
-    }
-}
-
+// Kept: a flag and a camera are two values, and From takes one: a pair would have to be made at the call and taken apart here.
 pub fn finding_of(is_solved: u8, solved: PinholeCamera) -> Finding
     ensures { result ≡ finding_of is_solved solved }
 {
@@ -194,40 +193,16 @@ pub fn finding_of(is_solved: u8, solved: PinholeCamera) -> Finding
     Finding::Failed
 }
 
-fn copy(part: &[f64], to: &mut [f64])
-    requires { length part.now ≤ length to.old }
-    ensures { to.new ≡ sets to.old 0 part.now }
-{
-    let mut i = 0;
-    while i < part.len() {
-        to[i] = part[i];
-        i += 1;
-    }
-}
-
 // Copies the part to the front of `to`, and says how many numbers were copied: none where `to` is too short.
+// Kept: the C interface hands back how many were copied, and has 0 for none.
 pub fn copy_part(part: &[f64], to: &mut [f64]) -> usize
     ensures count { result ≡ copy_count part.now to.old }
     ensures copy { to.new ≡ copied part.now to.old }
 {
-    if to.len() < part.len() {
+    let count = part.len();
+    if to.len() < count {
         return 0;
     }
-    copy(part, to);
-    part.len()
-}
-
-pub fn last_flat(last: LastLine) -> LastRecord
-    ensures { result ≡ flat_last_line last }
-{
-    match last {
-        LastLine::Answered(line) => LastRecord {
-            found: 1,
-            line: line_record(line),
-        },
-        LastLine::Nothing => LastRecord {
-            found: 0,
-            line: no_line(),
-        },
-    }
+    to[..count].copy_from_slice(part);
+    count
 }

@@ -1,31 +1,34 @@
 // Sum and count of a finding's errors.
+// Kept: the C interface names the struct of this file, field by field.
 ghost use Rattle.std.specs.Prelude.{◌≡◌};
 ghost use Rattle.capi_records.specs.Scoring.{flat_error_count};
 
-use score_outcome::ErrorCount;
+use common::Refusal;
+use score_rows::ErrorSum;
 
 // 0, the sum of the errors and how many there are, or 13 or 27.
 #[repr(C)]
-#[derive(Clone, Copy)]
+#[derive(Clone, Copy, Default)]
 pub struct ErrorCountReply {
     pub number: u8,
     pub sum: f64,
     pub counted: usize,
 }
 
-pub fn error_count_reply(c: ErrorCount) -> ErrorCountReply
-    ensures { result ≡ flat_error_count c }
-{
-    match c {
-        ErrorCount::Errors(errors) => ErrorCountReply {
-            number: 0,
-            sum: errors.sum,
-            counted: errors.count as usize,
-        },
-        ErrorCount::Refused(n) => ErrorCountReply {
-            number: n,
-            sum: 0.0,
-            counted: 0,
-        },
+impl From<Result<ErrorSum, Refusal>> for ErrorCountReply {
+    ghost from_gives = { λ errors reply. reply ≡ flat_error_count errors };
+
+    fn from(errors: Result<ErrorSum, Refusal>) -> ErrorCountReply {
+        match errors {
+            Ok(errors) => ErrorCountReply {
+                number: 0,
+                sum: errors.sum,
+                counted: errors.count as usize,
+            },
+            Err(refusal) => ErrorCountReply {
+                number: refusal.into(),
+                ..ErrorCountReply::default()
+            },
+        }
     }
 }

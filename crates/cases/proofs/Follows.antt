@@ -1,6 +1,6 @@
 -- The theorem at the run through three rounds, whose condition holds there: what it says of what was handed out and of the winner; and at a run that is over with 11: a
 -- negative tilt was tried; and at a one-axis run. Assumes nothing.
-use Rattle.std.proofs.Common.{◌≤◌, ◌≡◌, refl, inr, true, List, length, Float}
+use Rattle.std.proofs.Common.{◌≤◌, ◌≡◌, refl, inr, true, List, length, Float, Ok}
 use Rattle.std.specs.Float.Ieee.{of_bits, add, sub, neg, lt, le, eq}
 use mathlib.Core.List.Memᴰ
 use Rattle.common.specs.Each.{All, every}
@@ -9,7 +9,6 @@ use Rattle.float.specs.Literals.{plus_zero}
 use Rattle.seed_rules.specs.Merge.{keep, has_near, push, merged_into}
 use Rattle.seed_rules.specs.Rules.{closer, tilt_near, camera_near, near, within, in_bound, untilted_y, pairs, tilts, seed_grid, initial_list}
 use Rattle.seed_rules.specs.Layout.{read_from}
-use Rattle.search_start.specs.declared.Started.TheVariants.{Accepted}
 use Rattle.search_start.specs.Start.{good_seed, only_zero, too_many, demand_of, start_reply}
 use Rattle.book.specs.Trace.{tilt_y_of, handed_in_round, handed, answers}
 use Rattle.book.specs.Named.{outcomes_in, handings}
@@ -22,7 +21,7 @@ use Rattle.cases.specs.OneAxis.{axis_inputs, axis_run, axis_calls, axis_winner}
 use Rattle.cases.specs.Whole.{whole_inputs, whole_run, whole_calls, whole_winner}
 use Rattle.cases.proofs.OnWalk.{on_walk}
 
-accepted : start_of whole_inputs sixty ≡ Accepted whole_run
+accepted : start_of whole_inputs sixty ≡ Ok whole_run
 unfolding start_reply every good_seed too_many demand_of initial_list seed_grid pairs keep merged_into push has_near tilt_near camera_near near closer within in_bound read_from abs_of is_finite add sub neg lt le of_bits
 accepted = refl
 
@@ -40,7 +39,7 @@ pub whole_wins : Wins whole_inputs (answers whole_run started whole_calls) whole
 whole_wins = whole_follows.wins whole_winner on_walk.whole_result
 
 -- ---- the run whose scores are all NaN: it is over with 11, and the negative tilt was tried
-all_lost_accepted : start_of all_lost_inputs sixty ≡ Accepted all_lost_run
+all_lost_accepted : start_of all_lost_inputs sixty ≡ Ok all_lost_run
 unfolding start_reply every good_seed too_many demand_of initial_list seed_grid pairs keep merged_into push has_near tilt_near camera_near near closer within in_bound read_from abs_of is_finite add sub neg lt le of_bits
 all_lost_accepted = refl
 
@@ -58,7 +57,7 @@ all_lost_tried =
     negative = unfold neg of_bits in refl
 
 -- ---- the one-axis run: its two later rounds have at most three seeds each, no tilt about y was handed out, and the winner has none
-axis_accepted : start_of axis_inputs sixty ≡ Accepted axis_run
+axis_accepted : start_of axis_inputs sixty ≡ Ok axis_run
 unfolding start_reply every good_seed only_zero untilted_y too_many demand_of initial_list seed_grid pairs keep merged_into push has_near tilt_near camera_near near closer within in_bound read_from abs_of is_finite add sub neg lt le eq of_bits
 axis_accepted = refl
 

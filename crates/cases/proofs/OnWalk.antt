@@ -1,5 +1,6 @@
 -- The worked runs on the walk, from Start on, computed. Assumes nothing.
-use Rattle.std.proofs.Common.{◌≡◌, refl, [], ◌∷◌}
+use Rattle.std.proofs.Common.{◌≡◌, refl, [], ◌∷◌, Ok, Err}
+use Rattle.common.specs.declared.Refusal.TheVariants.{NothingScored, ShareAboveAll}
 use Rattle.std.specs.Float.Ieee.{add, sub, mul, div, neg, lt, le, eq, is_nan, of_bits, of_int, sum, round, units, odd, size, span, climb}
 use Rattle.common.specs.Each.{every}
 use Rattle.float.specs.Float.{abs_of, is_finite, min_of, max_of, clamp_of}
@@ -7,7 +8,7 @@ use Rattle.root.specs.Root.{root_in, isqrt, root_of, root}
 use Rattle.float_series.specs.Series.{coefficient_of, horner_of, series_of}
 use Rattle.float_series.specs.Answer.{beyond_half}
 use Rattle.camera_tilt.specs.Matrix.{product_of, first_other, second_other, minor_of, cofactor_of, determinant_of, inverse_of}
-use Rattle.camera_tilt.specs.Sensor.{tilt_projection_matrix, tilt_verdict, forward_depth, inverse_depth, apply_homography, apply_homography_inverse}
+use Rattle.camera_tilt.specs.Sensor.{tilt_projection_matrix, forward_depth, inverse_depth, apply_homography, apply_homography_inverse}
 use Rattle.camera_models.specs.Distortion.{radial_factor, tangential_x, tangential_y, distorted, jacobian_radial, radial_derivative, jacobian_at}
 use Rattle.seed_rules.specs.Merge.{keep, has_near, push, merged_into}
 use Rattle.seed_rules.specs.Rules.{closer, tilt_near, camera_near, near, within, in_bound, pairs, seed_grid, initial_list, untilted_y, offsets, y_offsets, next_list}
@@ -22,7 +23,6 @@ use Rattle.search_record.specs.Record.{has_place, add_up, sound, awaiting, with_
 use Rattle.search_start.specs.Start.{good_seed, only_zero, too_many, demand_of, opening_of, start_reply, start_list}
 use Rattle.search_calls.specs.Next.{next_def, seed_lent, seed_part}
 use Rattle.search_answer.specs.Answer.{next_seeds, close_round, enter_def, outcome_for, answer_def}
-use Rattle.search_calls.specs.declared.result.Resulted.TheVariants.{Result, Refused}
 use Rattle.search_calls.specs.Result.{result_def}
 use Rattle.search_calls.specs.Progress.{progress_def}
 use Rattle.search_calls.specs.Counts.{counts_def}
@@ -53,11 +53,11 @@ pub record OnWalk : Type 0 where
   pub few_counted : walk_from (few_inputs 34) few_calls ≡ few_replies
   -- 100 per cent may be asked for, and 101 may not
   pub all_asked : walk_from (few_inputs 100) (next 54 ∷ []) ≡ candidate 0 ∷ []
-  pub more_asked : walk_from (few_inputs 101) (next 54 ∷ []) ≡ refused 33 ∷ []
-  pub all_lost_result : result_def (run_after all_lost_run (started_list all_lost_inputs sixty) all_lost_calls) ≡ Refused 11
-  pub one_axis_result : result_def (run_after axis_run (started_list axis_inputs sixty) axis_calls) ≡ Result axis_winner
-  pub whole_result : result_def (run_after whole_run (started_list whole_inputs sixty) whole_calls) ≡ Result whole_winner
+  pub more_asked : walk_from (few_inputs 101) (next 54 ∷ []) ≡ refused ShareAboveAll ∷ []
+  pub all_lost_result : result_def (run_after all_lost_run (started_list all_lost_inputs sixty) all_lost_calls) ≡ Err NothingScored
+  pub one_axis_result : result_def (run_after axis_run (started_list axis_inputs sixty) axis_calls) ≡ Ok axis_winner
+  pub whole_result : result_def (run_after whole_run (started_list whole_inputs sixty) whole_calls) ≡ Ok whole_winner
 
 pub on_walk : OnWalk
-unfolding coefficient_of horner_of series_of beyond_half trig_of every abs_of is_finite min_of max_of clamp_of root_in isqrt root_of root product_of first_other second_other minor_of cofactor_of determinant_of inverse_of tilt_projection_matrix tilt_verdict forward_depth inverse_depth apply_homography apply_homography_inverse radial_factor tangential_x tangential_y distorted jacobian_radial radial_derivative jacobian_at keep has_near push merged_into closer tilt_near camera_near near within in_bound pairs seed_grid initial_list untilted_y offsets y_offsets next_list laid read_from damped finite_intrinsics finite_distortion valid_camera distortion_penalty tilt_penalty centre_penalty score_of rows_of tilt_matrix projected row_error is_counted counted_errors summed error_sum mean_of any_above_one solved_refusal finding_refusal errors_with mean_with enough enough_with scoring_of scored_as evaluated outcome_of beats unbeaten first_unbeaten best_of no_best is_better improved has_place sound awaiting with_outcome entered next_step round_opened ended good_seed only_zero too_many demand_of opening_of start_reply start_list next_def seed_lent seed_part next_seeds close_round enter_def outcome_for answer_def result_def progress_def left_seeds best_so_far outlook_of stop_def counted_penalty floor_of seeds_from run_call walk run_after add sub mul div neg lt le eq is_nan of_bits of_int sum round units odd size span climb total add_up counts_def
+unfolding coefficient_of horner_of series_of beyond_half trig_of every abs_of is_finite min_of max_of clamp_of root_in isqrt root_of root product_of first_other second_other minor_of cofactor_of determinant_of inverse_of tilt_projection_matrix forward_depth inverse_depth apply_homography apply_homography_inverse radial_factor tangential_x tangential_y distorted jacobian_radial radial_derivative jacobian_at keep has_near push merged_into closer tilt_near camera_near near within in_bound pairs seed_grid initial_list untilted_y offsets y_offsets next_list laid read_from damped finite_intrinsics finite_distortion valid_camera distortion_penalty tilt_penalty centre_penalty score_of rows_of tilt_matrix projected row_error is_counted counted_errors summed error_sum mean_of any_above_one solved_refusal finding_refusal errors_with mean_with enough enough_with scoring_of scored_as evaluated outcome_of beats unbeaten first_unbeaten best_of no_best is_better improved has_place sound awaiting with_outcome entered next_step round_opened ended good_seed only_zero too_many demand_of opening_of start_reply start_list next_def seed_lent seed_part next_seeds close_round enter_def outcome_for answer_def result_def progress_def left_seeds best_so_far outlook_of stop_def counted_penalty floor_of seeds_from run_call walk run_after add sub mul div neg lt le eq is_nan of_bits of_int sum round units odd size span climb total add_up counts_def
 on_walk = record { empty = refl; failed = refl; whole = refl; first_lost = refl; between_lost = refl; asked = refl; all_lost = refl; one_axis = refl; enough_counted = refl; few_counted = refl; all_asked = refl; more_asked = refl; all_lost_result = refl; one_axis_result = refl; whole_result = refl }

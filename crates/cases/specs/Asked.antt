@@ -1,6 +1,8 @@
 -- A run whose host asks on the way how far it has come and what could still be gained: before the first answer, while a seed waits, with a floor that equals the best's
 -- score, in the middle of a later round, after the end, and with a list that is too short. Definitions only.
 use Rattle.std.specs.Prelude.{true, false, List, [], ◌∷◌, ◌++◌, Float}
+use Rattle.common.specs.declared.Refusal.TheVariants.{ShortList}
+use Rattle.score_outcome.specs.declared.SkipReason.TheVariants.{HostFailed}
 use Rattle.score_best.specs.declared.Candidate.{Candidate}
 use Rattle.score_best.specs.Best.{nothing, chosen}
 use Rattle.book.specs.Calls.{Call, next, answer, ask, progress, stop, nothing_left, floor, Reply, candidate, scored, skipped, result, bar, stopped, refused}
@@ -45,7 +47,7 @@ round_zero =
 
 abbrev round_zero_replies : List Reply
 round_zero_replies =
-    bar (record { round = 0; rounds = 1; answered = 0; total = 2; in_run = 0 }) ∷ refused 10 ∷ stopped nothing (floor f0 false)
+    bar (record { round = 0; rounds = 1; answered = 0; total = 2; in_run = 0 }) ∷ refused ShortList ∷ stopped nothing (floor f0 false)
     ∷ candidate 0 ∷ stopped nothing (floor f0 false) ∷ scored sixty_fourth
     ∷ bar (record { round = 0; rounds = 1; answered = 1; total = 2; in_run = 1 }) ∷ stopped (chosen best) (floor sixty_fourth true) ∷ []
 
@@ -57,11 +59,11 @@ round_one =
 
 abbrev round_one_replies : List Reply
 round_one_replies =
-    candidate 1 ∷ skipped 1 ∷ bar (record { round = 1; rounds = 1; answered = 0; total = 9; in_run = 2 }) ∷ stopped (chosen best) (floor f0 false)
-    ∷ candidate 2 ∷ skipped 1 ∷ candidate 3 ∷ skipped 1 ∷ candidate 4 ∷ skipped 1 ∷ candidate 5 ∷ skipped 1 ∷ candidate 6 ∷ skipped 1
+    candidate 1 ∷ skipped HostFailed ∷ bar (record { round = 1; rounds = 1; answered = 0; total = 9; in_run = 2 }) ∷ stopped (chosen best) (floor f0 false)
+    ∷ candidate 2 ∷ skipped HostFailed ∷ candidate 3 ∷ skipped HostFailed ∷ candidate 4 ∷ skipped HostFailed ∷ candidate 5 ∷ skipped HostFailed ∷ candidate 6 ∷ skipped HostFailed
     ∷ stopped (chosen best) (floor (bits 0x3f70_0000_0000_0000) false)
-    ∷ candidate 7 ∷ skipped 1 ∷ candidate 8 ∷ skipped 1 ∷ candidate 9 ∷ skipped 1 ∷ candidate 10 ∷ skipped 1
-    ∷ bar (record { round = 1; rounds = 1; answered = 9; total = 9; in_run = 11 }) ∷ stopped (chosen best) nothing_left ∷ refused 10 ∷ result best ∷ []
+    ∷ candidate 7 ∷ skipped HostFailed ∷ candidate 8 ∷ skipped HostFailed ∷ candidate 9 ∷ skipped HostFailed ∷ candidate 10 ∷ skipped HostFailed
+    ∷ bar (record { round = 1; rounds = 1; answered = 9; total = 9; in_run = 11 }) ∷ stopped (chosen best) nothing_left ∷ refused ShortList ∷ result best ∷ []
 
 abbrev pub asked_calls : List Call
 asked_calls = round_zero ++ round_one

@@ -1,18 +1,16 @@
 -- What a row of the table claims: one constructor for each operation, with its inputs and the answer that 01 gives. Definitions only.
-use Rattle.std.specs.Prelude.{ℕ, zero, suc, ◌≡◌, List, [], map, pos, negsuc, Float}
+use Rattle.std.specs.Prelude.{ℕ, zero, suc, ◌≡◌, List, [], map, pos, negsuc, Float, Result, ⊤}
+use Rattle.common.specs.declared.Refusal.{Refusal}
 use Rattle.std.specs.Float.Ieee.{of_int, of_bits}
 use Rattle.std.specs.Float.{binary64}
 use Rattle.root.specs.Root.{root}
 use Rattle.camera_models.specs.declared.math.Pt2.{Pt2}
 use Rattle.camera_models.specs.declared.intrinsics.FxFyCxCy.{FxFyCxCy}
 use Rattle.camera_tilt.specs.declared.sensor.ScheimpflugParams.{ScheimpflugParams}
-use Rattle.camera_tilt.specs.declared.sensor.Tilt.{Tilt}
 use Rattle.camera_tilt.specs.Matrix.{Matrix}
 use Rattle.camera_tilt.specs.Sensor.{tilt_projection_matrix, tilt_verdict, apply_homography, apply_homography_inverse}
-use Rattle.point_maps.specs.declared.centre.Center.{Center}
 use Rattle.point_maps.specs.Centre.{center_reply}
 use Rattle.zhang.specs.declared.Conic.{Conic}
-use Rattle.zhang.specs.declared.Estimated.{Estimated}
 use Rattle.zhang.specs.Zhang.{from_homographies}
 use Rattle.seed_rules.specs.Rules.{seed_with, initial_list, offsets, next_list}
 use Rattle.score_camera.specs.Penalties.{tilt_penalty}
@@ -28,10 +26,10 @@ minus (suc n) = of_int binary64 (negsuc n)
 pub data Case : Type 0 where
   sqrt : Float → Float → Case
   -- sine and cosine of each tilt, and the verdict on their matrix
-  tilt : Float → Float → Float → Float → Tilt → Case
+  tilt : Float → Float → Float → Float → Result ⊤ Refusal → Case
   forward backward : Matrix → Pt2 → Pt2 → Case
-  centre : List Float → Center → Case
-  conic : Conic → Estimated → Case
+  centre : List Float → Result Pt2 Refusal → Case
+  conic : Conic → Result FxFyCxCy Refusal → Case
   -- typed tilts of each axis and the bound, around a centre with a step and the bound: the tilts of the list
   typed : List Float → List Float → Float → List ScheimpflugParams → Case
   around : ScheimpflugParams → Float → Float → List ScheimpflugParams → Case

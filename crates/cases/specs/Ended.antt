@@ -1,5 +1,7 @@
 -- Two runs that end with nothing: round 0 is empty; and nothing is scored. Definitions only.
 use Rattle.std.specs.Prelude.{false, List, [], ◌∷◌, ◌++◌}
+use Rattle.common.specs.declared.Refusal.TheVariants.{ShortList, NothingScored, NoSeedWaits}
+use Rattle.score_outcome.specs.declared.SkipReason.TheVariants.{HostFailed}
 use Rattle.score_outcome.specs.declared.Finding.TheVariants.{Failed}
 use Rattle.book.specs.Calls.{Call, next, seed, answer, ask, Reply, candidate, part, skipped, refused}
 use Rattle.book.specs.Book.{Inputs}
@@ -26,7 +28,7 @@ abbrev pub empty_calls : List Call
 empty_calls = next 53 ∷ next 54 ∷ seed 54 ∷ answer 54 Failed [] [] ∷ ask ∷ []
 
 abbrev pub empty_replies : List Reply
-empty_replies = refused 10 ∷ refused 11 ∷ part [] ∷ refused 12 ∷ refused 11 ∷ []
+empty_replies = refused ShortList ∷ refused NothingScored ∷ part [] ∷ refused NoSeedWaits ∷ refused NothingScored ∷ []
 
 -- two typed tilts, and the host fails at both
 abbrev pub failed_inputs : Inputs
@@ -48,4 +50,4 @@ abbrev pub failed_calls : List Call
 failed_calls = failed 54 ++ failed 54 ++ (next 54 ∷ ask ∷ [])
 
 abbrev pub failed_replies : List Reply
-failed_replies = candidate 0 ∷ skipped 1 ∷ candidate 1 ∷ skipped 1 ∷ refused 11 ∷ refused 11 ∷ []
+failed_replies = candidate 0 ∷ skipped HostFailed ∷ candidate 1 ∷ skipped HostFailed ∷ refused NothingScored ∷ refused NothingScored ∷ []

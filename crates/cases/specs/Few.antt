@@ -1,5 +1,7 @@
 -- Runs that ask for a share of counted rows: one of three rows is 33 per cent of them and not 34; and what is counted of each kind. Definitions only.
 use Rattle.std.specs.Prelude.{ℕ, false, List, [], ◌∷◌, ◌++◌, Float}
+use Rattle.common.specs.declared.Refusal.TheVariants.{NothingScored}
+use Rattle.score_outcome.specs.declared.SkipReason.TheVariants.{NoMean, NoNumber}
 use Rattle.score_outcome.specs.declared.Finding.TheVariants.{Solved}
 use Rattle.book.specs.Calls.{Call, next, ask, Reply, candidate, over, scored, skipped, result, refused, counts, counted}
 use Rattle.book.specs.Book.{Inputs}
@@ -40,7 +42,7 @@ few_calls =
 -- 33 per cent: the first is scored, no rows have no mean, and the NaN is reason 4
 abbrev pub enough_replies : List Reply
 enough_replies =
-    candidate 0 ∷ scored f1 ∷ candidate 1 ∷ skipped 3 ∷ candidate 2 ∷ skipped 4 ∷ over
+    candidate 0 ∷ scored f1 ∷ candidate 1 ∷ skipped NoMean ∷ candidate 2 ∷ skipped NoNumber ∷ over
     ∷ result (record {
       number = 0;
       camera = record { k = pinhole; dist = record { k1 = f0; k2 = f0; k3 = f0; p1 = f0; p2 = f0 } };
@@ -53,5 +55,5 @@ enough_replies =
 -- 34 per cent: all three are reason 3, the NaN too
 abbrev pub few_replies : List Reply
 few_replies =
-    candidate 0 ∷ skipped 3 ∷ candidate 1 ∷ skipped 3 ∷ candidate 2 ∷ skipped 3 ∷ refused 11 ∷ refused 11
+    candidate 0 ∷ skipped NoMean ∷ candidate 1 ∷ skipped NoMean ∷ candidate 2 ∷ skipped NoMean ∷ refused NothingScored ∷ refused NothingScored
     ∷ counted (record { scored = 0; host_failed = 0; bad_camera = 0; no_mean = 3; no_number = 0 }) ∷ []

@@ -1,5 +1,7 @@
 -- Runs with scores that aren't numbers: the first, one between two others, and all of them. Definitions only.
 use Rattle.std.specs.Prelude.{false, List, [], ◌∷◌, ◌++◌, ℕ, Float}
+use Rattle.common.specs.declared.Refusal.TheVariants.{NothingScored}
+use Rattle.score_outcome.specs.declared.SkipReason.TheVariants.{NoNumber}
 use Rattle.score_outcome.specs.declared.Finding.TheVariants.{Solved}
 use Rattle.score_best.specs.declared.Candidate.{Candidate}
 use Rattle.search_record.specs.declared.run.Run.{Run}
@@ -55,7 +57,7 @@ first_calls = lost ++ near ++ farther ++ (next 54 ∷ ask ∷ [])
 
 abbrev pub first_replies : List Reply
 first_replies =
-    candidate 0 ∷ skipped 4 ∷ candidate 1 ∷ scored (bits 0x3ff0_4000_0000_0000) ∷ candidate 2 ∷ scored (bits 0x4000_2000_0000_0000)
+    candidate 0 ∷ skipped NoNumber ∷ candidate 1 ∷ scored (bits 0x3ff0_4000_0000_0000) ∷ candidate 2 ∷ scored (bits 0x4000_2000_0000_0000)
     ∷ over ∷ result (winner 1 quarter f1 (bits 0x3ff0_4000_0000_0000)) ∷ []
 
 -- ---- the second is: the round goes on, and the third wins
@@ -64,7 +66,7 @@ between_calls = farther ++ lost ++ near ++ (next 54 ∷ ask ∷ [])
 
 abbrev pub between_replies : List Reply
 between_replies =
-    candidate 0 ∷ scored (bits 0x4000_0000_0000_0000) ∷ candidate 1 ∷ skipped 4 ∷ candidate 2 ∷ scored (bits 0x3ff0_4000_0000_0000)
+    candidate 0 ∷ scored (bits 0x4000_0000_0000_0000) ∷ candidate 1 ∷ skipped NoNumber ∷ candidate 2 ∷ scored (bits 0x3ff0_4000_0000_0000)
     ∷ over ∷ result (winner 2 (bits 0xbfd0_0000_0000_0000) f1 (bits 0x3ff0_4000_0000_0000)) ∷ []
 
 -- ---- an observed centre at infinity makes every score NaN: two further rounds are asked for, and the run is over after round 0
@@ -90,4 +92,4 @@ abbrev pub all_lost_calls : List Call
 all_lost_calls = near ++ farther ++ (next 54 ∷ ask ∷ [])
 
 abbrev pub all_lost_replies : List Reply
-all_lost_replies = candidate 0 ∷ skipped 4 ∷ candidate 1 ∷ skipped 4 ∷ refused 11 ∷ refused 11 ∷ []
+all_lost_replies = candidate 0 ∷ skipped NoNumber ∷ candidate 1 ∷ skipped NoNumber ∷ refused NothingScored ∷ refused NothingScored ∷ []

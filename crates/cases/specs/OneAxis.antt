@@ -1,5 +1,8 @@
 -- One-axis runs (02, E8): what Start refuses of them, a later list whose step is too small to tell seeds apart, and a run through three rounds. Assumes nothing.
-use Rattle.std.specs.Prelude.{ℕ, ◌≡◌, refl, Bool, true, false, List, [], ◌∷◌, ◌++◌, length, Float}
+use Rattle.std.specs.Prelude.{ℕ, ◌≡◌, refl, Bool, true, false, List, [], ◌∷◌, ◌++◌, length, Float, Result, Ok, Err, ⊤}
+use Rattle.common.specs.declared.Refusal.{Refusal}
+use Rattle.common.specs.declared.Refusal.TheVariants.{NoTilts, BadSeed, TiltNotFinite, BeyondHalf, TwoAxes, TiltedSeed}
+use Rattle.score_outcome.specs.declared.SkipReason.TheVariants.{HostFailed}
 use Rattle.std.specs.Float.Ieee.{of_bits, add, sub, neg, lt, le, eq}
 use Rattle.common.specs.Each.{All, every}
 use Rattle.float.specs.Float.{abs_of, is_finite}
@@ -42,16 +45,16 @@ inputs_with one_axis max ys ds = record {
 abbrev decomposed : Float → List Float
 decomposed y = f100 ∷ f100 ∷ f50 ∷ f50 ∷ f0 ∷ y ∷ []
 
--- ---- what Start refuses: 0 where it accepts
+-- ---- what Start refuses, and where it accepts
 pub record Row : Type 0 where
   pub inputs : Inputs
-  pub number : ℕ
+  pub refusal : Result ⊤ Refusal
 
-abbrev row : Inputs → ℕ → Row
-row i n = record { inputs = i; number = n }
+abbrev row : Inputs → Result ⊤ Refusal → Row
+row i r = record { inputs = i; refusal = r }
 
 abbrev Gives : Row → Type 0
-Gives r = let i = r.inputs in start_refusal i.views (options_of i) i.xs i.ys i.decomposition (length sixty) ≡ r.number
+Gives r = let i = r.inputs in start_refusal i.views (options_of i) i.xs i.ys i.decomposition (length sixty) ≡ r.refusal
 
 -- NaN, 0.75
 abbrev not_number : Float
@@ -63,22 +66,22 @@ high = bits 0x3fe8_0000_0000_0000
 abbrev pub starts : List Row
 starts =
     -- the single value 0, of either sign, and nothing else
-    row (inputs_with true quarter (f0 ∷ []) []) 0
-    ∷ row (inputs_with true quarter (minus_zero ∷ []) []) 0
-    ∷ row (inputs_with true quarter (f0 ∷ f0 ∷ []) []) 31
-    ∷ row (inputs_with true quarter (eighth ∷ []) []) 31
+    row (inputs_with true quarter (f0 ∷ []) []) (Ok tt)
+    ∷ row (inputs_with true quarter (minus_zero ∷ []) []) (Ok tt)
+    ∷ row (inputs_with true quarter (f0 ∷ f0 ∷ []) []) (Err TwoAxes)
+    ∷ row (inputs_with true quarter (eighth ∷ []) []) (Err TwoAxes)
     -- a decomposition seed
-    ∷ row (inputs_with true quarter (f0 ∷ []) (decomposed minus_zero)) 0
-    ∷ row (inputs_with true quarter (f0 ∷ []) (decomposed eighth)) 32
-    ∷ row (inputs_with true quarter (f0 ∷ []) (decomposed f0 ++ decomposed (neg eighth))) 32
+    ∷ row (inputs_with true quarter (f0 ∷ []) (decomposed minus_zero)) (Ok tt)
+    ∷ row (inputs_with true quarter (f0 ∷ []) (decomposed eighth)) (Err TiltedSeed)
+    ∷ row (inputs_with true quarter (f0 ∷ []) (decomposed f0 ++ decomposed (neg eighth))) (Err TiltedSeed)
     -- in this order: 2, 6, 7, 27, 31, 32
-    ∷ row (inputs_with true high [] (decomposed f1)) 2
-    ∷ row (inputs_with true high (not_number ∷ []) (decomposed f1)) 6
-    ∷ row (inputs_with true high (not_number ∷ []) (decomposed eighth)) 7
-    ∷ row (inputs_with true high (eighth ∷ []) (decomposed eighth)) 27
-    ∷ row (inputs_with true quarter (eighth ∷ []) (decomposed eighth)) 31
+    ∷ row (inputs_with true high [] (decomposed f1)) (Err NoTilts)
+    ∷ row (inputs_with true high (not_number ∷ []) (decomposed f1)) (Err BadSeed)
+    ∷ row (inputs_with true high (not_number ∷ []) (decomposed eighth)) (Err TiltNotFinite)
+    ∷ row (inputs_with true high (eighth ∷ []) (decomposed eighth)) (Err BeyondHalf)
+    ∷ row (inputs_with true quarter (eighth ∷ []) (decomposed eighth)) (Err TwoAxes)
     -- none of it in a two-axis run
-    ∷ row (inputs_with false quarter (eighth ∷ f0 ∷ []) (decomposed eighth)) 0
+    ∷ row (inputs_with false quarter (eighth ∷ f0 ∷ []) (decomposed eighth)) (Ok tt)
     ∷ []
 
 pub starts_so : All Gives starts
@@ -135,4 +138,4 @@ axis_replies =
     shown_as 0 quarter minus_zero at_quarter
     ++ shown_as 1 eighth f0 at_eighth ++ shown_as 2 quarter f0 at_quarter
     ++ shown_as 3 sixteenth f0 at_sixteenth
-    ++ (candidate 4 ∷ skipped 1 ∷ candidate 5 ∷ skipped 1 ∷ over ∷ result axis_winner ∷ [])
+    ++ (candidate 4 ∷ skipped HostFailed ∷ candidate 5 ∷ skipped HostFailed ∷ over ∷ result axis_winner ∷ [])

@@ -1,6 +1,8 @@
 -- A run through three rounds: decomposition and grid seeds, a merged seed and one beyond the bound, equal scores, a round that scores nothing, skip
 -- reasons 1, 2 and 3, a scored candidate with a tangential coefficient, and refused calls in between, with the counts while a seed waits and at the end. Definitions only.
 use Rattle.std.specs.Prelude.{false, List, [], ◌∷◌, ◌++◌, Float}
+use Rattle.common.specs.declared.Refusal.TheVariants.{SeedWaits, ShortList, NoSeedWaits, BadRows, NotOver}
+use Rattle.score_outcome.specs.declared.SkipReason.TheVariants.{HostFailed, BadCamera, NoMean}
 use Rattle.score_outcome.specs.declared.Finding.TheVariants.{Failed}
 use Rattle.score_best.specs.declared.Candidate.{Candidate}
 use Rattle.journal_line.specs.Counts.{no_counts}
@@ -48,9 +50,9 @@ round_zero =
 
 abbrev round_zero_replies : List Reply
 round_zero_replies =
-    refused 14 ∷ part [] ∷ refused 12 ∷ refused 10
-    ∷ candidate 0 ∷ refused 9 ∷ part [] ∷ part (f100 ∷ f100 ∷ f50 ∷ f50 ∷ f0 ∷ f0 ∷ [])
-    ∷ refused 10 ∷ refused 13 ∷ refused 13 ∷ counted no_counts
+    refused NotOver ∷ part [] ∷ refused NoSeedWaits ∷ refused ShortList
+    ∷ candidate 0 ∷ refused SeedWaits ∷ part [] ∷ part (f100 ∷ f100 ∷ f50 ∷ f50 ∷ f0 ∷ f0 ∷ [])
+    ∷ refused ShortList ∷ refused BadRows ∷ refused BadRows ∷ counted no_counts
     ∷ scored (bits 0x4000_0000_0000_0000) ∷ candidate 1 ∷ scored (bits 0x4000_0000_0000_0000) ∷ []
 
 -- ---- round 1, around (0, 0) with step 0.125: the host fails, a focal length is 0, no row is counted; and it fails at the rest
@@ -61,8 +63,8 @@ round_one =
 
 abbrev round_one_replies : List Reply
 round_one_replies =
-    candidate 2 ∷ skipped 1 ∷ candidate 3 ∷ skipped 2 ∷ candidate 4 ∷ skipped 3
-    ∷ candidate 5 ∷ skipped 1 ∷ candidate 6 ∷ skipped 1 ∷ candidate 7 ∷ skipped 1 ∷ candidate 8 ∷ skipped 1 ∷ candidate 9 ∷ skipped 1 ∷ candidate 10 ∷ skipped 1 ∷ []
+    candidate 2 ∷ skipped HostFailed ∷ candidate 3 ∷ skipped BadCamera ∷ candidate 4 ∷ skipped NoMean
+    ∷ candidate 5 ∷ skipped HostFailed ∷ candidate 6 ∷ skipped HostFailed ∷ candidate 7 ∷ skipped HostFailed ∷ candidate 8 ∷ skipped HostFailed ∷ candidate 9 ∷ skipped HostFailed ∷ candidate 10 ∷ skipped HostFailed ∷ []
 
 -- ---- round 2, around the run's best, still (0, 0), with step 0.0625: the first seed, (-0.0625, -0.0625), has p1 = 0.1, which is damped to 0.05.
 -- Its score is 1 + 0.25 × 0.05² + 0.25 × 2 × 0.0625², rounded.
@@ -92,9 +94,9 @@ abbrev round_two_replies : List Reply
 round_two_replies =
     candidate 11 ∷ part (f100 ∷ f100 ∷ f50 ∷ f50 ∷ small ∷ small ∷ [])
     ∷ counted (record { scored = 2; host_failed = 7; bad_camera = 1; no_mean = 1; no_number = 0 }) ∷ scored best
-    ∷ candidate 12 ∷ skipped 1 ∷ candidate 13 ∷ skipped 1 ∷ candidate 14 ∷ skipped 1 ∷ candidate 15 ∷ skipped 1
-    ∷ candidate 16 ∷ skipped 1 ∷ candidate 17 ∷ skipped 1 ∷ candidate 18 ∷ skipped 1 ∷ candidate 19 ∷ skipped 1
-    ∷ over ∷ refused 12 ∷ result whole_winner
+    ∷ candidate 12 ∷ skipped HostFailed ∷ candidate 13 ∷ skipped HostFailed ∷ candidate 14 ∷ skipped HostFailed ∷ candidate 15 ∷ skipped HostFailed
+    ∷ candidate 16 ∷ skipped HostFailed ∷ candidate 17 ∷ skipped HostFailed ∷ candidate 18 ∷ skipped HostFailed ∷ candidate 19 ∷ skipped HostFailed
+    ∷ over ∷ refused NoSeedWaits ∷ result whole_winner
     ∷ counted (record { scored = 3; host_failed = 15; bad_camera = 1; no_mean = 1; no_number = 0 }) ∷ []
 
 abbrev pub whole_calls : List Call

@@ -1,11 +1,11 @@
 -- Numbers, cameras and findings that the worked runs are made of. Definitions only.
-use Rattle.std.specs.Prelude.{ℕ, List, [], ◌∷◌, ◌++◌, Float}
+use Rattle.std.specs.Prelude.{ℕ, List, [], ◌∷◌, ◌++◌, Float, Result, Ok, Err}
+use Rattle.common.specs.declared.Refusal.{Refusal}
 use Rattle.camera_models.specs.declared.math.Pt2.{Pt2}
 use Rattle.camera_models.specs.declared.intrinsics.FxFyCxCy.{FxFyCxCy}
 use Rattle.score_outcome.specs.declared.Finding.{Finding}
 use Rattle.score_outcome.specs.declared.Finding.TheVariants.{Failed, Solved}
-use Rattle.search_start.specs.declared.Started.{Started}
-use Rattle.search_start.specs.declared.Started.TheVariants.{Accepted, Refused}
+use Rattle.search_record.specs.declared.run.Run.{Run}
 use Rattle.book.specs.Calls.{Call, next, answer, Reply, refused}
 use Rattle.book.specs.Book.{Inputs}
 use Rattle.book.specs.Walk.{walk}
@@ -56,9 +56,9 @@ ten = f1 ∷ f1 ∷ f1 ∷ f1 ∷ f1 ∷ f1 ∷ f1 ∷ f1 ∷ f1 ∷ f1 ∷ []
 abbrev pub sixty : List Float
 sixty = ten ++ ten ++ ten ++ ten ++ ten ++ ten
 
-abbrev pub walk_of : Started → List Float → List Call → List Reply
-walk_of (Accepted r) l cs = walk r l cs
-walk_of (Refused n) l cs = refused n ∷ []
+abbrev pub walk_of : Result Run Refusal → List Float → List Call → List Reply
+walk_of (Ok r) l cs = walk r l cs
+walk_of (Err refusal) l cs = refused refusal ∷ []
 
 abbrev pub walk_from : Inputs → List Call → List Reply
 walk_from i cs = walk_of (start_of i sixty) (started_list i sixty) cs

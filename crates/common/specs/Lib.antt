@@ -1,7 +1,8 @@
 pub mod Each
 pub mod All
-pub mod Refusal
-pub mod RefusalLaws
+pub mod Number
+pub mod Checks
+pub mod ChecksLaws
 pub mod Table
 pub mod Tests
 pub mod Slices

@@ -1,10 +1,15 @@
--- Laws of what is finite. Assumes nothing.
-use Rattle.std.specs.Prelude.{◌≡◌, refl, true, false, Float}
+-- What is finite: a whole list of numbers, and laws. Assumes nothing.
+use Rattle.std.specs.Prelude.{◌≡◌, refl, Bool, true, false, List, Float}
+use Rattle.std.specs.List.{list_all}
 use Rattle.std.proofs.Common.{sym, true≢false}
 use Rattle.std.specs.Float.{nan, inf, fin}
 use Rattle.std.specs.Float.Ieee.{of_bits, lt, le, div, neg, is_nan}
 use Rattle.float.specs.Literals.{infinity}
 use Rattle.float.specs.Float.{abs_of, is_finite}
+
+-- ---- a list of numbers
+abbrev pub all_finite : List Float → Bool
+all_finite numbers = list_all is_finite numbers
 
 -- ---- what lies between the infinities
 pub below_infinity : (x : Float) → lt (neg infinity) x ≡ true → lt x infinity ≡ is_finite x

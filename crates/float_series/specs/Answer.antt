@@ -1,15 +1,16 @@
--- What the calls answer: 27 where the number is NaN or beyond 0.5 in size, and the series otherwise. Definitions only.
-use Rattle.std.specs.Prelude.{Bool, ◌||◌, cond, Float}
+-- What the calls answer: a refusal where the number is NaN or beyond 0.5 in size, and the series otherwise. Definitions only.
+use Rattle.std.specs.Prelude.{Bool, ◌||◌, cond, Float, Result, Ok, Err}
 use Rattle.std.specs.Float.Ieee.{lt, is_nan}
 use Rattle.float.specs.Float.{abs_of}
 use Rattle.float.specs.Literals.{half₆₄}
-use Rattle.float_series.specs.Series.{Series, series_of}
-use Rattle.float_series.specs.declared.Sum.{Sum}
-use Rattle.float_series.specs.declared.Sum.TheVariants.{Value, Refused}
+use Rattle.common.specs.declared.Refusal.{Refusal}
+use Rattle.common.specs.declared.Refusal.TheVariants.{BeyondHalf}
+use Rattle.float_series.specs.Series.{series_of}
+use Rattle.float_series.specs.declared.Series.{Series}
 
 unfoldable pub beyond_half : Float → Bool
 beyond_half x = is_nan x || lt half₆₄ (abs_of x)
 
-unfoldable pub answer_of : Series → Float → Sum
+unfoldable pub answer_of : Series → Float → Result Float Refusal
 unfolding series_of beyond_half
-answer_of w x = cond (beyond_half x) (Refused 27) (Value (series_of w x))
+answer_of w x = cond (beyond_half x) (Err BeyondHalf) (Ok (series_of w x))

@@ -1,5 +1,5 @@
 // Sine and cosine of a number of at most 0.5 in size, by eight terms of their power series: the same bits on every computer.
-// Any other argument, NaN too, is refused with 27. How near the answers are to the exact sums is `proofs/Theorem.antt`.
+// Any other argument, NaN too, is refused. How near the answers are to the exact sums is `proofs/Theorem.antt`.
 
 #![tactic(auto)]
 
@@ -7,11 +7,14 @@ ghost use Rattle.std.specs.Prelude.{◌≡◌, ◌≤◌, ◌<◌};
 ghost use Rattle.float_series.specs.Series.{sines, cosines, coefficient_of, horner_of, series_of};
 ghost use Rattle.float_series.specs.Answer.{beyond_half, answer_of};
 
-// A number, or the number of a refusal.
+use common::Refusal;
+
+// Which of the two power series.
+// Kept: a value and no closure: the definition of the answer takes the series as a value too.
 #[derive(Clone, Copy)]
-pub enum Sum {
-    Value(f64),
-    Refused(u8),
+pub enum Series {
+    Cosines,
+    Sines,
 }
 
 // Entry n: 1 / n!, with the sign of the series' term, rounded to nearest.
@@ -42,53 +45,67 @@ fn coefficient(n: usize) -> f64
 }
 
 // From the last of eight coefficients on, times q plus the one before: first is 0 for the cosine and 1 for the sine.
+#[tactic(auto, unfolding(crate::specs::Series::horner_of))]
 fn horner(first: usize, q: f64) -> f64
     requires { first ≤ 1 }
     ensures { result ≡ horner_of q 7 first }
 {
-    let mut n = first + 14;
-    let mut sum = coefficient(n);
-    while n > 1 {
-        n -= 2;
-        sum = sum * q + coefficient(n);
+    let mut sum = coefficient(first + 14);
+    for j in (0..7).rev() {
+        sum = sum * q + coefficient(first + 2 * j);
     }
     sum
 }
 
-// The two sums, for any number; of one that `beyond` passes they are its sine and its cosine.
+// The sum of a series, for any number; of one that `beyond` passes it is the sine or the cosine.
+#[tactic(auto, unfolding(crate::specs::Series::series_of))]
+fn series_sum(series: Series, x: f64) -> f64
+    ensures { result ≡ series_of series x }
+{
+    match series {
+        Series::Cosines => horner(0, x * x),
+        Series::Sines => horner(1, x * x) * x,
+    }
+}
+
 pub fn sine_sum(x: f64) -> f64
     ensures { result ≡ series_of sines x }
 {
-    horner(1, x * x) * x
+    series_sum(Series::Sines, x)
 }
 
 pub fn cosine_sum(x: f64) -> f64
     ensures { result ≡ series_of cosines x }
 {
-    horner(0, x * x)
+    series_sum(Series::Cosines, x)
 }
 
 // What is refused: NaN, and what is beyond 0.5 in size.
 pub fn beyond(x: f64) -> bool
     ensures { result ≡ beyond_half x }
 {
-    (x != x) | (x < -0.5) | (0.5 < x)
+    float::is_nan(x) | (x < -0.5) | (0.5 < x)
 }
 
-pub fn sine(x: f64) -> Sum
+// The sum, or a refusal.
+#[tactic(auto, unfolding(crate::specs::Answer::answer_of))]
+fn answer(series: Series, x: f64) -> Result<f64, Refusal>
+    ensures { result ≡ answer_of series x }
+{
+    if beyond(x) {
+        return Err(Refusal::BeyondHalf);
+    }
+    Ok(series_sum(series, x))
+}
+
+pub fn sine(x: f64) -> Result<f64, Refusal>
     ensures { result ≡ answer_of sines x }
 {
-    if beyond(x) {
-        return Sum::Refused(27);
-    }
-    Sum::Value(sine_sum(x))
+    answer(Series::Sines, x)
 }
 
-pub fn cosine(x: f64) -> Sum
+pub fn cosine(x: f64) -> Result<f64, Refusal>
     ensures { result ≡ answer_of cosines x }
 {
-    if beyond(x) {
-        return Sum::Refused(27);
-    }
-    Sum::Value(cosine_sum(x))
+    answer(Series::Cosines, x)
 }

@@ -1,8 +1,11 @@
 -- What the parser's loops read. Assumes nothing.
-use Rattle.std.proofs.Common.{ℕ, suc, ◌+◌, ◌*◌, ◌^◌, ◌-◌, ◌<◌, ◌≤◌, ◌≡◌, refl, sym, ap, ◌∙◌, Bool, true, false, cond, ◌&&◌, List, [], ◌∷◌, ◌++◌, append-nil, add-one, mul-le-mul_right, arith, eq-eqb, ne_eqb, eqb, length, get_or, take, drop, set, drop_of_length-le, drop-cons, drop-drop, get_or-drop, take-suc-set, take_all, Float}
+use Rattle.std.proofs.Common.{ℕ, zero, suc, ◌+◌, ◌*◌, ◌^◌, ◌-◌, ◌<◌, ◌≤◌, ◌≡◌, refl, sym, ap, ◌∙◌, Bool, true, false, cond, ◌&&◌, List, [], ◌∷◌, ◌++◌, append-nil, add-one, mul-le-mul_right, arith, eq-eqb, ne_eqb, eqb, length, get_or, take, drop, set, drop_of_length-le, drop-cons, take-suc-set, take_all, Float}
 use mathlib.Core.Bool.{and-true, and-false, and_assoc}
 use native.Mathlib.Nat.{pow-le-pow_right}
 use lib.Seq.{append_snoc}
+use Rattle.std.proofs.lemmas.List.{get_or-take}
+use Rattle.std.specs.List.{count_by, starts_with}
+use Rattle.std.proofs.lemmas.List.Recursion.{is_count_by}
 use Rattle.journal_line.specs.Reading.{digit_of, number_at, real_at, reals, begins, newlines}
 use Rattle.journal_line.proofs.DigitLaws.{number_below}
 
@@ -15,12 +18,28 @@ number_room base i w s n d h k l e f =
     let r : n < 16 ^ i = rw e (number_below base i s h) in
     omega (arith, mul-le-mul_right n h)
 
-pub number_turn : (base i at : ℕ) (s : List ℕ) (n d b : ℕ) → n ≡ number_at base i (drop at s) → b ≡ get_or s (at + i) 0 → d ≡ digit_of b
-    → base * n + d ≡ number_at base (i + 1) (drop at s)
+pub number_turn : (base i : ℕ) (s : List ℕ) (n d b : ℕ) → n ≡ number_at base i s → b ≡ get_or s i 0 → d ≡ digit_of b → base * n + d ≡ number_at base (i + 1) s
 unfolding number_at
-number_turn base i at s n d b e f g = rw (add-one, get_or-drop, e, g, f)
+number_turn base i s n d b e f g = rw (add-one, e, g, f)
+
+-- the bytes behind the digits are not looked at
+pub number_front : (base w k : ℕ) (s : List ℕ) → k ≤ w → number_at base k (take w s) ≡ number_at base k s
+unfolding number_at
+number_front base w zero s h = refl
+number_front base w (suc k) s h = rw (number_front base w k s (omega arith), get_or-take w s k 0 (omega arith))
+
+pub real_front : (s : List ℕ) → real_at (take 16 s) ≡ real_at s
+unfolding real_at
+real_front s = rw (number_front 16 16 16 s (omega arith))
 
 -- ---- comparing
+-- the library's test is the definition's
+pub starts_so : (w s : List ℕ) → starts_with eqb s w ≡ begins w s
+unfolding begins
+starts_so [] s = refl
+starts_so (c ∷ w) [] = refl
+starts_so (c ∷ w) (d ∷ s) = ap (λ b. eqb c d && b) (starts_so w s)
+
 pub begins_short : (w s : List ℕ) → length s < length w → begins w s ≡ false
 unfolding begins
 begins_short [] s h = absurd (omega arith)
@@ -40,6 +59,14 @@ unfolding begins
 begins_all w s i same h f = let g : (same && true) ≡ begins w s = rw (drop_of_length-le w h) at f in sym (and-true same) ∙ g
 
 -- ---- newlines
+pub newlines_counted : (s : List ℕ) → newlines s ≡ count_by (λ c. eqb c 10) s
+unfolding newlines
+newlines_counted s = is_count_by newlines (λ c. eqb c 10) refl (λ c t. one_more (eqb c 10) (newlines t)) s
+  where
+    one_more : (b : Bool) (n : ℕ) → cond b 1 0 + n ≡ cond b (1 + n) n
+    one_more true n = refl
+    one_more false n = omega arith
+
 newlines_step : (s : List ℕ) (i : ℕ) → i < length s → newlines (drop i s) ≡ cond (eqb (get_or s i 0) 10) 1 0 + newlines (drop (i + 1) s)
 unfolding newlines
 newlines_step s i h = rw (add-one, drop-cons s i 0 h)
@@ -60,18 +87,15 @@ newlines_all s i n h f =
 
 -- ---- reals
 -- the first i stand in the list, and the rest is still to be read
-pub reals_next : (l whole : List Float) (s : List ℕ) (at i n : ℕ) (x : Float) → i < length l → length l ≡ n → x ≡ real_at (drop (at + 17 * i + 1) s)
-    → take i l ++ reals (n - i) (drop (at + 17 * i) s) ≡ whole
-    → take (i + 1) (set l i x) ++ reals (n - (i + 1)) (drop (at + 17 * (i + 1)) s) ≡ whole
+pub reals_next : (l whole : List Float) (s : List ℕ) (i n : ℕ) (x : Float) → i < length l → length l ≡ n → x ≡ real_at (drop 1 s)
+    → take i l ++ reals (n - i) s ≡ whole
+    → take (i + 1) (set l i x) ++ reals (n - (i + 1)) (drop 17 s) ≡ whole
 unfolding reals
-reals_next l whole s at i n x h k e f =
+reals_next l whole s i n x h k e f =
     let a : n - i ≡ suc (n - (i + 1)) = omega arith in
-    let b : at + 17 * (i + 1) ≡ at + 17 * i + 17 = omega arith in
-    let g : drop 1 (drop (at + 17 * i) s) ≡ drop (at + 17 * i + 1) s = drop-drop 1 (at + 17 * i) s in
-    let j : drop 17 (drop (at + 17 * i) s) ≡ drop (at + 17 * (i + 1)) s = drop-drop 17 (at + 17 * i) s ∙ ap (λ (m : ℕ). drop m s) (sym b) in
-    let m : take i l ++ (real_at (drop 1 (drop (at + 17 * i) s)) ∷ reals (n - (i + 1)) (drop 17 (drop (at + 17 * i) s))) ≡ whole = rw a at f in
+    let m : take i l ++ (real_at (drop 1 s) ∷ reals (n - (i + 1)) (drop 17 s)) ≡ whole = rw a at f in
     let t : take (i + 1) (set l i x) ≡ take i l ++ (x ∷ []) = rw add-one (take-suc-set l i x h) in
-    rw (t, append_snoc (take i l) x (reals (n - (i + 1)) (drop (at + 17 * (i + 1)) s)), e, ← g, ← j) m
+    rw (t, append_snoc (take i l) x (reals (n - (i + 1)) (drop 17 s)), e) m
 
 pub reals_all : (l whole : List Float) (s : List ℕ) (p i n : ℕ) → length l ≤ i → length l ≡ n → take i l ++ reals (n - i) s ≡ whole → l ≡ whole
 unfolding reals

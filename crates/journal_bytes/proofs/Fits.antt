@@ -1,11 +1,12 @@
 -- What a program knows of a line that it holds: each number is a value of the format. Assumes nothing.
-use Rattle.std.proofs.Common.{T, Float, true, ◌≡◌, sym, subst, List}
+use Rattle.std.proofs.Common.{Ok, Err, T, Float, true, ◌≡◌, sym, subst, List}
 use Rattle.std.specs.Float.{binary64}
 use Rattle.std.specs.Float.Ieee.{fits}
 use mir.Val.{Val}
 use denote.Laws.{Is}
 use denote.Struct.Laws as LL
 use denote.Enum.Laws as EL
+use denote.Param.Laws.{struct_told, enum_told}
 use Rattle.common.specs.Each.{All}
 use Rattle.camera_models.specs.contracts.intrinsics.FxFyCxCy as K
 use Rattle.camera_models.proofs.intrinsics.FxFyCxCy.TheLaws as K'
@@ -17,13 +18,14 @@ use Rattle.seed_rules.proofs.CandidateSeed.TheLaws as C'
 use Rattle.seed_rules.specs.Layout.{six}
 use Rattle.journal_line.specs.Line.{eight, recorded_numbers, Fits, LineFits}
 use Rattle.journal_line.specs.declared.ScoredFields.{ScoredFields}
-use Rattle.journal_line.specs.declared.Recorded.{Recorded}
-use Rattle.journal_line.specs.declared.Recorded.TheVariants.{Scored, Skipped}
+use Rattle.journal_line.specs.Outcome.{Recorded}
 use Rattle.journal_line.specs.declared.Line.{Line}
 use Rattle.journal_line.specs.contracts.ScoredFields as R
 use Rattle.journal_line.proofs.ScoredFields.TheLaws as R'
-use Rattle.journal_line.specs.contracts.Recorded as O
-use Rattle.journal_line.proofs.Recorded.TheLaws as O'
+use Rattle.std.specs.contracts.result.Result as O
+use Rattle.std.proofs.result.Result.TheLaws as O'
+use Rattle.score_outcome.specs.contracts.SkipReason as S
+use Rattle.score_outcome.proofs.SkipReason.TheLaws as S'
 use Rattle.journal_line.specs.contracts.Line as N
 use Rattle.journal_line.proofs.Line.TheLaws as N'
 
@@ -43,9 +45,13 @@ scored_is r vs g =
     let k = LL.owed K.the_type K'.the_laws r.k _ f.1.1.0 in
     (fits_so _ f.0.1, (fits_so _ f.1.0.1, (fits_so _ k.0.1, (fits_so _ k.1.0.1, (fits_so _ k.1.1.0.1, (fits_so _ k.1.1.1.0.1, (fits_so _ f.1.1.1.0.1, (fits_so _ f.1.1.1.1.0.1, tt))))))))
 
-outcome_is : (o : Recorded) (vs : List Val) → Is O.the_row o vs → All Fits (recorded_numbers o)
-outcome_is (Scored r) vs g = scored_is r _ (EL.owed O.the_type O'.the_laws (Scored r) vs g).0
-outcome_is (Skipped n) vs g = tt
+-- what a line records: its type's laws
+recorded_laws : EL.Laws (O.the_type R.the_row S.the_row)
+recorded_laws = O'.the_laws R.the_row S.the_row R'.the_row_laws S'.the_row_laws (struct_told R.the_type R'.the_laws) (enum_told S.the_type S'.the_laws)
+
+outcome_is : (o : Recorded) (vs : List Val) → Is (O.the_row R.the_row S.the_row) o vs → All Fits (recorded_numbers o)
+outcome_is (Ok r) vs g = scored_is r _ (EL.owed (O.the_type R.the_row S.the_row) recorded_laws (Ok r) vs g).0
+outcome_is (Err n) vs g = tt
 
 pub line_fits : (l : Line) (vs : List Val) → Is N.the_row l vs → LineFits l
 line_fits l vs g =

@@ -1,14 +1,13 @@
 -- The parts of a line, stored one after the other. Assumes nothing.
-use Rattle.std.proofs.Common.{ℕ, ◌+◌, ◌*◌, ◌≤◌, ◌≡◌, refl, sym, ap, ◌∙◌, Bool, false, not, ◌||◌, List, [], ◌∷◌, ◌++◌, map, append_assoc, arith, ltb-false, ltb, Float, length, replicate, length-append}
+use Rattle.std.proofs.Common.{ℕ, Ok, Err, ◌+◌, ◌*◌, ◌≤◌, ◌≡◌, refl, sym, ap, ◌∙◌, Bool, false, not, ◌||◌, List, [], ◌∷◌, ◌++◌, map, append_assoc, arith, ltb-false, ltb, Float, length, replicate, length-append}
 use borrow.Author.Tests.{not-false}
 use lib.Seq.{append_snoc}
 use Rattle.common.specs.Tests.{both_false}
 use Rattle.seed_rules.specs.Layout.{six}
 use Rattle.journal_line.specs.declared.ScoredFields.{ScoredFields}
-use Rattle.journal_line.specs.declared.Recorded.{Recorded}
-use Rattle.journal_line.specs.declared.Recorded.TheVariants.{Scored, Skipped}
+use Rattle.score_outcome.specs.declared.SkipReason.{SkipReason}
+use Rattle.journal_line.specs.Outcome.{Recorded}
 use Rattle.journal_line.specs.declared.Line.{Line}
-use Rattle.journal_line.specs.declared.Written.TheVariants.{Length}
 use Rattle.journal_line.specs.Line.{decimal_width, decimal, real, reason_letter, eight, outcome_fields, rest_of_line, line_bytes, writable, Writable}
 use Rattle.journal_line.specs.Steps.{comma_fields, Stored}
 use Rattle.journal_line.proofs.DigitLaws.{decimal_length}
@@ -51,7 +50,7 @@ module _ (at w : ℕ) (b : ℕ) (fs : List (List ℕ)) (k : length (comma_fields
       )
 
 module _ (at : ℕ) (o o₁ o₂ o₃ o₄ : List ℕ) (out : Recorded) where
-  pub scored_stored : (r : ScoredFields) (xs : List Float) → out ≡ Scored r → xs ≡ eight r
+  pub scored_stored : (r : ScoredFields) (xs : List Float) → out ≡ Ok r → xs ≡ eight r
       → Stored o at (44 ∷ []) o₁ → Stored o₁ (at + 1) (83 ∷ []) o₂ → Stored o₂ (at + 2) (comma_fields (map real xs)) o₃ → Stored o₃ (at + 138) (10 ∷ []) o₄
       → (at + 139 ≡ at + length (rest_of_line (outcome_fields out))) × Stored o at (rest_of_line (outcome_fields out)) o₄
   unfolding outcome_fields
@@ -59,7 +58,7 @@ module _ (at : ℕ) (o o₁ o₂ o₃ o₄ : List ℕ) (out : Recorded) where
       let z = letter_stored at 136 83 (map real (eight r)) (comma_fields_length (eight r)) o o₁ o₂ o₃ o₄ p q (rw f at s) t in
       rw e (omega (arith, z.0), z.1)
 
-  pub skipped_stored : (n b : ℕ) → out ≡ Skipped n → b ≡ reason_letter n
+  pub skipped_stored : (n : SkipReason) (b : ℕ) → out ≡ Err n → b ≡ reason_letter n
       → Stored o at (44 ∷ []) o₁ → Stored o₁ (at + 1) (b ∷ []) o₂ → Stored o₂ (at + 2) (comma_fields (replicate 8 (45 ∷ []))) o₃ → Stored o₃ (at + 18) (10 ∷ []) o₄
       → (at + 19 ≡ at + length (rest_of_line (outcome_fields out))) × Stored o at (rest_of_line (outcome_fields out)) o₄
   unfolding outcome_fields comma_fields
@@ -87,7 +86,7 @@ unfolding refuses_line
 taken_so l o e = let b = both_false (ltb (length o) 256) (not (writable l)) e in (ltb-false (length o) 256 b.0, not-false (writable l) b.1)
 
 module _ (l : Line) (o o₁ o₂ o₃ : List ℕ) (taken : refuses_line l o ≡ false) where
-  accepts : (n : ℕ) → n ≡ length (line_bytes l) → Stored o 0 (line_bytes l) o₃ → (Length n ≡ write_reply l o) × (o₃ ≡ write_into l o)
+  accepts : (n : ℕ) → n ≡ length (line_bytes l) → Stored o 0 (line_bytes l) o₃ → (Ok n ≡ write_reply l o) × (o₃ ≡ write_into l o)
   unfolding write_reply write_into
   accepts n e s =
       let k = taken_so l o taken in
@@ -97,7 +96,7 @@ module _ (l : Line) (o o₁ o₂ o₃ : List ℕ) (taken : refuses_line l o ≡ 
   pub line_stored : (at n : ℕ) (xs : List Float) → at ≡ decimal_width l.number + (decimal_width l.round + 1) → xs ≡ six l.seed
       → Stored o 0 (decimal l.number ++ 44 ∷ decimal l.round) o₁ → Stored o₁ at (comma_fields (map real xs)) o₂
       → n ≡ at + 102 + length (rest_of_line (outcome_fields l.outcome)) → Stored o₂ (at + 102) (rest_of_line (outcome_fields l.outcome)) o₃
-      → (Length n ≡ write_reply l o) × (o₃ ≡ write_into l o)
+      → (Ok n ≡ write_reply l o) × (o₃ ≡ write_into l o)
   line_stored at n xs e f p q g r =
       let h = decimal l.number ++ 44 ∷ decimal l.round in
       let a = comma_fields (map real (six l.seed)) in

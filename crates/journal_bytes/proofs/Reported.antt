@@ -1,31 +1,40 @@
 -- The parts of a report, stored one after the other, and the test before them. Assumes nothing.
-use Rattle.std.proofs.Common.{ℕ, ◌+◌, ◌≤◌, ◌≡◌, sym, ap, ◌∙◌, false, ◌||◌, List, [], ◌∷◌, ◌++◌, map, arith, le-ltb, ltb-false, ltb, length, length-append}
-use Rattle.common.specs.Tests.{both_false}
+use Rattle.std.proofs.Common.{ℕ, Result, Ok, Err, ◌+◌, ◌≤◌, ◌≡◌, sym, ap, false, List, [], ◌∷◌, ◌++◌, map, arith, rules, le-ltb, ltb-false, ltb, length, length-append}
+use Rattle.std.specs.Option.{ok_or}
+use Rattle.common.specs.Tests.{both_false, case}
+use Rattle.common.specs.declared.Refusal.{Refusal}
+use Rattle.common.specs.declared.Refusal.TheVariants.{NotWritable}
 use Rattle.journal_line.specs.declared.Counts.{Counts}
-use Rattle.journal_line.specs.declared.Written.TheVariants.{Length}
 use Rattle.journal_line.specs.Line.{decimal_width, decimal}
 use Rattle.journal_line.specs.Steps.{comma_fields, Stored}
-use Rattle.journal_line.specs.Report.{total, report_bytes, refuses_report, report_reply, report_into}
+use Rattle.journal_line.specs.Report.{total, small_total, report_bytes, refuses_report, report_reply, report_into}
 use Rattle.journal_line.proofs.DigitLaws.{decimal_length}
 use Rattle.journal_line.proofs.ReportLaws.{others, report_front, report_is, report_bounds}
 use Rattle.journal_bytes.proofs.Stores.{stored_then, stored_as, stored_front}
 
 -- ---- the report
--- what the writer's test says, and what is known where it passes
-pub refuses_so : (c : Counts) (o : List ℕ) (sum : ℕ) → ltb 656 sum ≡ ltb 656 (total c) → (ltb (length o) 24 || ltb 656 sum) ≡ refuses_report c o
+pub report_taken : (c : Counts) (o : List ℕ) → 24 ≤ length o → ltb 656 (total c) ≡ false → refuses_report c o ≡ false
 unfolding refuses_report
-refuses_so c o sum e = rw e
+report_taken c o e f = simp (le-ltb (length o) 24 e, f)
 
 pub taken_so : (c : Counts) (o : List ℕ) → refuses_report c o ≡ false → (24 ≤ length o) × (total c ≤ 656)
 unfolding refuses_report
 taken_so c o e = let b = both_false (ltb (length o) 24) (ltb 656 (total c)) e in (ltb-false (length o) 24 b.0, ltb-false 656 (total c) b.1)
 
--- the sum that was tested
-pub sum_is : (c : Counts) (o : List ℕ) (sum : ℕ) → refuses_report c o ≡ false → ltb 656 sum ≡ ltb 656 (total c) → (sum ≤ 656 → sum ≡ total c) → sum ≡ total c
-sum_is c o sum taken e f = f (ltb-false 656 sum (e ∙ le-ltb 656 (total c) (taken_so c o taken).1))
+-- the sum that is given is the total
+number_in : Result ℕ Refusal → ℕ
+number_in (Ok n) = n
+number_in (Err e) = 657
+
+pub given_is : (c : Counts) (sum : ℕ) → Ok sum ≡ ok_or (small_total c) NotWritable → (ltb 656 (total c) ≡ false) × (sum ≡ total c)
+unfolding number_in
+given_is c sum e =
+    case (ltb 656 (total c))
+    (λ t. let f : Ok sum ≡ Err NotWritable = rw t at e in search rules)
+    (λ t. let f : Ok sum ≡ Ok (total c) = rw t at e in (t, ap number_in f))
 
 module _ (c : Counts) (o o₁ o₂ o₃ : List ℕ) (taken : refuses_report c o ≡ false) where
-  accepts : (n : ℕ) → n ≡ length (report_bytes c) → Stored o 0 (report_bytes c) o₃ → (Length n ≡ report_reply c o) × (o₃ ≡ report_into c o)
+  accepts : (n : ℕ) → n ≡ length (report_bytes c) → Stored o 0 (report_bytes c) o₃ → (Ok n ≡ report_reply c o) × (o₃ ≡ report_into c o)
   unfolding report_reply report_into
   accepts n e s =
       let k = taken_so c o taken in
@@ -34,7 +43,7 @@ module _ (c : Counts) (o o₁ o₂ o₃ : List ℕ) (taken : refuses_report c o 
 
   pub report_stored : (at end sum : ℕ) → at ≡ decimal_width c.scored → sum ≡ total c → end ≡ at + length (comma_fields (map decimal (others c sum)))
       → Stored o 0 (decimal c.scored) o₁ → Stored o₁ at (comma_fields (map decimal (others c sum))) o₂ → Stored o₂ end (10 ∷ []) o₃
-      → (Length (end + 1) ≡ report_reply c o) × (o₃ ≡ report_into c o)
+      → (Ok (end + 1) ≡ report_reply c o) × (o₃ ≡ report_into c o)
   unfolding report_front
   report_stored at end sum e f g p q r =
       let d = decimal c.scored in

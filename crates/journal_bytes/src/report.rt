@@ -5,32 +5,33 @@ ghost use Rattle.journal_line.specs.Steps.{comma_fields, Stored};
 ghost use Rattle.journal_line.specs.Report.{report_reply, report_into};
 
 use crate::writing::{put_byte, put_decimal};
+use common::Refusal;
+use journal_line::Counts;
 use journal_line::total::total_if_small;
-use journal_line::{Counts, Written};
 
 // Decimals, each behind a comma; gives the place behind.
+// Kept: buffer and place are two parameters, as in the writer: a struct of both would change in every turn, and the contract would name its fields.
 fn put_decimals(out: &mut [u8], at: usize, ns: &[usize]) -> usize
     requires { at + 4 * length ns.now ≤ length out.old }
     ensures { (result ≡ at + length (comma_fields (map decimal ns.now))) × Stored out.old at (comma_fields (map decimal ns.now)) out.new × (result ≤ at + 4 * length ns.now) }
 {
     let mut place = at;
-    let mut i = 0;
-    while i < ns.len() {
-        out[place] = 44;
-        place = put_decimal(out, place + 1, ns[i]);
-        i += 1;
+    for n in ns {
+        out[place] = b',';
+        place = put_decimal(out, place + 1, *n);
     }
     place
 }
 
 // Writes the report to the front of the buffer, or refuses it and writes nothing.
-pub fn write_report(counts: Counts, out: &mut [u8]) -> Written
+#[tactic(auto, unfolding(journal_line::specs::Report::report_reply, journal_line::specs::Report::report_into, journal_line::specs::Report::refuses_report))]
+pub fn write_report(counts: Counts, out: &mut [u8]) -> Result<usize, Refusal>
     ensures reply { result ≡ report_reply counts out.old }
     ensures written { out.new ≡ report_into counts out.old }
 {
-    let sum = total_if_small(counts);
-    if (out.len() < 24) | (656 < sum) {
-        return Written::Refused(28);
+    let sum = total_if_small(counts).ok_or(Refusal::NotWritable)?;
+    if out.len() < 24 {
+        return Err(Refusal::NotWritable);
     }
     let at = put_decimal(out, 0, counts.scored);
     let others = [
@@ -41,6 +42,6 @@ pub fn write_report(counts: Counts, out: &mut [u8]) -> Written
         sum,
     ];
     let end = put_decimals(out, at, &others);
-    put_byte(out, end, 10);
-    Written::Length(end + 1)
+    put_byte(out, end, b'\n');
+    Ok(end + 1)
 }

@@ -1,12 +1,13 @@
 // The writer: a line's bytes to the front of a lent buffer. Each part is stored from a place on, and says so.
+// Kept: buffer and place are two parameters: a struct of both would change in every call, and each contract would name its fields before and after.
 ghost use Rattle.std.specs.Prelude.{◌≡◌, [], ◌∷◌, ◌++◌, map, ◌+◌, ◌*◌, ◌<◌, ◌≤◌, length, replicate};
-ghost use Rattle.seed_rules.specs.Layout.{six};
 ghost use Rattle.journal_line.specs.Line.{digit_byte, digits, decimal_width, decimal, real, reason_letter, eight, rest_of_line, outcome_fields, recordable, writable, LineFits};
 ghost use Rattle.journal_line.specs.Steps.{comma_fields, Stored};
 ghost use Rattle.journal_line.specs.Writing.{write_reply, write_into};
 
-use journal_line::{Line, Recorded, ScoredFields, Written};
-use seed_rules::CandidateSeed;
+use common::Refusal;
+use journal_line::{Line, Recorded, ScoredFields};
+use score_outcome::SkipReason;
 
 // The byte of a digit, without a branch.
 fn digit_byte(d: u64) -> u8
@@ -22,9 +23,7 @@ fn put_digits(out: &mut [u8], at: usize, base: u64, w: usize, n: u64)
     ensures { Stored out.old at (digits base w n) out.new }
 {
     let mut left = n;
-    let mut i = w;
-    while 0 < i {
-        i -= 1;
+    for i in (0..w).rev() {
         out[at + i] = digit_byte(left % base);
         left = left / base;
     }
@@ -37,6 +36,7 @@ pub(crate) fn put_byte(out: &mut [u8], at: usize, b: u8)
     out[at] = b;
 }
 
+#[tactic(auto, unfolding(journal_line::specs::Line::decimal_width))]
 fn decimal_width(n: usize) -> usize
     ensures { (result ≡ decimal_width n) × (result ≤ 3) }
 {
@@ -64,12 +64,10 @@ fn put_reals(out: &mut [u8], at: usize, xs: &[f64])
     requires { at + 17 * length xs.now ≤ length out.old }
     ensures { Stored out.old at (comma_fields (map real xs.now)) out.new }
 {
-    let mut i = 0;
-    while i < xs.len() {
+    for (i, x) in xs.iter().enumerate() {
         let place = at + 17 * i;
-        out[place] = 44;
-        put_digits(out, place + 1, 16, 16, float::to_bits(xs[i]));
-        i += 1;
+        out[place] = b',';
+        put_digits(out, place + 1, 16, 16, float::to_bits(*x));
     }
 }
 
@@ -78,39 +76,28 @@ fn put_minuses(out: &mut [u8], at: usize)
     requires { at + 16 ≤ length out.old }
     ensures { Stored out.old at (comma_fields (replicate 8 (45 ∷ []))) out.new }
 {
-    let mut i = 0;
-    while i < 8 {
+    for i in 0..8 {
         let place = at + 2 * i;
-        out[place] = 44;
-        out[place + 1] = 45;
-        i += 1;
+        out[place] = b',';
+        out[place + 1] = b'-';
     }
 }
 
 // The letter of a skip reason.
-fn reason_letter(r: u8) -> u8
-    ensures { result ≡ reason_letter r }
+// Kept: the reason's `From` for a byte is its number, as other languages are told; the letter is the line's alone.
+#[tactic(auto, unfolding(journal_line::specs::Line::reason_letter))]
+fn reason_letter(reason: SkipReason) -> u8
+    ensures { result ≡ reason_letter reason }
 {
-    if r <= 1 {
-        return 72;
+    match reason {
+        SkipReason::HostFailed => b'H',
+        SkipReason::BadCamera => b'C',
+        SkipReason::NoMean => b'E',
+        SkipReason::NoNumber => b'N',
     }
-    if r <= 2 {
-        return 67;
-    }
-    if r <= 3 {
-        return 69;
-    }
-    78
 }
 
-fn six_numbers(s: CandidateSeed) -> [f64; 6]
-    ensures { result ≡ six s }
-{
-    let k = s.reference_k;
-    let t = s.sensor;
-    [k.fx, k.fy, k.cx, k.cy, t.tilt_x, t.tilt_y]
-}
-
+// Kept: the eight numbers are taken once, in the order of the line's form; to the type's own crate that order is nothing.
 fn eight_numbers(r: ScoredFields) -> [f64; 8]
     ensures { result ≡ eight r }
 {
@@ -123,33 +110,35 @@ fn put_outcome(out: &mut [u8], at: usize, outcome: Recorded) -> usize
     requires { at + 139 ≤ length out.old }
     ensures { (result ≡ at + length (rest_of_line (outcome_fields outcome))) × Stored out.old at (rest_of_line (outcome_fields outcome)) out.new }
 {
-    put_byte(out, at, 44);
+    put_byte(out, at, b',');
     match outcome {
-        Recorded::Scored(r) => {
-            put_byte(out, at + 1, 83);
+        Ok(r) => {
+            put_byte(out, at + 1, b'S');
             let numbers = eight_numbers(r);
             put_reals(out, at + 2, &numbers);
-            put_byte(out, at + 138, 10);
+            put_byte(out, at + 138, b'\n');
             at + 139
         }
-        Recorded::Skipped(reason) => {
+        Err(reason) => {
             put_byte(out, at + 1, reason_letter(reason));
             put_minuses(out, at + 2);
-            put_byte(out, at + 18, 10);
+            put_byte(out, at + 18, b'\n');
             at + 19
         }
     }
 }
 
+#[tactic(auto, unfolding(journal_line::specs::Line::recordable))]
 fn is_recordable(outcome: Recorded) -> bool
     ensures { result ≡ recordable outcome }
 {
     match outcome {
-        Recorded::Scored(r) => !float::is_nan(r.score),
-        Recorded::Skipped(reason) => (1 <= reason) & (reason <= 4),
+        Ok(r) => !float::is_nan(r.score),
+        Err(_) => true,
     }
 }
 
+#[tactic(auto, unfolding(journal_line::specs::Line::writable))]
 fn is_writable(line: Line) -> bool
     ensures { result ≡ writable line }
 {
@@ -163,24 +152,24 @@ fn put_head(out: &mut [u8], number: usize, round: usize) -> usize
     ensures { (result ≡ decimal_width number + (decimal_width round + 1)) × Stored out.old 0 (decimal number ++ 44 ∷ decimal round) out.new × (result ≤ 7) }
 {
     let n = put_decimal(out, 0, number);
-    put_byte(out, n, 44);
+    put_byte(out, n, b',');
     put_decimal(out, n + 1, round)
 }
 
 // Writes the line to the front of the buffer, or refuses it and writes nothing. That the line's numbers fit is no demand: those of every line that a
 // program holds do, so what is written is read back.
-pub fn write_line(line: Line, out: &mut [u8]) -> Written
+pub fn write_line(line: Line, out: &mut [u8]) -> Result<usize, Refusal>
     ensures reply { result ≡ write_reply line out.old }
     ensures written { out.new ≡ write_into line out.old }
     ensures fits { LineFits line }
 {
     if (out.len() < 256) | !is_writable(line) {
-        return Written::Refused(28);
+        return Err(Refusal::NotWritable);
     }
     let at = put_head(out, line.number, line.round);
     let seed = line.seed;
-    let numbers = six_numbers(seed);
+    let numbers: [f64; 6] = seed.into();
     put_reals(out, at, &numbers);
     let outcome = line.outcome;
-    Written::Length(put_outcome(out, at + 102, outcome))
+    Ok(put_outcome(out, at + 102, outcome))
 }

@@ -1,10 +1,11 @@
 -- Some fields, and some reports, as they are written, by computation. Assumes nothing.
-use Rattle.std.specs.Prelude.{◌≡◌, refl, ℕ, [], ◌∷◌, map, length, replicate}
+use Rattle.std.specs.Prelude.{◌≡◌, refl, ℕ, [], ◌∷◌, map, length, replicate, Ok, Err}
 use Rattle.std.specs.Float.{nan, binary64}
 use Rattle.std.specs.Float.Ieee.{of_bits, to_bits, is_nan}
 use Rattle.float.specs.Float.{bits_of}
 use Rattle.journal_line.specs.declared.Counts.{Counts}
-use Rattle.journal_line.specs.declared.Written.TheVariants.{Length, Refused}
+use Rattle.score_outcome.specs.declared.SkipReason.TheVariants.{HostFailed, BadCamera, NoMean, NoNumber}
+use Rattle.common.specs.declared.Refusal.TheVariants.{NotWritable}
 use Rattle.journal_line.specs.Line.{digit_byte, digits, decimal_width, decimal, real, reason_letter, rest_of_line}
 use Rattle.journal_line.specs.Report.{total, report_bytes, refuses_report, report_reply, report_into}
 
@@ -24,7 +25,7 @@ unfolding real bits_of digits digit_byte is_nan
 not_a_number = refl
 
 -- H, C, E, N
-letters : map reason_letter (1 ∷ 2 ∷ 3 ∷ 4 ∷ []) ≡ 72 ∷ 67 ∷ 69 ∷ 78 ∷ []
+letters : map reason_letter (HostFailed ∷ BadCamera ∷ NoMean ∷ NoNumber ∷ []) ≡ 72 ∷ 67 ∷ 69 ∷ 78 ∷ []
 unfolding reason_letter
 letters = refl
 
@@ -48,16 +49,16 @@ unfolding report_bytes total rest_of_line decimal decimal_width digits digit_byt
 longest = refl
 
 -- a total of 656 is written, 657 isn't
-totals : map (λ (c : Counts). report_reply c (replicate 24 0)) (of 656 0 0 0 0 ∷ of 600 20 20 10 6 ∷ of 656 1 0 0 0 ∷ of 0 0 0 0 657 ∷ []) ≡ Length 16 ∷ Length 19 ∷ Refused 28 ∷ Refused 28 ∷ []
+totals : map (λ (c : Counts). report_reply c (replicate 24 0)) (of 656 0 0 0 0 ∷ of 600 20 20 10 6 ∷ of 656 1 0 0 0 ∷ of 0 0 0 0 657 ∷ []) ≡ Ok 16 ∷ Ok 19 ∷ Err NotWritable ∷ Err NotWritable ∷ []
 unfolding report_reply refuses_report report_bytes total rest_of_line decimal decimal_width digits digit_byte
 totals = refl
 
 -- nor is 2^64, which doesn't wrap round to 0
-no_wrap : report_reply (of 18446744073709551615 0 0 0 1) (replicate 24 0) ≡ Refused 28
+no_wrap : report_reply (of 18446744073709551615 0 0 0 1) (replicate 24 0) ≡ Err NotWritable
 unfolding report_reply refuses_report total
 no_wrap = refl
 
 -- a buffer of 23 bytes is refused and left as it was, though this report has 12
-small_buffer_lem : (report_reply (of 0 0 0 0 0) (replicate 23 7) ≡ Refused 28) × (report_into (of 0 0 0 0 0) (replicate 23 7) ≡ replicate 23 7)
+small_buffer_lem : (report_reply (of 0 0 0 0 0) (replicate 23 7) ≡ Err NotWritable) × (report_into (of 0 0 0 0 0) (replicate 23 7) ≡ replicate 23 7)
 unfolding report_reply report_into refuses_report total
 small_buffer_lem = (refl, refl)

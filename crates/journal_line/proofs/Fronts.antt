@@ -13,7 +13,7 @@ use Rattle.common.specs.Each.{All}
 use Rattle.common.specs.Tests.{case}
 use Rattle.journal_line.specs.declared.Line.{Line}
 use Rattle.journal_line.specs.declared.Read.{Read}
-use Rattle.journal_line.specs.declared.Read.TheVariants.{Got, End, Refused}
+use Rattle.journal_line.specs.declared.Read.TheVariants.{Got, End, NotOfForm}
 use Rattle.journal_line.specs.Line.{line_bytes, LineFits, Writable, journal_bytes}
 use Rattle.journal_line.specs.Reading.{newlines, read_line, Ending, ended, refused, unread, Lines, goes_on, read_all, read_journal}
 use Rattle.journal_line.proofs.Unique.{Correct, read_correct, line_bounds, line_injective}
@@ -60,14 +60,14 @@ read_front (suc n) s at = one (read_line s at) (read_correct s at) (read_front n
       at_end = λ h. refl;
       before_end = λ k h e. let z : ◌≡◌ {A = ℕ} 0 1 = cc in omega arith;
     }
-    one (Refused k m) t ih = record {
+    one (NotOfForm m) t ih = record {
       lines_fit = tt;
       can_be_written = tt;
       rest = drop at s;
       bytes_are = refl;
-      none_there = λ h. t.3;
+      none_there = λ h. t.2;
       at_end = λ h. let z : ◌≡◌ {A = ℕ} 0 1 = cc in absurd (omega arith);
-      before_end = λ j h e. let q = t.2 in omega (arith, ap length e, length-drop at s);
+      before_end = λ j h e. let q = t.1 in omega (arith, ap length e, length-drop at s);
     }
     one (Got l next) t ih =
         let w = ih next in

@@ -1,6 +1,6 @@
--- A line has one newline, its last byte. So the number that a 29 carries is one more than the number of lines before it, and a line that
+-- A line has one newline, its last byte. So the number that NotOfForm carries is one more than the number of lines before it, and a line that
 -- was cut off has no newline. Assumes nothing.
-use Rattle.std.specs.Prelude.{ℕ, zero, suc, ◌+◌, ◌/◌, ◌%◌, ◌<◌, ◌≡◌, refl, List, [], ◌∷◌, ◌++◌, map, ltb, leb, Float, length, take, drop, replicate}
+use Rattle.std.specs.Prelude.{Ok, Err, ℕ, zero, suc, ◌+◌, ◌/◌, ◌%◌, ◌<◌, ◌≡◌, refl, List, [], ◌∷◌, ◌++◌, map, ltb, Float, length, take, drop, replicate}
 use Rattle.std.proofs.Common.{sym, ap, ◌∙◌, append_assoc, append-nil, arith, ne_eqb, length-append, take-append-drop, take-add, take_at}
 use Rattle.std.proofs.lemmas.List.{take-append-le}
 use Rattle.common.specs.Each.{All}
@@ -8,11 +8,12 @@ use Rattle.common.specs.All.{all_append}
 use Rattle.common.specs.Tests.{case}
 use Rattle.seed_rules.specs.Layout.{six}
 use Rattle.float.specs.Float.{bits_of}
-use Rattle.journal_line.specs.declared.Recorded.{Recorded}
-use Rattle.journal_line.specs.declared.Recorded.TheVariants.{Scored, Skipped}
+use Rattle.score_outcome.specs.declared.SkipReason.{SkipReason}
+use Rattle.score_outcome.specs.declared.SkipReason.TheVariants.{HostFailed, BadCamera, NoMean, NoNumber}
+use Rattle.journal_line.specs.Outcome.{Recorded}
 use Rattle.journal_line.specs.declared.Line.{Line}
 use Rattle.journal_line.specs.declared.Read.{Read}
-use Rattle.journal_line.specs.declared.Read.TheVariants.{Got, End, Refused}
+use Rattle.journal_line.specs.declared.Read.TheVariants.{Got, End, NotOfForm}
 use Rattle.journal_line.specs.Line.{digit_byte, digits, decimal, real, reason_letter, eight, outcome_fields, rest_of_line, line_bytes, journal_bytes}
 use Rattle.journal_line.specs.Reading.{newlines, line_number_of, read_line, refused, Lines, goes_on, read_all, read_journal}
 use Rattle.journal_line.specs.Steps.{comma_fields}
@@ -50,9 +51,12 @@ unfolding real
 reals_no_newline [] = tt
 reals_no_newline (x ∷ xs) = (digits_no_newline 16 16 (bits_of x), reals_no_newline xs)
 
-reason_no_newline : (r : ℕ) → NoNewline (reason_letter r ∷ [])
+reason_no_newline : (r : SkipReason) → NoNewline (reason_letter r ∷ [])
 unfolding reason_letter newlines
-reason_no_newline r = case (leb r 1) (λ e. rw e) (λ e. case (leb r 2) (λ f. rw (e, f)) (λ f. case (leb r 3) (λ g. rw (e, f, g)) (λ g. rw (e, f, g))))
+reason_no_newline HostFailed = refl
+reason_no_newline BadCamera = refl
+reason_no_newline NoMean = refl
+reason_no_newline NoNumber = refl
 
 minuses_no_newline : (n : ℕ) → All NoNewline (replicate n (45 ∷ []))
 unfolding newlines
@@ -61,8 +65,8 @@ minuses_no_newline (suc n) = (refl, minuses_no_newline n)
 
 outcome_no_newline : (o : Recorded) → All NoNewline (outcome_fields o)
 unfolding outcome_fields newlines
-outcome_no_newline (Scored r) = (refl, reals_no_newline (eight r))
-outcome_no_newline (Skipped r) = (reason_no_newline r, minuses_no_newline 8)
+outcome_no_newline (Ok r) = (refl, reals_no_newline (eight r))
+outcome_no_newline (Err r) = (reason_no_newline r, minuses_no_newline 8)
 
 -- ---- the newline at the end, and no other
 ends_line : (fs : List (List ℕ)) → rest_of_line fs ≡ comma_fields fs ++ (10 ∷ [])
@@ -128,7 +132,7 @@ next_number s at next l h =
     let b : take next s ≡ take at s ++ line_bytes l = ap (λ (k : ℕ). take k s) h.next_is ∙ take-add at n s ∙ ap (λ (t : List ℕ). take at s ++ t) a in
     omega (arith, ap newlines b, newlines_append (take at s) (line_bytes l), line_newlines l)
 
--- the number that a 29 carries: one for each line that was read, on from the first one's
+-- the number that NotOfForm carries: one for each line that was read, on from the first one's
 abbrev Numbered : List ℕ → ℕ → Lines → Type 0
 Numbered s at r = (k : ℕ) → r.ending ≡ refused k → k ≡ line_number_of s at + length r.lines
 
@@ -139,7 +143,7 @@ read_numbered (suc n) s at = one (read_line s at) (read_correct s at) (read_numb
   where
     one : (r : Read) → Correct s at r → ((next : ℕ) → Numbered s next (read_all n s next)) → Numbered s at (goes_on (read_all n s) r)
     one End t ih = λ k h. let z : ◌≡◌ {A = ℕ} 0 1 = cc in absurd (omega arith)
-    one (Refused j m) t ih = λ k h. let z : m ≡ k = cc in omega (arith, t.1)
+    one (NotOfForm m) t ih = λ k h. let z : m ≡ k = cc in omega (arith, t.0)
     one (Got l next) t ih = λ k h. omega (arith, ih next k h, next_number s at next l t)
 
 pub whole_numbered : (s : List ℕ) (k : ℕ) → (read_journal s).ending ≡ refused k → k ≡ suc (length (read_journal s).lines)

@@ -1,8 +1,9 @@
 -- Each line has one reading, and each reading one line; so have whole journals. Assumes nothing.
 use Prim.Native.Nat.{ℕ, zero, suc, ◌+◌, ◌<◌, ◌≤◌}
-use Rattle.std.specs.Prelude.{◌≡◌, true, false, ◌&&◌, leb, ltb, eqb, length, get_or, drop, Float}
+use Rattle.std.specs.Prelude.{◌≡◌, true, false, ◌&&◌, leb, ltb, eqb, length, get_or, drop, Float, Ok, Err, Option, Some, None}
+use Rattle.std.specs.Option.{option_map}
 use Rattle.std.proofs.Math.Path.{refl, sym}
-use Rattle.std.proofs.Common.{ap, ap₂, ◌∙◌, arith, length-append, length-drop, drop-drop}
+use Rattle.std.proofs.Common.{ap, ap₂, subst, ◌∙◌, arith, length-append, length-drop, drop-drop}
 use Rattle.std.proofs.Math.Bool.{true≢false}
 use mathlib.Core.List.{List, [], ◌∷◌, ◌++◌, map, append_assoc}
 use borrow.Author.Tests.{leb-true, lt-ltb, ltb-true, ltb-false, eq-eqb, eqb-true}
@@ -11,45 +12,48 @@ use Rattle.std.specs.Float.Ieee.Bits.{of_bits-fits}
 use Rattle.common.specs.Each.{All}
 use Rattle.common.specs.Tests.{case, both_true}
 use Rattle.seed_rules.specs.Layout.{six, seed_at}
-use Rattle.journal_line.specs.declared.Recorded.{Recorded}
-use Rattle.journal_line.specs.declared.Recorded.TheVariants.{Scored, Skipped}
+use Rattle.score_outcome.specs.declared.SkipReason.{SkipReason}
+use Rattle.score_outcome.specs.declared.SkipReason.TheVariants.{HostFailed, BadCamera, NoMean, NoNumber}
+use Rattle.journal_line.specs.Outcome.{Recorded}
 use Rattle.journal_line.specs.declared.Line.{Line}
 use Rattle.journal_line.specs.declared.Read.{Read}
-use Rattle.journal_line.specs.declared.Read.TheVariants.{Got, End, Refused}
+use Rattle.journal_line.specs.declared.Read.TheVariants.{Got, End, NotOfForm}
 use Rattle.journal_line.specs.Line.{decimal_width, decimal, real, reason_letter, eight, outcome_fields, rest_of_line, line_bytes, recordable, writable, Fits, recorded_numbers, LineFits, Writable}
-use Rattle.journal_line.specs.Reading.{real_at, reals, scored_at, reason_of, outcome_at, from_round, from_seed, unchecked_line, begins, of_form, line_number_of, read_line}
+use Rattle.journal_line.specs.Reading.{real_at, reals, scored_at, reason_of, outcome_at, from_round, from_seed, line_with, unchecked_line, begins, of_form, line_number_of, read_line}
 use Rattle.journal_line.proofs.DigitLaws.{width_back, number_back, decimal_length, width_fits}
 use Rattle.journal_line.proofs.FieldLaws.{next_field, reals_back, past_reals, wide, rest_length, reals_wide}
 
 -- ---- what was written is what the bytes would be
-reason_back : (r : ℕ) → (leb 1 r && leb r 4) ≡ true → (eqb (reason_letter r) 83 ≡ false) × (reason_of (reason_letter r) ≡ r)
+reason_back : (r : SkipReason) → (eqb (reason_letter r) 83 ≡ false) × (reason_of (reason_letter r) ≡ Some r)
 unfolding reason_letter reason_of
-reason_back zero h = absurd (true≢false (sym h))
-reason_back (suc zero) h = (refl, refl)
-reason_back (suc (suc zero)) h = (refl, refl)
-reason_back (suc (suc (suc zero))) h = (refl, refl)
-reason_back (suc (suc (suc (suc zero)))) h = (refl, refl)
-reason_back (suc (suc (suc (suc (suc r))))) h =
-    let k = leb-true (suc (suc (suc (suc (suc r))))) 4 (both_true (leb 1 (suc (suc (suc (suc (suc r)))))) (leb (suc (suc (suc (suc (suc r))))) 4) h).1 in
-    absurd (omega arith)
+reason_back HostFailed = (refl, refl)
+reason_back BadCamera = (refl, refl)
+reason_back NoMean = (refl, refl)
+reason_back NoNumber = (refl, refl)
 
-outcome_back : (o : Recorded) (s : List ℕ) → recordable o ≡ true → All Fits (recorded_numbers o) → outcome_at (rest_of_line (outcome_fields o) ++ s) ≡ o
-unfolding outcome_at outcome_fields rest_of_line recordable
-outcome_back (Scored r) s h k = ap (λ (l : List Float). Scored (scored_at l)) (reals_back [] s (eight r) k)
-outcome_back (Skipped r) s h k = let e = reason_back r h in rw (e.0, e.1)
+outcome_back : (o : Recorded) (s : List ℕ) → All Fits (recorded_numbers o) → outcome_at (rest_of_line (outcome_fields o) ++ s) ≡ Some o
+unfolding outcome_at outcome_fields rest_of_line
+outcome_back (Ok r) s k = ap (λ (l : List Float). Some (Ok (scored_at l))) (reals_back [] s (eight r) k)
+outcome_back (Err r) s k = let e = reason_back r in rw (e.0, e.1)
 
 pub past_comma : (f s : List ℕ) (n : ℕ) → length f ≡ n → drop (n + 1) (f ++ 44 ∷ s) ≡ s
 past_comma f s n e = sym (drop-drop 1 n (f ++ 44 ∷ s)) ∙ ap (drop 1) (drop_at f (44 ∷ s) n e)
 
 module _ (n r : ℕ) (hn : n < 1000) (hr : r < 1000) where
-  head_at : (t : List ℕ) → unchecked_line (decimal n ++ 44 ∷ (decimal r ++ 44 ∷ t)) ≡ record { number = n; round = r; seed = seed_at (reals 6 (44 ∷ t)) 0; outcome = outcome_at (drop 102 (44 ∷ t)) }
+  head_at : (t : List ℕ) (o : Recorded) → outcome_at (drop 102 (44 ∷ t)) ≡ Some o
+      → unchecked_line (decimal n ++ 44 ∷ (decimal r ++ 44 ∷ t)) ≡ Some (record { number = n; round = r; seed = seed_at (reals 6 (44 ∷ t)) 0; outcome = o })
   unfolding unchecked_line from_round from_seed
-  head_at t =
+  head_at t o h =
       let x : List ℕ = decimal r ++ 44 ∷ t in
-      rw (width_back n hn x, number_back n hn x, past_comma (decimal n) x (decimal_width n) (decimal_length n), width_back r hr t, number_back r hr t, drop_at (decimal r) (44 ∷ t) (decimal_width r) (decimal_length r))
+      let w = width_back n hn x in
+      let p = past_comma (decimal n) x (decimal_width n) (decimal_length n) in
+      let v = width_back r hr t in
+      let d = drop_at (decimal r) (44 ∷ t) (decimal_width r) (decimal_length r) in
+      rw (w, p, v, d, h, w, number_back n hn x, p, v, number_back r hr t, d)
 
-  head_back : (u t : List ℕ) → u ≡ 44 ∷ t → unchecked_line (decimal n ++ 44 ∷ (decimal r ++ u)) ≡ record { number = n; round = r; seed = seed_at (reals 6 u) 0; outcome = outcome_at (drop 102 u) }
-  head_back u t e = rw e (head_at t)
+  head_back : (u t : List ℕ) (o : Recorded) → u ≡ 44 ∷ t → outcome_at (drop 102 u) ≡ Some o
+      → unchecked_line (decimal n ++ 44 ∷ (decimal r ++ u)) ≡ Some (record { number = n; round = r; seed = seed_at (reals 6 u) 0; outcome = o })
+  head_back u t o e h = rw e (head_at t o (rw e at h))
 
 -- the bytes of a line in front of others
 line_then : (l : Line) (s : List ℕ) → line_bytes l ++ s ≡ decimal l.number ++ 44 ∷ (decimal l.round ++ (rest_of_line (map real (six l.seed) ++ outcome_fields l.outcome) ++ s))
@@ -70,15 +74,15 @@ module _ (l : Line) (ok : LineFits l) (can : Writable l) (s : List ℕ) where
   abbrev rest : List ℕ
   rest = rest_of_line (map real (six l.seed) ++ outcome_fields l.outcome) ++ s
 
-  pub unchecked_back : unchecked_line (line_bytes l ++ s) ≡ l
+  pub unchecked_back : unchecked_line (line_bytes l ++ s) ≡ Some l
   unchecked_back =
       let bounds = can_write l can in
       let fs = outcome_fields l.outcome in
       let q = next_field (real l.seed.reference_k.fx) (drop 1 (map real (six l.seed)) ++ fs) s in
       let a : reals 6 rest ≡ six l.seed = reals_back fs s (six l.seed) ok.seed_fits in
       let b : drop 102 rest ≡ rest_of_line fs ++ s = past_reals fs s (six l.seed) in
-      let c : outcome_at (drop 102 rest) ≡ l.outcome = ap outcome_at b ∙ outcome_back l.outcome s bounds.2 ok.outcome_fits in
-      ap unchecked_line (line_then l s) ∙ head_back l.number l.round (omega arith) (omega arith) rest _ q ∙ rw (a, c)
+      let c : outcome_at (drop 102 rest) ≡ Some l.outcome = ap outcome_at b ∙ outcome_back l.outcome s ok.outcome_fits in
+      ap unchecked_line (line_then l s) ∙ head_back l.number l.round (omega arith) (omega arith) rest _ l.outcome q c ∙ rw a
 
 -- ---- beginning with
 begins_own : (w s : List ℕ) → begins w (w ++ s) ≡ true
@@ -95,9 +99,9 @@ begins_is (c ∷ w) (d ∷ s) h =
     rw (eqb-true c d p.0) (ap (λ (r : List ℕ). d ∷ r) (begins_is w s p.1))
 
 -- ---- of the form: the bytes begin with a line that can be written
-pub form_own : (l : Line) → LineFits l → Writable l → (s : List ℕ) → of_form (line_bytes l ++ s) ≡ true
+pub form_own : (l : Line) → LineFits l → Writable l → (s : List ℕ) → of_form (line_bytes l ++ s) l ≡ true
 unfolding of_form
-form_own l ok can s = rw (unchecked_back l ok can s, can, begins_own (line_bytes l) s)
+form_own l ok can s = rw (can, begins_own (line_bytes l) s)
 
 pub record Begins (s : List ℕ) (l : Line) : Type 0 where
   pub can_be_written : Writable l
@@ -109,25 +113,40 @@ unfolding reals real_at
 reals_fits zero s = tt
 reals_fits (suc n) s = (of_bits-fits _ _, reals_fits n (drop 17 s))
 
-outcome_fits : (s : List ℕ) → All Fits (recorded_numbers (outcome_at s))
+some_same : {A : Type 0} (x y : A) → Some x ≡ Some y → x ≡ y
+some_same x y h = cc
+
+skipped_fits : (k : Option SkipReason) (o : Recorded) → option_map Err k ≡ Some o → All Fits (recorded_numbers o)
+skipped_fits None o h = cc
+skipped_fits (Some r) o h = subst (λ (q : Recorded). All Fits (recorded_numbers q)) (some_same (Err r) o h) tt
+
+outcome_fits : (s : List ℕ) (o : Recorded) → outcome_at s ≡ Some o → All Fits (recorded_numbers o)
 unfolding outcome_at reals
-outcome_fits s = case (eqb (get_or s 1 0) 83) (λ e. rw e (reals_fits 8 (drop 2 s))) (λ e. rw e tt)
+outcome_fits s o h =
+    case (eqb (get_or s 1 0) 83)
+    (λ e. subst (λ (q : Recorded). All Fits (recorded_numbers q)) (some_same _ o (rw e at h)) (reals_fits 8 (drop 2 s)))
+    (λ e. skipped_fits (reason_of (get_or s 1 0)) o (rw e at h))
 
-pub unchecked_fits : (s : List ℕ) → LineFits (unchecked_line s)
-unfolding unchecked_line reals
-unchecked_fits s = record { seed_fits = reals_fits 6 (from_seed s); outcome_fits = outcome_fits (drop 102 (from_seed s)) }
+pub unchecked_fits : (s : List ℕ) (l : Line) → unchecked_line s ≡ Some l → LineFits l
+unfolding unchecked_line
+unchecked_fits s l h = by_outcome (outcome_at (drop 102 (from_seed s))) refl h
+  where
+    by_outcome : (o : Option Recorded) → outcome_at (drop 102 (from_seed s)) ≡ o → option_map (line_with s) o ≡ Some l → LineFits l
+    by_outcome None u e = cc
+    by_outcome (Some o) u e = unfold reals in
+        subst LineFits (some_same (line_with s o) l e) (record { seed_fits = reals_fits 6 (from_seed s); outcome_fits = outcome_fits (drop 102 (from_seed s)) o u })
 
-pub form_is : (s : List ℕ) → of_form s ≡ true → Begins s (unchecked_line s)
+pub form_is : (s : List ℕ) (l : Line) → unchecked_line s ≡ Some l → of_form s l ≡ true → Begins s l
 unfolding of_form
-form_is s h =
-    let p = both_true (writable (unchecked_line s)) (begins (line_bytes (unchecked_line s)) s) h in
-    record { can_be_written = p.0; line_fits = unchecked_fits s; written_so = begins_is (line_bytes (unchecked_line s)) s p.1 }
+form_is s l u h =
+    let p = both_true (writable l) (begins (line_bytes l) s) h in
+    record { can_be_written = p.0; line_fits = unchecked_fits s l u; written_so = begins_is (line_bytes l) s p.1 }
 
 -- ---- how long a line is
 outcome_wide : (o : Recorded) → (19 ≤ wide (outcome_fields o)) × (wide (outcome_fields o) ≤ 139)
 unfolding outcome_fields wide
-outcome_wide (Scored r) = omega (arith, reals_wide (eight r) [])
-outcome_wide (Skipped r) = (omega arith, omega arith)
+outcome_wide (Ok r) = omega (arith, reals_wide (eight r) [])
+outcome_wide (Err r) = (omega arith, omega arith)
 
 pub line_length : (l : Line) → length (line_bytes l) ≡ decimal_width l.number + (suc (decimal_width l.round) + (102 + wide (outcome_fields l.outcome)))
 unfolding line_bytes wide
@@ -160,14 +179,14 @@ line_bounds l can =
 -- no line's bytes begin another's
 pub line_injective : (l m : Line) → LineFits l → Writable l → LineFits m → Writable m → (s t : List ℕ) → line_bytes l ++ s ≡ line_bytes m ++ t → (l ≡ m) × (s ≡ t)
 line_injective l m a b c d s t e =
-    let p : l ≡ m = sym (unchecked_back l a b s) ∙ ap unchecked_line e ∙ unchecked_back m c d t in
+    let p : l ≡ m = some_same l m (sym (unchecked_back l a b s) ∙ ap unchecked_line e ∙ unchecked_back m c d t) in
     (p, sym (drop-append_seam (line_bytes l) s) ∙ ap₂ (λ (k : Line) (r : List ℕ). drop (length (line_bytes k)) r) p e ∙ drop-append_seam (line_bytes m) t)
 
 pub one_reading_at : (s : List ℕ) (at : ℕ) (l : Line) (rest : List ℕ) → LineFits l → Writable l → drop at s ≡ line_bytes l ++ rest → read_line s at ≡ Got l (at + length (line_bytes l))
 unfolding read_line
 one_reading_at s at l rest ok can e =
     let k : at < length s = omega (arith, ap length e, length-drop at s, length-append (line_bytes l) rest, line_bounds l can) in
-    rw (lt-ltb at (length s) k, e, form_own l ok can rest, unchecked_back l ok can rest)
+    rw (lt-ltb at (length s) k, e, unchecked_back l ok can rest, e, form_own l ok can rest)
 
 pub one_reading : (l : Line) → LineFits l → Writable l → (before rest : List ℕ)
     → read_line (before ++ (line_bytes l ++ rest)) (length before) ≡ Got l (length before + length (line_bytes l))
@@ -181,21 +200,38 @@ pub record LineAt (s : List ℕ) (at next : ℕ) (l : Line) : Type 0 where
   pub bytes_are : drop at s ≡ line_bytes l ++ drop next s
 
 module _ (s : List ℕ) (at : ℕ) where
-  found : of_form (drop at s) ≡ true → LineAt s at (at + length (line_bytes (unchecked_line (drop at s)))) (unchecked_line (drop at s))
-  found h =
-      let b = form_is (drop at s) h in
-      record { can_be_written = b.can_be_written; line_fits = b.line_fits; next_is = refl; bytes_are = b.written_so ∙ ap (λ (r : List ℕ). line_bytes (unchecked_line (drop at s)) ++ r) (drop-drop (length (line_bytes (unchecked_line (drop at s)))) at s) }
+  found : (l : Line) → unchecked_line (drop at s) ≡ Some l → of_form (drop at s) l ≡ true → LineAt s at (at + length (line_bytes l)) l
+  found l u h =
+      let b = form_is (drop at s) l u h in
+      record { can_be_written = b.can_be_written; line_fits = b.line_fits; next_is = refl; bytes_are = b.written_so ∙ ap (λ (r : List ℕ). line_bytes l ++ r) (drop-drop (length (line_bytes l)) at s) }
 
   -- what an answer tells
   abbrev pub Correct : Read → Type 0
   Correct (Got l next) = LineAt s at next l
   Correct End = length s ≤ at
-  Correct (Refused k n) = (k ≡ 29) × (n ≡ line_number_of s at) × (at < length s) × ((l : Line) (rest : List ℕ) → LineFits l → Writable l → drop at s ≡ line_bytes l ++ rest → ⊥)
+  Correct (NotOfForm n) = (n ≡ line_number_of s at) × (at < length s) × ((l : Line) (rest : List ℕ) → LineFits l → Writable l → drop at s ≡ line_bytes l ++ rest → ⊥)
+
+  -- bytes that begin with a line would be that line, and of its form
+  of_line : (l : Line) (rest : List ℕ) → LineFits l → Writable l → drop at s ≡ line_bytes l ++ rest → (unchecked_line (drop at s) ≡ Some l) × (of_form (drop at s) l ≡ true)
+  of_line l rest ok can q = (ap unchecked_line q ∙ unchecked_back l ok can rest, ap (λ (t : List ℕ). of_form t l) q ∙ form_own l ok can rest)
 
   pub read_correct : Correct (read_line s at)
   unfolding read_line
-  read_correct =
-      case (ltb at (length s)) (λ e. case (of_form (drop at s)) (λ f. rw (e, f) (found f)) (λ f. rw (e, f) (refl, refl, ltb-true at (length s) e, λ l rest ok can q. true≢false (sym (form_own l ok can rest) ∙ sym (ap of_form q) ∙ f)))) (λ e. rw e (ltb-false at (length s) e))
+  read_correct = case (ltb at (length s)) (λ e. by_line (unchecked_line (drop at s)) refl e) (λ e. rw e (ltb-false at (length s) e))
+    where
+      by_line : (o : Option Line) → unchecked_line (drop at s) ≡ o → ltb at (length s) ≡ true → Correct (read_line s at)
+      by_line None u e = unfold read_line in
+          rw (e, u) (refl, ltb-true at (length s) e, λ l rest ok can q. let p : ◌≡◌ {A = Option Line} None (Some l) = sym u ∙ (of_line l rest ok can q).0 in cc)
+      by_line (Some l) u e = unfold read_line in
+          case (of_form (drop at s) l)
+          (λ f. rw (e, u, f) (found l u f))
+          (λ f. rw (e, u, f) (
+            refl,
+            ltb-true at (length s) e,
+            λ m rest ok can q.
+                let p = of_line m rest ok can q in
+                true≢false (sym p.1 ∙ ap (λ (k : Line). of_form (drop at s) k) (sym (some_same l m (sym u ∙ p.0))) ∙ f),
+          ))
 
   pub one_line : (l : Line) (next : ℕ) → read_line s at ≡ Got l next → LineAt s at next l
   one_line l next e = rw e at read_correct

@@ -1,10 +1,10 @@
--- Whole journals: the lines that were written are read, then End; and bytes that are read to the end with no 29 are those lines'. Assumes nothing.
+-- Whole journals: the lines that were written are read, then End; and bytes that are read to the end with no NotOfForm are those lines'. Assumes nothing.
 use Rattle.std.specs.Prelude.{ℕ, zero, suc, ◌+◌, ◌<◌, ◌≤◌, ◌≡◌, List, [], ◌∷◌, ◌++◌, length, drop}
 use Rattle.std.proofs.Common.{ap, ◌∙◌, append_assoc, arith, le-ltb, length-append, length-drop, drop_of_length-le}
 use Rattle.common.specs.Each.{All}
 use Rattle.journal_line.specs.declared.Line.{Line}
 use Rattle.journal_line.specs.declared.Read.{Read}
-use Rattle.journal_line.specs.declared.Read.TheVariants.{Got, End, Refused}
+use Rattle.journal_line.specs.declared.Read.TheVariants.{Got, End, NotOfForm}
 use Rattle.journal_line.specs.Line.{line_bytes, LineFits, Writable, journal_bytes}
 use Rattle.journal_line.specs.Reading.{read_line, Ending, ended, refused, unread, Lines, goes_on, read_all, read_journal}
 use Rattle.journal_line.proofs.Unique.{Correct, read_correct, one_reading, line_bounds}
@@ -66,7 +66,7 @@ read_wrote (suc n) s at = one (read_line s at) (read_correct s at) (read_wrote n
   where
     one : (r : Read) → Correct s at r → ((next : ℕ) → Wrote s next (read_all n s next)) → Wrote s at (goes_on (read_all n s) r)
     one End t ih = λ h. record { lines_fit = tt; can_be_written = tt; bytes_are = drop_of_length-le s t }
-    one (Refused k m) t ih = λ h. absurd (no_end m h)
+    one (NotOfForm m) t ih = λ h. absurd (no_end m h)
     one (Got l next) t ih = λ h.
         let w = ih next h in
         record { lines_fit = (t.line_fits, w.lines_fit); can_be_written = (t.can_be_written, w.can_be_written); bytes_are = t.bytes_are ∙ ap (λ (r : List ℕ). line_bytes l ++ r) w.bytes_are }
@@ -74,7 +74,7 @@ read_wrote (suc n) s at = one (read_line s at) (read_correct s at) (read_wrote n
 pub whole_lines : (s : List ℕ) → (read_journal s).ending ≡ ended → Written s (read_journal s).lines
 whole_lines s h = read_wrote (suc (length s)) s 0 h
 
--- ---- the reading of a whole journal ends with End or with a 29
+-- ---- the reading of a whole journal ends with End or with NotOfForm
 abbrev Stops : Lines → Type 0
 Stops r = r.ending ≡ unread → ⊥
 
@@ -85,7 +85,7 @@ read_stops (suc n) s at h k = one (read_line s at) (read_correct s at) (read_sto
   where
     one : (r : Read) → Correct s at r → ((next : ℕ) → length s < next + n → next ≤ length s → Stops (read_all n s next)) → Stops (goes_on (read_all n s) r)
     one End t ih = λ e. let z : ◌≡◌ {A = ℕ} 0 1 = cc in omega arith
-    one (Refused m j) t ih = λ e. let z : ◌≡◌ {A = ℕ} 0 1 = cc in omega arith
+    one (NotOfForm j) t ih = λ e. let z : ◌≡◌ {A = ℕ} 0 1 = cc in omega arith
     one (Got l next) t ih =
         let b = line_bounds l t.can_be_written in
         let f = t.next_is in

@@ -1,27 +1,36 @@
 -- 02, E6: how many candidates were scored and how many skipped for each reason, counted over lines of the journal. Definitions only.
-use Rattle.std.specs.Prelude.{ℕ, ◌+◌, cond, List, [], ◌∷◌, eqb}
+use Rattle.std.specs.Prelude.{ℕ, ◌+◌, cond, List, [], ◌∷◌, eqb, Ok, Err, Option, Some, None}
+use Rattle.score_outcome.specs.declared.SkipReason.{SkipReason}
+use Rattle.score_outcome.specs.declared.SkipReason.TheVariants.{HostFailed, BadCamera, NoMean, NoNumber}
+use Rattle.score_outcome.specs.Reasons.{reason_number}
 use Rattle.journal_line.specs.declared.Counts.{Counts}
 use Rattle.journal_line.specs.declared.Line.{Line}
-use Rattle.journal_line.specs.declared.Recorded.{Recorded}
-use Rattle.journal_line.specs.declared.Recorded.TheVariants.{Scored, Skipped}
+use Rattle.journal_line.specs.Outcome.{Recorded}
 
--- ---- the kinds: 0 for scored, 1 to 4 for skipped for that reason
-abbrev pub kind_of : Recorded → ℕ
-kind_of (Scored f) = 0
-kind_of (Skipped reason) = reason
+-- ---- the kinds: none for scored, else the reason
+abbrev pub Kind : Type 0
+Kind = Option SkipReason
+
+abbrev pub kind_of : Recorded → Kind
+kind_of (Ok f) = None
+kind_of (Err reason) = Some reason
+
+abbrev pub kind_number : Kind → ℕ
+kind_number None = 0
+kind_number (Some reason) = reason_number reason
 
 -- 1 of what is of kind k
-abbrev pub one : ℕ → ℕ → ℕ
-one k kind = cond (eqb kind k) 1 0
+abbrev pub one : Kind → Kind → ℕ
+one k kind = cond (eqb (kind_number kind) (kind_number k)) 1 0
 
 -- how many of some lines are of kind k
-unfoldable pub count_in : ℕ → List Line → ℕ
+unfoldable pub count_in : Kind → List Line → ℕ
 count_in k [] = 0
 count_in k (l ∷ ls) = one k (kind_of l.outcome) + count_in k ls
 
 -- ---- the five counts
 abbrev pub counts_in : List Line → Counts
-counts_in ls = record { scored = count_in 0 ls; host_failed = count_in 1 ls; bad_camera = count_in 2 ls; no_mean = count_in 3 ls; no_number = count_in 4 ls }
+counts_in ls = record { scored = count_in None ls; host_failed = count_in (Some HostFailed) ls; bad_camera = count_in (Some BadCamera) ls; no_mean = count_in (Some NoMean) ls; no_number = count_in (Some NoNumber) ls }
 
 abbrev pub no_counts : Counts
 no_counts = record { scored = 0; host_failed = 0; bad_camera = 0; no_mean = 0; no_number = 0 }
@@ -31,9 +40,9 @@ abbrev pub with_count : Counts → Recorded → Counts
 with_count c o =
     let k = kind_of o in
     record {
-      scored = c.scored + one 0 k;
-      host_failed = c.host_failed + one 1 k;
-      bad_camera = c.bad_camera + one 2 k;
-      no_mean = c.no_mean + one 3 k;
-      no_number = c.no_number + one 4 k;
+      scored = c.scored + one None k;
+      host_failed = c.host_failed + one (Some HostFailed) k;
+      bad_camera = c.bad_camera + one (Some BadCamera) k;
+      no_mean = c.no_mean + one (Some NoMean) k;
+      no_number = c.no_number + one (Some NoNumber) k;
     }

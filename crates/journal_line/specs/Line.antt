@@ -1,14 +1,15 @@
 -- A line of the journal as a value and as bytes, beside 02's words (E2 and E3). Definitions only.
-use Rattle.std.specs.Prelude.{ℕ, zero, suc, ◌+◌, ◌/◌, ◌%◌, ◌≡◌, Bool, true, not, ◌&&◌, cond, List, [], ◌∷◌, ◌++◌, map, T, ltb, leb, replicate, Float}
+use Rattle.std.specs.Prelude.{ℕ, zero, suc, ◌+◌, ◌/◌, ◌%◌, ◌≡◌, Bool, true, not, ◌&&◌, cond, List, [], ◌∷◌, ◌++◌, map, T, ltb, leb, replicate, Float, Ok, Err}
 use Rattle.std.specs.Float.{binary64}
 use Rattle.std.specs.Float.Ieee.{is_nan, fits}
 use Rattle.common.specs.Each.{All}
 use Rattle.float.specs.Float.{bits_of}
 use Rattle.seed_rules.specs.Layout.{six}
 use Rattle.journal_line.specs.declared.ScoredFields.{ScoredFields}
-use Rattle.journal_line.specs.declared.Recorded.{Recorded}
-use Rattle.journal_line.specs.declared.Recorded.TheVariants.{Scored, Skipped}
+use Rattle.score_outcome.specs.declared.SkipReason.{SkipReason}
+use Rattle.score_outcome.specs.declared.SkipReason.TheVariants.{HostFailed, BadCamera, NoMean, NoNumber}
 use Rattle.journal_line.specs.declared.Line.{Line}
+use Rattle.journal_line.specs.Outcome.{Recorded}
 
 -- ---- the bytes of a field
 abbrev pub newline : ℕ
@@ -44,8 +45,11 @@ real x = digits 16 16 (bits_of x)
 abbrev pub scored_letter : ℕ
 scored_letter = 83
 
-unfoldable pub reason_letter : ℕ → ℕ
-reason_letter r = cond (leb r 1) 72 (cond (leb r 2) 67 (cond (leb r 3) 69 78))
+unfoldable pub reason_letter : SkipReason → ℕ
+reason_letter HostFailed = 72
+reason_letter BadCamera = 67
+reason_letter NoMean = 69
+reason_letter NoNumber = 78
 
 -- ---- fields parted by commas, and a newline at the end
 -- what stands behind a field, where these fields follow it
@@ -63,8 +67,8 @@ eight s = s.score ∷ s.mean ∷ s.k.fx ∷ s.k.fy ∷ s.k.cx ∷ s.k.cy ∷ s.p
 
 -- S and the eight numbers, or the reason's letter and eight minus signs
 unfoldable pub outcome_fields : Recorded → List (List ℕ)
-outcome_fields (Scored s) = (scored_letter ∷ []) ∷ map real (eight s)
-outcome_fields (Skipped r) = (reason_letter r ∷ []) ∷ replicate 8 (minus_sign ∷ [])
+outcome_fields (Ok s) = (scored_letter ∷ []) ∷ map real (eight s)
+outcome_fields (Err r) = (reason_letter r ∷ []) ∷ replicate 8 (minus_sign ∷ [])
 
 unfoldable pub line_bytes : Line → List ℕ
 line_bytes l = line_of (decimal l.number ∷ decimal l.round ∷ map real (six l.seed) ++ outcome_fields l.outcome)
@@ -74,10 +78,10 @@ unfoldable pub journal_bytes : List Line → List ℕ
 journal_bytes [] = []
 journal_bytes (l ∷ ls) = line_bytes l ++ journal_bytes ls
 
--- ---- what can be written: number at most 655, round at most 16, no score that is NaN, a reason from 1 to 4
+-- ---- what can be written: number at most 655, round at most 16, no score that is NaN
 unfoldable pub recordable : Recorded → Bool
-recordable (Scored s) = not (is_nan s.score)
-recordable (Skipped r) = leb 1 r && leb r 4
+recordable (Ok s) = not (is_nan s.score)
+recordable (Err r) = true
 
 unfoldable pub writable : Line → Bool
 writable l = leb l.number 655 && leb l.round 16 && recordable l.outcome
@@ -90,8 +94,8 @@ abbrev pub Fits : Float → Type 0
 Fits x = T (fits binary64 x)
 
 abbrev pub recorded_numbers : Recorded → List Float
-recorded_numbers (Scored s) = eight s
-recorded_numbers (Skipped r) = []
+recorded_numbers (Ok s) = eight s
+recorded_numbers (Err r) = []
 
 pub record LineFits (l : Line) : Type 0 where
   pub seed_fits : All Fits (six l.seed)

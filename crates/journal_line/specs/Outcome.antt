@@ -1,19 +1,21 @@
 -- What a line records of an outcome: of a scored one its score, its mean and its camera, whose radial coefficients are 0 and not written;
 -- of a skipped one the reason. And the outcome that a line records. Definitions only.
+use Rattle.std.specs.Prelude.{Result, Ok, Err}
 use Rattle.float.specs.Literals.{plus_zero}
 use Rattle.score_outcome.specs.declared.Scoring.{Scoring}
-use Rattle.score_outcome.specs.declared.Outcome.{Outcome}
-use Rattle.score_outcome.specs.declared.Outcome.TheVariants as outcome
+use Rattle.score_outcome.specs.declared.SkipReason.{SkipReason}
+use Rattle.score_outcome.specs.Reasons.{Outcome}
 use Rattle.journal_line.specs.declared.ScoredFields.{ScoredFields}
-use Rattle.journal_line.specs.declared.Recorded.{Recorded}
-use Rattle.journal_line.specs.declared.Recorded.TheVariants.{Scored, Skipped}
+
+abbrev pub Recorded : Type 0
+Recorded = Result ScoredFields SkipReason
 
 abbrev pub fields_of : Scoring → ScoredFields
 fields_of s = record { score = s.score; mean = s.mean; k = s.camera.k; p1 = s.camera.dist.p1; p2 = s.camera.dist.p2 }
 
 abbrev pub recorded_as : Outcome → Recorded
-recorded_as (outcome.Skipped reason) = Skipped reason
-recorded_as (outcome.Scored s) = Scored (fields_of s)
+recorded_as (Ok s) = Ok (fields_of s)
+recorded_as (Err reason) = Err reason
 
 abbrev pub scoring_in : ScoredFields → Scoring
 scoring_in f = record {
@@ -23,5 +25,5 @@ scoring_in f = record {
 }
 
 abbrev pub outcome_in : Recorded → Outcome
-outcome_in (Skipped reason) = outcome.Skipped reason
-outcome_in (Scored f) = outcome.Scored (scoring_in f)
+outcome_in (Ok f) = Ok (scoring_in f)
+outcome_in (Err reason) = Err reason

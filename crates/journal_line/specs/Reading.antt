@@ -1,15 +1,17 @@
 -- Reading a line: the line that the bytes would be is made from them by place alone, and it is the reading if it can be written and the bytes
 -- begin as it is written. So nothing but a line's own bytes is read as that line. Definitions only.
-use Rattle.std.specs.Prelude.{ℕ, zero, suc, ◌+◌, ◌*◌, ◌/◌, ◌%◌, Bool, true, false, ◌&&◌, cond, List, [], ◌∷◌, ltb, eqb, length, get_or, take, drop, Float}
+use Rattle.std.specs.Prelude.{ℕ, zero, suc, ◌+◌, ◌*◌, ◌/◌, ◌%◌, Bool, true, false, ◌&&◌, cond, List, [], ◌∷◌, ltb, eqb, length, get_or, take, drop, Float, Ok, Err, Option, Some, None}
+use Rattle.std.specs.Option.{option_map}
 use Rattle.std.specs.Float.{nan, binary64}
 use Rattle.std.specs.Float.Ieee.{of_bits}
 use Rattle.seed_rules.specs.Layout.{seed_at}
 use Rattle.journal_line.specs.declared.ScoredFields.{ScoredFields}
-use Rattle.journal_line.specs.declared.Recorded.{Recorded}
-use Rattle.journal_line.specs.declared.Recorded.TheVariants.{Scored, Skipped}
+use Rattle.score_outcome.specs.declared.SkipReason.{SkipReason}
+use Rattle.score_outcome.specs.declared.SkipReason.TheVariants.{HostFailed, BadCamera, NoMean, NoNumber}
 use Rattle.journal_line.specs.declared.Line.{Line}
 use Rattle.journal_line.specs.declared.Read.{Read}
-use Rattle.journal_line.specs.declared.Read.TheVariants.{Got, End, Refused}
+use Rattle.journal_line.specs.declared.Read.TheVariants.{Got, End, NotOfForm}
+use Rattle.journal_line.specs.Outcome.{Recorded}
 use Rattle.journal_line.specs.Line.{line_bytes, writable}
 
 -- ---- what the bytes at a place would be
@@ -43,13 +45,13 @@ scored_at l = record {
   p2 = get_or l 7 nan;
 }
 
--- the skip reason of a letter, 0 where it is none
-unfoldable pub reason_of : ℕ → ℕ
-reason_of c = cond (eqb c 72) 1 (cond (eqb c 67) 2 (cond (eqb c 69) 3 (cond (eqb c 78) 4 0)))
+-- the skip reason of a letter
+unfoldable pub reason_of : ℕ → Option SkipReason
+reason_of c = cond (eqb c 72) (Some HostFailed) (cond (eqb c 67) (Some BadCamera) (cond (eqb c 69) (Some NoMean) (cond (eqb c 78) (Some NoNumber) None)))
 
--- the outcome, from the comma before its letter on
-unfoldable pub outcome_at : List ℕ → Recorded
-outcome_at s = cond (eqb (get_or s 1 0) 83) (Scored (scored_at (reals 8 (drop 2 s)))) (Skipped (reason_of (get_or s 1 0)))
+-- the outcome, from the comma before its letter on; there is none where the letter is neither S nor a reason's
+unfoldable pub outcome_at : List ℕ → Option Recorded
+outcome_at s = cond (eqb (get_or s 1 0) 83) (Some (Ok (scored_at (reals 8 (drop 2 s))))) (option_map Err (reason_of (get_or s 1 0)))
 
 -- from the round on, and from the comma before the seed on
 unfoldable pub from_round : List ℕ → List ℕ
@@ -58,13 +60,17 @@ from_round s = drop (decimal_width_at s + 1) s
 unfoldable pub from_seed : List ℕ → List ℕ
 from_seed s = drop (decimal_width_at (from_round s)) (from_round s)
 
-unfoldable pub unchecked_line : List ℕ → Line
-unchecked_line s = record {
+-- the line with this outcome
+abbrev pub line_with : List ℕ → Recorded → Line
+line_with s outcome = record {
   number = number_at 10 (decimal_width_at s) s;
   round = number_at 10 (decimal_width_at (from_round s)) (from_round s);
   seed = seed_at (reals 6 (from_seed s)) 0;
-  outcome = outcome_at (drop 102 (from_seed s));
+  outcome = outcome;
 }
+
+unfoldable pub unchecked_line : List ℕ → Option Line
+unchecked_line s = option_map (line_with s) (outcome_at (drop 102 (from_seed s)))
 
 -- ---- reading
 -- whether s begins with w
@@ -73,9 +79,9 @@ begins [] s = true
 begins (c ∷ w) [] = false
 begins (c ∷ w) (d ∷ s) = eqb c d && begins w s
 
--- whether s begins with a line, the one that it would be
-unfoldable pub of_form : List ℕ → Bool
-of_form s = writable (unchecked_line s) && begins (line_bytes (unchecked_line s)) s
+-- whether s begins with the line
+unfoldable pub of_form : List ℕ → Line → Bool
+of_form s l = writable l && begins (line_bytes l) s
 
 unfoldable pub newlines : List ℕ → ℕ
 newlines [] = 0
@@ -85,20 +91,21 @@ newlines (c ∷ s) = cond (eqb c 10) 1 0 + newlines s
 abbrev pub line_number_of : List ℕ → ℕ → ℕ
 line_number_of s at = newlines (take at s) + 1
 
--- what stands at a place of a journal: End from its end on; a line, and the place behind it; or 29 with the line's number
+-- what stands at a place of a journal: End from its end on; a line, the one that the bytes would be, and the place behind it; or the line's number
 unfoldable pub read_line : List ℕ → ℕ → Read
 read_line s at =
     cond (ltb at (length s))
-    (cond (of_form (drop at s))
-    (Got (unchecked_line (drop at s)) (at + length (line_bytes (unchecked_line (drop at s)))))
-    (Refused 29 (line_number_of s at)))
+    (elim (unchecked_line (drop at s)) [
+      | Some l ↦ cond (of_form (drop at s) l) (Got l (at + length (line_bytes l))) (NotOfForm (line_number_of s at))
+      | None ↦ NotOfForm (line_number_of s at)
+    ])
     End
 
 -- the place from which the next line is read: behind a line, else where it was
 abbrev pub place_after : Read → ℕ → ℕ
 place_after (Got l next) at = next
 place_after End at = at
-place_after (Refused k n) at = at
+place_after (NotOfForm n) at = at
 
 -- ---- all lines from a place on, as many as n, and what came last
 pub data Ending : Type 0 where
@@ -113,7 +120,7 @@ pub record Lines : Type 0 where
 -- what comes of one answer, where r reads the rest from a place
 unfoldable pub goes_on : (ℕ → Lines) → Read → Lines
 goes_on r End = record { lines = []; ending = ended }
-goes_on r (Refused k line) = record { lines = []; ending = refused line }
+goes_on r (NotOfForm line) = record { lines = []; ending = refused line }
 goes_on r (Got l next) = record { lines = l ∷ (r next).lines; ending = (r next).ending }
 
 unfoldable pub read_all : ℕ → List ℕ → ℕ → Lines

@@ -1,16 +1,16 @@
 -- What the writer replies, and what it leaves of the lent buffer. Definitions only.
-use Rattle.std.specs.Prelude.{ℕ, Bool, not, ◌||◌, cond, List, ◌++◌, ltb, length, drop}
+use Rattle.std.specs.Prelude.{ℕ, Bool, not, ◌||◌, cond, List, ◌++◌, ltb, length, drop, Result, Ok, Err}
+use Rattle.common.specs.declared.Refusal.{Refusal}
+use Rattle.common.specs.declared.Refusal.TheVariants.{NotWritable}
 use Rattle.journal_line.specs.declared.Line.{Line}
-use Rattle.journal_line.specs.declared.Written.{Written}
-use Rattle.journal_line.specs.declared.Written.TheVariants.{Length, Refused}
 use Rattle.journal_line.specs.Line.{line_bytes, writable}
 
--- 28: the buffer is below 256 bytes, or the line can't be written
+-- refused: the buffer is below 256 bytes, or the line can't be written
 unfoldable pub refuses_line : Line → List ℕ → Bool
 refuses_line l out = ltb (length out) 256 || not (writable l)
 
-unfoldable pub write_reply : Line → List ℕ → Written
-write_reply l out = cond (refuses_line l out) (Refused 28) (Length (length (line_bytes l)))
+unfoldable pub write_reply : Line → List ℕ → Result ℕ Refusal
+write_reply l out = cond (refuses_line l out) (Err NotWritable) (Ok (length (line_bytes l)))
 
 -- the line's bytes at the buffer's front, its rest unchanged; where the line is refused, the buffer as it was
 unfoldable pub write_into : Line → List ℕ → List ℕ

@@ -7,10 +7,11 @@ pub mod outcome;
 pub mod total;
 
 use camera_models::intrinsics::FxFyCxCy;
+use score_outcome::SkipReason;
 use seed_rules::CandidateSeed;
 
 // What a scored candidate's line records: its score, its mean error, and its camera.
-#[derive(Clone, Copy)]
+#[derive(Clone, Copy, Default)]
 pub struct ScoredFields {
     pub score: f64,
     pub mean: f64,
@@ -19,12 +20,8 @@ pub struct ScoredFields {
     pub p2: f64,
 }
 
-// Scored, or skipped for reason 1 to 4.
-#[derive(Clone, Copy)]
-pub enum Recorded {
-    Scored(ScoredFields),
-    Skipped(u8),
-}
+// What a line records of an outcome: scored, or skipped for a reason.
+pub type Recorded = Result<ScoredFields, SkipReason>;
 
 // The line of one answered candidate.
 #[derive(Clone, Copy)]
@@ -35,9 +32,9 @@ pub struct Line {
     pub outcome: Recorded,
 }
 
-// How many candidates were scored, and how many skipped for each reason, 1 to 4.
+// How many candidates were scored, and how many skipped for each reason.
 #[repr(C)]
-#[derive(Clone, Copy)]
+#[derive(Clone, Copy, Default)]
 pub struct Counts {
     pub scored: usize,
     pub host_failed: usize,
@@ -46,17 +43,11 @@ pub struct Counts {
     pub no_number: usize,
 }
 
-// What a writer gives: how many bytes the line has, or number 28.
-#[derive(Clone, Copy)]
-pub enum Written {
-    Length(usize),
-    Refused(u8),
-}
-
-// What reading at a place gives: a line with the place behind it, the end, or number 29 with the line's number, from 1.
+// What reading at a place gives: a line with the place behind it, the end, or the line's number, from 1, where the bytes are no line.
+// Kept: reading ends in three ways, and an Option in a Result would nest two of them and be no plainer.
 #[derive(Clone, Copy)]
 pub enum Read {
     Got(Line, usize),
     End,
-    Refused(u8, usize),
+    NotOfForm(usize),
 }

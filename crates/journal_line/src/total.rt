@@ -1,12 +1,13 @@
 // The sum of the counts, where it can be a run's.
-ghost use Rattle.std.specs.Prelude.{◌≡◌, ◌≤◌, ltb};
-ghost use Rattle.journal_line.specs.Report.{total};
+ghost use Rattle.std.specs.Prelude.{◌≡◌};
+ghost use Rattle.journal_line.specs.Report.{small_total};
 
 use crate::Counts;
 
-// The total, or some number above 656 where it is above 656. No count above 656 is added, so that the sum can't wrap round.
-pub fn total_if_small(c: Counts) -> usize
-    ensures { (ltb 656 result ≡ ltb 656 (total c)) × (result ≤ 656 → result ≡ total c) }
+// The total up to 656, or None where it is above. No count above 656 is added, so that the sum can't wrap round.
+#[tactic(auto, unfolding(crate::specs::Report::total))]
+pub fn total_if_small(c: Counts) -> Option<usize>
+    ensures { result ≡ small_total c }
 {
     if (656 < c.scored)
         | (656 < c.host_failed)
@@ -14,7 +15,11 @@ pub fn total_if_small(c: Counts) -> usize
         | (656 < c.no_mean)
         | (656 < c.no_number)
     {
-        return 657;
+        return None;
     }
-    c.scored + c.host_failed + c.bad_camera + c.no_mean + c.no_number
+    let sum = c.scored + c.host_failed + c.bad_camera + c.no_mean + c.no_number;
+    if 656 < sum {
+        return None;
+    }
+    Some(sum)
 }

@@ -1,4 +1,4 @@
-// A reader that keeps a journal's bytes and its place in them. The functions are thin; the work is `journal_bytes::reading::read_line`'s.
+// A reader that keeps a journal's bytes and its place in them. The methods are thin; the work is `journal_bytes::reading::read_line`'s.
 
 #![tactic(auto)]
 
@@ -16,34 +16,37 @@ pub struct Reader<'a> {
     pub at: usize,
 }
 
-// A reader of these bytes at a place, 0 for the whole journal.
-pub fn new<'a>(bytes: &'a [u8], at: usize) -> Reader<'a>
-    ensures { (result.bytes ≡ bytes.entry) × (result.at ≡ at) }
-{
-    Reader { bytes, at }
+impl<'a> Reader<'a> {
+    // A reader of these bytes at a place, 0 for the whole journal.
+    pub fn new(bytes: &'a [u8], at: usize) -> Reader<'a>
+        ensures { (result.bytes ≡ bytes.entry) × (result.at ≡ at) }
+    {
+        Reader { bytes, at }
+    }
+
+    // What stands at the reader's place.
+    pub fn next(self) -> Read
+        ensures { result ≡ read_line self.entry.bytes.now self.entry.at }
+    {
+        reading::read_line(self.bytes, self.at)
+    }
+
+    // What stands at the reader's place; the reader moves behind a line, and stays at the end and where no line is.
+    pub fn advance(&mut self) -> Read
+        ensures { Advanced self.old result self.new }
+    {
+        let at = self.at;
+        let answer = reading::read_line(self.bytes, at);
+        let next = reading::place_after(answer, at);
+        self.at = next;
+        answer
+    }
 }
 
-// What stands at the reader's place.
-pub fn next<'a>(r: Reader<'a>) -> Read
-    ensures { result ≡ read_line r.entry.bytes.now r.entry.at }
-{
-    reading::read_line(r.bytes, r.at)
-}
-
-// What stands at the reader's place; the reader moves behind a line, and stays at the end and at a line that is refused.
-pub fn advance<'s, 'a>(r: &'s mut Reader<'a>) -> Read
-    ensures { Advanced r.old result r.new }
-{
-    let at = r.at;
-    let answer = reading::read_line(r.bytes, at);
-    let next = reading::place_after(answer, at);
-    r.at = next;
-    answer
-}
-
+// Kept: bytes and place are two parameters: a caller from C hands in both, and has no reader.
 // What stands at a place of a journal, for callers that keep bytes and place themselves.
 pub fn read_at(bytes: &[u8], at: usize) -> Read
     ensures { result ≡ read_line bytes.now at }
 {
-    next(new(bytes, at))
+    Reader::new(bytes, at).next()
 }

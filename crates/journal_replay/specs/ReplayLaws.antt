@@ -1,28 +1,26 @@
 -- What the code of replay and resume tests, as their definitions have it. Assumes nothing.
-use Rattle.std.specs.Prelude.{ℕ, ◌<◌, ◌≡◌, refl, ◌&&◌, List, [], ◌∷◌, ltb, eqb, length, drop, Float}
+use Rattle.std.specs.Prelude.{ℕ, ◌<◌, ◌≡◌, refl, ◌&&◌, List, [], ◌∷◌, ltb, eqb, length, drop, Float, Result, Ok, Err}
 use Rattle.std.proofs.Common.{ap, ◌∙◌, arith, lt-ltb}
 use Rattle.journal_line.specs.Reading.{newlines}
 use Rattle.search_record.specs.declared.run.Run.{Run}
 use Rattle.search_calls.specs.declared.next.Handed.{Handed}
 use Rattle.search_calls.specs.declared.next.NextReply.{NextReply}
 use Rattle.search_calls.specs.Next.{next_def}
-use Rattle.search_start.specs.declared.Started.{Started}
-use Rattle.search_start.specs.declared.Started.TheVariants as started
-use Rattle.journal_replay.specs.declared.Replayed.{Replayed}
-use Rattle.journal_replay.specs.declared.Replayed.TheVariants as replayed
-use Rattle.journal_replay.specs.declared.Resumed.{Resumed as ResumeReply}
-use Rattle.journal_replay.specs.declared.Resumed.TheVariants as resumed
+use Rattle.common.specs.declared.Refusal.{Refusal}
+use Rattle.journal_replay.specs.declared.Standing.{Standing}
+use Rattle.journal_replay.specs.declared.ReplayRefusal.{ReplayRefusal}
+use Rattle.journal_replay.specs.declared.ReplayRefusal.TheVariants.{Refused}
+use Rattle.journal_replay.specs.declared.Resumed.{Resumed}
 use Rattle.journal_replay.specs.Walk.{walk_of, walked_as}
 use Rattle.journal_replay.specs.Replay.{standing_by, standing_of, reply_by, reply_to, replay_from}
 use Rattle.journal_replay.specs.declared.EndedBy.{EndedBy}
-use Rattle.journal_replay.specs.declared.Resumed.TheVariants.{Resumed}
 use Rattle.journal_replay.specs.declared.Walked.{Walked}
 use Rattle.journal_replay.specs.Resume.{is_cut_line, ended_by_of, report_on, resumed_by, resume_from}
 
 -- where a run stands, by Next's reply
-pub stands_by : (r : Run) (l : List Float) (a : NextReply) (h : Handed) → a ≡ next_def r l → a.reply ≡ h → standing_of r l ≡ standing_by h a.run r
+pub stands_by : (r : Run) (l : List Float) (a : NextReply) (h : Result Handed Refusal) → a ≡ next_def r l → a.reply ≡ h → standing_of r l ≡ standing_by h a.run r
 unfolding standing_of
-stands_by r l a h is e = rw (← is) (ap (λ (g : Handed). standing_by g a.run r) e)
+stands_by r l a h is e = rw (← is) (ap (λ (g : Result Handed Refusal). standing_by g a.run r) e)
 
 -- something is left, and no newline in it
 pub cut_line : (s : List ℕ) (n : ℕ) → n ≡ newlines s → (ltb 0 (length s) && eqb n 0) ≡ is_cut_line s
@@ -33,22 +31,22 @@ cut_line (c ∷ cs) n h =
 
 -- the report, from what stands behind the kept bytes
 pub report_by : (w : Walked) (s rest : List ℕ) (e : EndedBy) → rest ≡ drop w.bytes s → e ≡ ended_by_of w.stop rest
-    → Resumed w.run (record { lines = w.lines; kept = w.bytes; dropped = length rest; ended_by = e }) ≡ resumed_by w s
+    → record { run = w.run; report = record { lines = w.lines; kept = w.bytes; dropped = length rest; ended_by = e } } ≡ resumed_by w s
 unfolding report_on
 report_by w s rest e rest_is e-is = rw (e-is, rest_is)
 
 -- ---- what replay and resume give, by Start's reply s and its list l
-module _ (s t : Started) (l k : List Float) (bs : List ℕ) (s-is : s ≡ t) (l-is : l ≡ k) where
-  pub replay_refused : (n : ℕ) → s ≡ started.Refused n → (replayed.Refused n ≡ (replay_from t k bs).reply) × (l ≡ (replay_from t k bs).list)
-  replay_refused n h = rw (← s-is, ← l-is, h) (refl, refl)
+module _ (s t : Result Run Refusal) (l k : List Float) (bs : List ℕ) (s-is : s ≡ t) (l-is : l ≡ k) where
+  pub replay_refused : (e : Refusal) → s ≡ Err e → (Err (Refused e) ≡ (replay_from t k bs).reply) × (l ≡ (replay_from t k bs).list)
+  replay_refused e h = rw (← s-is, ← l-is, h) (refl, refl)
 
-  pub resume_refused : (n : ℕ) → s ≡ started.Refused n → (resumed.Refused n ≡ (resume_from t k bs).reply) × (l ≡ (resume_from t k bs).list)
-  resume_refused n h = rw (← s-is, ← l-is, h) (refl, refl)
+  pub resume_refused : (e : Refusal) → s ≡ Err e → (Err e ≡ (resume_from t k bs).reply) × (l ≡ (resume_from t k bs).list)
+  resume_refused e h = rw (← s-is, ← l-is, h) (refl, refl)
 
-  module _ (r : Run) (w : Walked) (m : List Float) (h : s ≡ started.Accepted r) (w-is : w ≡ walked_as (walk_of r l bs)) (m-is : m ≡ (walk_of r l bs).list) where
-    pub replay_walked : (y : Replayed) → y ≡ reply_by w.stop w.lines (standing_of w.run m) → (y ≡ (replay_from t k bs).reply) × (m ≡ (replay_from t k bs).list)
+  module _ (r : Run) (w : Walked) (m : List Float) (h : s ≡ Ok r) (w-is : w ≡ walked_as (walk_of r l bs)) (m-is : m ≡ (walk_of r l bs).list) where
+    pub replay_walked : (y : Result Standing ReplayRefusal) → y ≡ reply_by w.stop w.lines (standing_of w.run m) → (y ≡ (replay_from t k bs).reply) × (m ≡ (replay_from t k bs).list)
     unfolding reply_to
     replay_walked y y-is = rw (← s-is, ← l-is, h) (y-is ∙ rw (w-is, m-is), m-is)
 
-    pub resume_walked : (y : ResumeReply) → y ≡ resumed_by w bs → (y ≡ (resume_from t k bs).reply) × (m ≡ (resume_from t k bs).list)
-    resume_walked y y-is = rw (← s-is, ← l-is, h) (y-is ∙ ap (λ (v : Walked). resumed_by v bs) w-is, m-is)
+    pub resume_walked : (y : Resumed) → y ≡ resumed_by w bs → (Ok y ≡ (resume_from t k bs).reply) × (m ≡ (resume_from t k bs).list)
+    resume_walked y y-is = rw (← s-is, ← l-is, h) (ap Ok (y-is ∙ ap (λ (v : Walked). resumed_by v bs) w-is), m-is)

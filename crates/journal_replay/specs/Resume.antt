@@ -1,21 +1,27 @@
 -- 02, E13: the run that goes on from a journal, and the report, as a function of what Start takes. Definitions only.
-use Rattle.std.specs.Prelude.{ℕ, Bool, false, cond, List, [], ◌∷◌, eqb, length, drop, Float}
+use Rattle.std.specs.Prelude.{ℕ, Bool, false, cond, List, [], ◌∷◌, eqb, length, drop, Float, Result, Ok, Err}
+use Rattle.common.specs.declared.Refusal.{Refusal}
 use Rattle.camera_models.specs.declared.math.Pt2.{Pt2}
 use Rattle.camera_models.specs.declared.intrinsics.FxFyCxCy.{FxFyCxCy}
 use Rattle.journal_line.specs.Reading.{newlines}
 use Rattle.search_record.specs.declared.run.Options.{Options}
+use Rattle.search_record.specs.declared.run.Run.{Run}
 use Rattle.search_start.specs.Start.{start_reply, start_list}
-use Rattle.search_start.specs.declared.Started.{Started}
-use Rattle.search_start.specs.declared.Started.TheVariants as started
 use Rattle.journal_replay.specs.declared.Stop.{Stop}
 use Rattle.journal_replay.specs.declared.Stop.TheVariants as stop
 use Rattle.journal_replay.specs.declared.EndedBy.{EndedBy}
 use Rattle.journal_replay.specs.declared.EndedBy.TheVariants.{Nothing, MissingNewline, NotOfForm, NotTheRun}
 use Rattle.journal_replay.specs.declared.Report.{Report}
-use Rattle.journal_replay.specs.declared.Resumed.{Resumed as ResumeReply}
-use Rattle.journal_replay.specs.declared.Resumed.TheVariants.{Resumed, Refused}
+use Rattle.journal_replay.specs.declared.Resumed.{Resumed}
 use Rattle.journal_replay.specs.declared.Walked.{Walked}
 use Rattle.journal_replay.specs.Walk.{walk_of, walked_as}
+
+-- 02: nothing, a missing newline, 29, 30
+abbrev pub ended_number : EndedBy → ℕ
+ended_number Nothing = 0
+ended_number MissingNewline = 1
+ended_number NotOfForm = 29
+ended_number NotTheRun = 30
 
 -- ---- something is left, and no newline in it: a line was cut off
 abbrev pub is_cut_line : List ℕ → Bool
@@ -37,18 +43,18 @@ report_on w bs =
     let rest = drop w.bytes bs in
     record { lines = w.lines; kept = w.bytes; dropped = length rest; ended_by = ended_by_of w.stop rest }
 
-abbrev pub resumed_by : Walked → List ℕ → ResumeReply
-resumed_by w bs = Resumed w.run (report_on w bs)
+abbrev pub resumed_by : Walked → List ℕ → Resumed
+resumed_by w bs = record { run = w.run; report = report_on w bs }
 
 -- ---- the reply, and the seed buffer after it
 pub record ResumeLeft : Type 0 where
-  pub reply : ResumeReply
+  pub reply : Result Resumed Refusal
   pub list : List Float
 
 -- Start's own refusals come first, and leave the buffer; l is the buffer as Start left it
-abbrev pub resume_from : Started → List Float → List ℕ → ResumeLeft
-resume_from (started.Accepted r) l bs = let w = walk_of r l bs in record { reply = resumed_by (walked_as w) bs; list = w.list }
-resume_from (started.Refused n) l bs = record { reply = Refused n; list = l }
+abbrev pub resume_from : Result Run Refusal → List Float → List ℕ → ResumeLeft
+resume_from (Ok r) l bs = let w = walk_of r l bs in record { reply = Ok (resumed_by (walked_as w) bs); list = w.list }
+resume_from (Err why) l bs = record { reply = Err why; list = l }
 
 -- of what Start takes
 module _ (views : ℕ) (options : Options) (xs ys decomposition : List Float) (base : FxFyCxCy) (center : Pt2) where

@@ -1,5 +1,5 @@
 -- 02, E5: a line's numbers beside the run's, and what a line records that can stand for an answer. Definitions only.
-use Rattle.std.specs.Prelude.{Bool, true, false, not, ◌&&◌, List, [], ◌∷◌, eqb, Float}
+use Rattle.std.specs.Prelude.{Bool, true, false, not, ◌&&◌, List, [], ◌∷◌, eqb, Float, Ok, Err}
 use Rattle.std.specs.Float.Ieee.{lt}
 use Rattle.float.specs.Float.{bits_of, is_finite}
 use Rattle.float.specs.Literals.{plus_zero}
@@ -9,9 +9,7 @@ use Rattle.seed_rules.specs.Rules.{within}
 use Rattle.score_camera.specs.Camera.{tangential_bound, valid_camera}
 use Rattle.score_camera.specs.Penalties.{score_of}
 use Rattle.journal_line.specs.declared.ScoredFields.{ScoredFields}
-use Rattle.journal_line.specs.declared.Recorded.{Recorded}
-use Rattle.journal_line.specs.declared.Recorded.TheVariants.{Scored, Skipped}
-use Rattle.journal_line.specs.Outcome.{scoring_in}
+use Rattle.journal_line.specs.Outcome.{Recorded, scoring_in}
 
 -- bit by bit, any NaN matching any
 unfoldable pub same_real : Float → Float → Bool
@@ -40,5 +38,5 @@ can_be_scored center t m =
 
 -- What a line records of a seed with the tilts t can be taken for its answer. Of a skip nothing is asked.
 abbrev pub can_stand : Pt2 → ScheimpflugParams → Recorded → Bool
-can_stand center t (Skipped reason) = true
-can_stand center t (Scored m) = can_be_scored center t m
+can_stand center t (Ok m) = can_be_scored center t m
+can_stand center t (Err reason) = true

@@ -1,7 +1,7 @@
 -- 02, E5 and E13: a journal's lines walked against the run's record. Next hands out a seed, the line is held against it, and what it records is entered as Answer's
 -- outcome would be. Definitions only.
-use Rattle.std.specs.Prelude.{ℕ, suc, ◌+◌, Bool, true, false, ◌&&◌, cond, List, [], ◌∷◌, eqb, length, Float}
-use Rattle.std.proofs.Math.Option.{Option, none, some}
+use Rattle.std.specs.Prelude.{ℕ, suc, ◌+◌, Bool, true, false, ◌&&◌, cond, List, [], ◌∷◌, eqb, length, Float, Option, Some, None, Result, Ok, Err}
+use Rattle.common.specs.declared.Refusal.{Refusal}
 use Rattle.seed_rules.specs.Layout.{six}
 use Rattle.journal_line.specs.declared.Line.{Line}
 use Rattle.journal_line.specs.Line.{line_bytes}
@@ -9,9 +9,9 @@ use Rattle.journal_line.specs.Outcome.{outcome_in}
 use Rattle.journal_line.specs.Reading.{Ending, ended, refused, unread, read_journal}
 use Rattle.search_record.specs.declared.run.Run.{Run}
 use Rattle.search_calls.specs.declared.next.Handed.{Handed}
-use Rattle.search_calls.specs.declared.next.Handed.TheVariants.{Candidate, Over, Refused}
+use Rattle.search_calls.specs.declared.next.Handed.TheVariants.{Candidate, Over}
 use Rattle.search_calls.specs.Next.{next_def}
-use Rattle.search_answer.specs.Answer.{Left, left, enter_def}
+use Rattle.search_answer.specs.Answer.{Left, enter_def}
 use Rattle.journal_replay.specs.declared.Stop.{Stop}
 use Rattle.journal_replay.specs.declared.Stop.TheVariants.{AllTaken, NotOfForm, NotTheRun}
 use Rattle.journal_replay.specs.declared.Walked.{Walked}
@@ -27,34 +27,31 @@ answers_waiting r m =
     && can_stand r.center r.waiting.seed.sensor m.outcome
 
 -- Next handed out a seed; no line can follow Over or a refusal
-abbrev pub is_candidate : Handed → Bool
-is_candidate (Candidate n) = true
-is_candidate Over = false
-is_candidate (Refused n) = false
+abbrev pub is_candidate : Result Handed Refusal → Bool
+is_candidate (Ok (Candidate n)) = true
+is_candidate (Ok Over) = false
+is_candidate (Err refusal) = false
 
 -- The line is taken for the answer to the seed that Next hands out, and what it records is entered; or it isn't.
 unfoldable pub take_line : Run → List Float → Line → Option Left
 take_line r l m =
     let a = next_def r l in
-    cond (is_candidate a.reply && answers_waiting a.run m) (some (enter_def a.run l (outcome_in m.outcome))) none
+    cond (is_candidate a.reply && answers_waiting a.run m) (Some (enter_def a.run l (outcome_in m.outcome))) None
 
--- a line that isn't taken leaves the run and the list as they are
-abbrev pub is_some : Option Left → Bool
-is_some none = false
-is_some (some t) = true
+-- the run after a line that is taken; a line that isn't leaves the list as it is
+abbrev pub run_left : Option Left → Option Run
+run_left None = None
+run_left (Some t) = Some t.run
 
-abbrev pub or_left : Option Left → Run → List Float → Left
-or_left none r l = left r l
-or_left (some t) r l = t
+abbrev pub list_left : Option Left → List Float → List Float
+list_left None l = l
+list_left (Some t) l = t.list
 
-abbrev pub is_taken : Run → List Float → Line → Bool
-is_taken r l m = is_some (take_line r l m)
-
-abbrev pub run_taken : Run → List Float → Line → Run
-run_taken r l m = (or_left (take_line r l m) r l).run
+abbrev pub run_taken : Run → List Float → Line → Option Run
+run_taken r l m = run_left (take_line r l m)
 
 abbrev pub list_taken : Run → List Float → Line → List Float
-list_taken r l m = (or_left (take_line r l m) r l).list
+list_taken r l m = list_left (take_line r l m) l
 
 -- ---- line after line, as long as they are taken
 -- the run and the list as the taken lines left them, how many they are and how many bytes they have, and what stopped the walk
@@ -69,8 +66,8 @@ pub record RunWalk : Type 0 where
 unfoldable pub walk_lines : Run → List Float → ℕ → ℕ → List Line → Stop → RunWalk
 walk_lines r l n k [] e = record { run = r; list = l; lines = n; bytes = k; stop = e }
 walk_lines r l n k (m ∷ ms) e = elim (take_line r l m) [
-  | none ↦ record { run = r; list = l; lines = n; bytes = k; stop = NotTheRun }
-  | some t ↦ walk_lines t.run t.list (suc n) (k + length (line_bytes m)) ms e
+  | None ↦ record { run = r; list = l; lines = n; bytes = k; stop = NotTheRun }
+  | Some t ↦ walk_lines t.run t.list (suc n) (k + length (line_bytes m)) ms e
 ]
 
 -- the reader's End, or its 29

@@ -3,15 +3,21 @@
 
 #![tactic(auto)]
 
+ghost use Rattle.std.specs.Prelude.{◌≡◌};
+ghost use Rattle.journal_replay.specs.declared.ReplayRefusal.TheVariants.{Refused};
+ghost use Rattle.journal_replay.specs.Resume.{ended_number};
+
 pub mod replay;
 pub mod resume;
 pub mod stand;
 pub mod walk;
 
+use common::Refusal;
 use search_record::run::Run;
 use seed_rules::CandidateSeed;
 
 // What stopped a walk: the end of the journal; a line that isn't of the form, 29; or one that can't be the run's next answer, 30.
+// Kept: a Result of Refusal would admit refusals that no walk gives, and each reader would need a case for them.
 #[derive(Clone, Copy)]
 pub enum Stop {
     AllTaken,
@@ -28,22 +34,50 @@ pub struct Walked {
     pub stop: Stop,
 }
 
-// The winner's number and score; the seed that comes next in a run that isn't over; 11 or a refusal of Start's; 29 or 30 with the line's number, from 1.
+// Where a run stands: the winner's number and score, or the seed that comes next in a run that isn't over.
 #[derive(Clone, Copy)]
-pub enum Replayed {
-    Winner(usize, f64),
+pub enum Standing {
+    Winner { number: usize, score: f64 },
     Unfinished(CandidateSeed),
-    Refused(u8),
-    RefusedAt(u8, usize),
+}
+
+// Why a journal isn't run to its end: 11 or a refusal of Start's; or 29 or 30 at a line, with its number, from 1.
+#[derive(Clone, Copy)]
+pub enum ReplayRefusal {
+    Refused(Refusal),
+    At(Refusal, usize),
+}
+
+impl From<Refusal> for ReplayRefusal {
+    ghost from_gives = { λ refusal made. made ≡ Refused refusal };
+
+    fn from(refusal: Refusal) -> ReplayRefusal {
+        ReplayRefusal::Refused(refusal)
+    }
 }
 
 // What ended the kept lines: nothing behind them; a line without its newline; one that isn't of the form, 29; or one that can't follow, 30.
+// Kept: a Result of Refusal has no case for the missing newline, which is no refusal, and would admit refusals that end no kept lines.
 #[derive(Clone, Copy)]
 pub enum EndedBy {
     Nothing,
     MissingNewline,
     NotOfForm,
     NotTheRun,
+}
+
+// The numbers that other languages are told.
+impl From<EndedBy> for u8 {
+    ghost from_gives = { λ ended number. number ≡ ended_number ended };
+
+    fn from(ended: EndedBy) -> u8 {
+        match ended {
+            EndedBy::Nothing => 0,
+            EndedBy::MissingNewline => 1,
+            EndedBy::NotOfForm => Refusal::NotOfForm.into(),
+            EndedBy::NotTheRun => Refusal::NotTheRun.into(),
+        }
+    }
 }
 
 // How many lines are kept, how many bytes they have, how many bytes follow them, and why those aren't kept.
@@ -55,9 +89,9 @@ pub struct Report {
     pub ended_by: EndedBy,
 }
 
-// The run as the kept lines leave it, with the report; or a refusal of Start's.
+// The run as the kept lines leave it, with the report.
 #[derive(Clone, Copy)]
-pub enum Resumed {
-    Resumed(Run, Report),
-    Refused(u8),
+pub struct Resumed {
+    pub run: Run,
+    pub report: Report,
 }

@@ -5,11 +5,9 @@ ghost use Rattle.journal_replay.specs.Resume.{is_cut_line, ended_by_of, resumed_
 
 use crate::walk::walk;
 use crate::{EndedBy, Report, Resumed, Stop, Walked};
-use camera_models::intrinsics::FxFyCxCy;
-use camera_models::math::Pt2;
+use common::Refusal;
 use journal_bytes::reading::count_newlines;
-use search_record::run::Options;
-use search_start::{Started, start};
+use search_start::{Inputs, start};
 
 // Something is left, and no newline in it.
 fn is_cut_line(rest: &[u8]) -> bool
@@ -19,6 +17,7 @@ fn is_cut_line(rest: &[u8]) -> bool
 }
 
 // What ended the kept lines, where this is what stands behind them.
+#[tactic(auto, unfolding(crate::specs::Resume::ended_by_of))]
 fn ended_by(stop: Stop, rest: &[u8]) -> EndedBy
     ensures { result ≡ ended_by_of stop rest.now }
 {
@@ -39,45 +38,21 @@ fn resumed(walked: Walked, bytes: &[u8]) -> Resumed
 {
     let kept = walked.bytes;
     let rest = &bytes[kept..];
-    let stop = walked.stop;
-    let run = walked.run;
-    Resumed::Resumed(
-        run,
-        Report {
+    Resumed {
+        run: walked.run,
+        report: Report {
             lines: walked.lines,
             kept,
             dropped: rest.len(),
-            ended_by: ended_by(stop, rest),
+            ended_by: ended_by(walked.stop, rest),
         },
-    )
+    }
 }
 
-pub fn resume(
-    views: usize,
-    options: Options,
-    tilt_x_seeds: &[f64],
-    tilt_y_seeds: &[f64],
-    decomposition: &[f64],
-    base: FxFyCxCy,
-    center: Pt2,
-    bytes: &[u8],
-    list: &mut [f64],
-) -> Resumed
-    ensures value { result ≡ (resume_def views options tilt_x_seeds.now tilt_y_seeds.now decomposition.now base center list.old bytes.now).reply }
-    ensures list_after { list.new ≡ (resume_def views options tilt_x_seeds.now tilt_y_seeds.now decomposition.now base center list.old bytes.now).list }
+pub fn resume(inputs: Inputs, bytes: &[u8], list: &mut [f64]) -> Result<Resumed, Refusal>
+    ensures value { let i = inputs.entry in result ≡ (resume_def i.views i.options i.tilt_x_seeds.now i.tilt_y_seeds.now i.decomposition.now i.base i.center list.old bytes.now).reply }
+    ensures list_after { let i = inputs.entry in list.new ≡ (resume_def i.views i.options i.tilt_x_seeds.now i.tilt_y_seeds.now i.decomposition.now i.base i.center list.old bytes.now).list }
 {
-    let started = start(
-        views,
-        options,
-        tilt_x_seeds,
-        tilt_y_seeds,
-        decomposition,
-        base,
-        center,
-        list,
-    );
-    match started {
-        Started::Refused(number) => Resumed::Refused(number),
-        Started::Accepted(run) => resumed(walk(run, bytes, list), bytes),
-    }
+    let run = start(inputs, list)?;
+    Ok(resumed(walk(run, bytes, list), bytes))
 }

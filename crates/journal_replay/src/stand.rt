@@ -1,6 +1,7 @@
 // A line beside the run: what of it must be the run's own, bit by bit, and what it records that can stand for an answer.
 
-ghost use Rattle.std.specs.Prelude.{◌≡◌, ◌&&◌};
+ghost use Rattle.std.specs.Prelude.{◌≡◌, ◌&&◌, map};
+ghost use Rattle.float.specs.Float.{bits_of};
 ghost use Rattle.seed_rules.specs.Layout.{six};
 ghost use Rattle.seed_rules.specs.Rules.{within};
 ghost use Rattle.score_camera.specs.Camera.{tangential_bound, valid_camera};
@@ -9,32 +10,36 @@ ghost use Rattle.journal_replay.specs.Walk.{answers_waiting};
 
 use camera_models::math::Pt2;
 use camera_tilt::sensor::ScheimpflugParams;
-use journal_line::outcome::scoring_in;
 use journal_line::{Line, Recorded, ScoredFields};
 use score_camera::penalties::candidate_score;
 use score_camera::pinhole::{PinholeCamera, validate_camera};
+use score_outcome::Scoring;
 use search_record::run::Run;
 use seed_rules::CandidateSeed;
 
 // The same bits; any NaN is any other.
+#[tactic(auto, unfolding(crate::specs::Stand::same_real))]
 fn is_same_real(x: f64, y: f64) -> bool
     ensures { result ≡ same_real x y }
 {
     float::to_bits(x) == float::to_bits(y)
 }
 
+// The bits of the six numbers, any NaN as one.
+fn bits_of(seed: CandidateSeed) -> [u64; 6]
+    ensures { result ≡ map bits_of (six seed) }
+{
+    <[f64; 6]>::from(seed).map(float::to_bits)
+}
+
 fn is_same_seed(a: CandidateSeed, b: CandidateSeed) -> bool
     ensures { result ≡ same_reals (six a) (six b) }
 {
-    is_same_real(a.reference_k.fx, b.reference_k.fx)
-        & is_same_real(a.reference_k.fy, b.reference_k.fy)
-        & is_same_real(a.reference_k.cx, b.reference_k.cx)
-        & is_same_real(a.reference_k.cy, b.reference_k.cy)
-        & is_same_real(a.sensor.tilt_x, b.sensor.tilt_x)
-        & is_same_real(a.sensor.tilt_y, b.sensor.tilt_y)
+    bits_of(a) == bits_of(b)
 }
 
 // At most 0.05 in size.
+#[tactic(auto, unfolding(seed_rules::specs::Rules::within))]
 fn is_damped(p: f64) -> bool
     ensures { result ≡ within tangential_bound p }
 {
@@ -42,6 +47,7 @@ fn is_damped(p: f64) -> bool
 }
 
 // A finite number that isn't below 0.
+#[tactic(auto, unfolding(crate::specs::Stand::is_mean))]
 fn is_mean(x: f64) -> bool
     ensures { result ≡ is_mean x }
 {
@@ -55,11 +61,13 @@ fn passes_check(camera: PinholeCamera, p1: f64, p2: f64) -> bool
     validate_camera(camera) & is_damped(p1) & is_damped(p2)
 }
 
+// Kept: centre and tilts are two parameters: the centre is the run's, the tilts are each seed's, and no value has just these two.
 // What a scored line records: Answer's camera check, damped tangential coefficients, a mean, and the very score that Answer would work out from it.
+#[tactic(auto, unfolding(crate::specs::Stand::can_be_scored))]
 fn can_be_scored(center: Pt2, sensor: ScheimpflugParams, fields: ScoredFields) -> bool
     ensures { result ≡ can_be_scored center sensor fields }
 {
-    let camera = scoring_in(fields).camera;
+    let camera = Scoring::from(fields).camera;
     passes_check(camera, fields.p1, fields.p2)
         & is_mean(fields.mean)
         & is_same_real(
@@ -73,12 +81,13 @@ fn can_stand(center: Pt2, sensor: ScheimpflugParams, outcome: Recorded) -> bool
     ensures { result ≡ can_stand center sensor outcome }
 {
     match outcome {
-        Recorded::Scored(fields) => can_be_scored(center, sensor, fields),
-        Recorded::Skipped(_) => true,
+        Ok(fields) => can_be_scored(center, sensor, fields),
+        Err(_) => true,
     }
 }
 
 // The line can be the answer to the seed that waits: number, round and seed are the run's own.
+#[tactic(auto, unfolding(crate::specs::Walk::answers_waiting))]
 pub fn answers_waiting(run: Run, line: Line) -> bool
     ensures { result ≡ answers_waiting run line }
 {

@@ -1,10 +1,11 @@
 // The walk over a journal's lines, from a run and its lent list on.
 
 ghost use Rattle.std.specs.Prelude.{◌≡◌, ◌*◌, ◌≤◌, length};
-ghost use Rattle.journal_replay.specs.Walk.{is_candidate, is_taken, run_taken, list_taken, walk_of, walked_as};
+ghost use Rattle.journal_replay.specs.Walk.{is_candidate, run_taken, list_taken, walk_of, walked_as};
 
 use crate::stand::answers_waiting;
 use crate::{Stop, Walked};
+use common::Refusal;
 use journal_bytes::reading::read_line;
 use journal_line::outcome::outcome_in;
 use journal_line::{Line, Read};
@@ -12,42 +13,27 @@ use search_answer::enter;
 use search_calls::next::{Handed, next};
 use search_record::run::Run;
 
-// A line that was taken, and the run after it; or one that wasn't, and the run as it was.
-#[derive(Clone, Copy)]
-pub struct Taken {
-    pub ok: bool,
-    pub run: Run,
-}
-
 // Whether Next handed out a seed.
-fn is_candidate(reply: Handed) -> bool
+fn is_candidate(reply: Result<Handed, Refusal>) -> bool
     ensures { result ≡ is_candidate reply }
 {
-    match reply {
-        Handed::Candidate(_) => true,
-        Handed::Over => false,
-        Handed::Refused(_) => false,
-    }
+    matches!(reply, Ok(Handed::Candidate(_)))
 }
 
-// Takes the line for the answer to the seed that Next hands out, if it can be.
-fn take_line(run: Run, list: &mut [f64], line: Line) -> Taken
-    ensures ok_value { (result.ok ≡ is_taken run list.old line) × (result.run ≡ run_taken run list.old line) }
+// Takes the line for the answer to the seed that Next hands out, if it can be, and returns the run after it.
+fn take_line(run: Run, list: &mut [f64], line: Line) -> Option<Run>
+    ensures value { result ≡ run_taken run list.old line }
     ensures list_after { list.new ≡ list_taken run list.old line }
 {
-    let handed = next(run, list);
-    let reply = handed.reply;
-    if !(is_candidate(reply) & answers_waiting(handed.run, line)) {
-        return Taken { ok: false, run };
+    let next = next(run, list);
+    if !(is_candidate(next.reply) & answers_waiting(next.run, line)) {
+        return None;
     }
-    let outcome = line.outcome;
-    Taken {
-        ok: true,
-        run: enter(handed.run, list, outcome_in(outcome)),
-    }
+    Some(enter(next.run, list, outcome_in(line.outcome)))
 }
 
 // Takes line after line, as long as they can be.
+// Kept: a loop: it ends in three ways, each with its own reason, and the place stays before a line that isn't taken.
 pub fn walk(mut run: Run, bytes: &[u8], list: &mut [f64]) -> Walked
     ensures walked { result ≡ walked_as (walk_of run list.old bytes.now) }
     ensures written { list.new ≡ (walk_of run list.old bytes.now).list }
@@ -55,39 +41,24 @@ pub fn walk(mut run: Run, bytes: &[u8], list: &mut [f64]) -> Walked
 {
     let mut lines = 0;
     let mut at = 0;
-    loop {
-        let read = read_line(bytes, at);
-        match read {
+    let stop = loop {
+        match read_line(bytes, at) {
             Read::Got(line, behind) => {
-                let taken = take_line(run, list, line);
-                if !taken.ok {
-                    return Walked {
-                        run,
-                        lines,
-                        bytes: at,
-                        stop: Stop::NotTheRun,
-                    };
-                }
-                run = taken.run;
+                let Some(after) = take_line(run, list, line) else {
+                    break Stop::NotTheRun;
+                };
+                run = after;
                 at = behind;
                 lines += 1;
             }
-            Read::Refused(_, _) => {
-                return Walked {
-                    run,
-                    lines,
-                    bytes: at,
-                    stop: Stop::NotOfForm,
-                };
-            }
-            Read::End => {
-                return Walked {
-                    run,
-                    lines,
-                    bytes: at,
-                    stop: Stop::AllTaken,
-                };
-            }
+            Read::NotOfForm(_) => break Stop::NotOfForm,
+            Read::End => break Stop::AllTaken,
         }
+    };
+    Walked {
+        run,
+        lines,
+        bytes: at,
+        stop,
     }
 }

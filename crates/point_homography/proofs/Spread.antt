@@ -1,11 +1,12 @@
 -- The theorems on specs/Spread.antt: what the rows' refusals let pass is spread out enough to be normalised. Assumes nothing.
-use Rattle.std.specs.Prelude.{◌≡◌, false, ℕ, ◌≤◌, length, Float}
+use Rattle.std.specs.Prelude.{◌≡◌, false, ℕ, ◌≤◌, length, Float, Ok}
 use Rattle.std.proofs.Common.{sym, ◌∙◌, arith, ne_eqb}
 use Rattle.std.proofs.Math.Bool.{true≢false}
 use mathlib.Core.List.{List, [], ◌∷◌, ◌++◌}
 use Rattle.std.specs.Float.Ieee.{le}
-use Rattle.common.specs.Refusal.{◌when◌, first_refusal}
-use Rattle.common.specs.RefusalLaws.{refuses_no_more}
+use Rattle.common.specs.declared.Refusal.{Refusal}
+use Rattle.common.specs.Checks.{◌when◌, first_refusal}
+use Rattle.common.specs.ChecksLaws.{refuses_no_more}
 use Rattle.common.specs.Tests.{case}
 use Rattle.camera_models.specs.declared.math.Pt2.{Pt2}
 use Rattle.point_normalise.specs.Linalg.{epsilon, mean_distance, centroid_of, degenerate}
@@ -24,13 +25,13 @@ module _ (s : List Float) (n : 6 ≤ length s) (m : length s ≤ 800) where
   not_degenerate h = rw (ne_eqb (length s) 0 (λ e. omega arith), mean_above (centroid_of s) h)
 
 -- ---- Rows: what its refusals let pass is normalised, the source points and the destination points alike
-pub normalised : (src dst : List Float) (room : ℕ) → rows_refusal src dst room ≡ 0 → (degenerate src ≡ false) × (degenerate dst ≡ false)
+pub normalised : (src dst : List Float) (room : ℕ) → rows_refusal src dst room ≡ Ok tt → (degenerate src ≡ false) × (degenerate dst ≡ false)
 normalised src dst room h =
     let f : Fine src dst room = fine src dst room h in (
       not_degenerate src (omega (arith, f.least)) f.source f.source_off,
       not_degenerate dst (omega (arith, f.least, f.count)) (omega (arith, f.source, f.count)) f.target_off,
     )
 
--- so the Rust's two checks after its line tests, with whatever number, refuse nothing
-pub checks_refuse_nothing : (n : ℕ) (src dst : List Float) (room : ℕ) → first_refusal (design_conditions src dst room ++ (n when degenerate src) ∷ (n when degenerate dst) ∷ []) ≡ rows_refusal src dst room
-checks_refuse_nothing n src dst room = refuses_no_more (design_conditions src dst room) ((n when degenerate src) ∷ (n when degenerate dst) ∷ []) (λ h. let f = normalised src dst room h in rw (f.0, f.1))
+-- so the Rust's two checks after its line tests, with whatever refusal, refuse nothing
+pub checks_refuse_nothing : (r : Refusal) (src dst : List Float) (room : ℕ) → first_refusal (design_conditions src dst room ++ (r when degenerate src) ∷ (r when degenerate dst) ∷ []) ≡ rows_refusal src dst room
+checks_refuse_nothing r src dst room = refuses_no_more (design_conditions src dst room) ((r when degenerate src) ∷ (r when degenerate dst) ∷ []) (λ h. let f = normalised src dst room h in rw (f.0, f.1))

@@ -1,21 +1,21 @@
 -- The rows of the homography's design matrix, for points normalised as in Hartley's method. Definitions only.
-use Rattle.std.specs.Prelude.{ℕ, ◌*◌, Bool, not, cond, List, [], ◌∷◌, ◌++◌, eqb, ltb, length, drop, Float}
+use Rattle.std.specs.Prelude.{ℕ, ◌*◌, Bool, not, List, [], ◌∷◌, ◌++◌, eqb, ltb, length, drop, Float, Result, Ok, Err, ⊤}
 use Rattle.std.specs.Float.Ieee.{neg}
-use Rattle.common.specs.Each.{every}
-use Rattle.common.specs.Refusal.{Check, ◌when◌, first_refusal}
+use Rattle.std.specs.List.{list_all}
+use Rattle.common.specs.declared.Refusal.{Refusal}
+use Rattle.common.specs.declared.Refusal.TheVariants.{BadLength, NoRoom, SourceNotFinite, DestinationNotFinite, TooFewPoints, CountsDiffer, SourceCollinear, DestinationCollinear}
+use Rattle.common.specs.Checks.{Check, ◌when◌, first_refusal}
 use Rattle.float.specs.Binary64.{◌*₆₄◌}
 use Rattle.float.specs.Float.{is_finite}
 use Rattle.float.specs.Literals.{plus_zero, one₆₄}
 use Rattle.camera_models.specs.declared.math.Pt2.{Pt2}
 use Rattle.point_normalise.specs.declared.linalg.Similarity.{Similarity}
-use Rattle.point_homography.specs.declared.Rows.{Rows}
-use Rattle.point_homography.specs.declared.Rows.TheVariants.{Written, Refused}
 use Rattle.point_normalise.specs.Points.{each_pair, bad_length}
 use Rattle.point_normalise.specs.Linalg.{move_by, similarity_of}
 use Rattle.point_homography.specs.Line.{collinear_of}
 
 abbrev pub all_finite : List Float → Bool
-all_finite s = every is_finite s
+all_finite s = list_all is_finite s
 
 -- -1
 abbrev pub minus_one : Float
@@ -58,34 +58,34 @@ moved_rows ts td p q = pair_rows (move_by ts p) (move_by td q)
 abbrev pub design_rows : Similarity → Similarity → List Float → List Float → List Float
 design_rows ts td src dst = each_pair (moved_rows ts td) src dst
 
--- ---- the refusals: 17 for either list; 18 for less room than 18 numbers a source point; 20, 21 a number that isn't finite;
--- 22 fewer than 4 source points; 23 counts that differ; 24, 25 collinear points
+-- ---- the refusals: a bad length of either list; less room than 18 numbers a source point; a number that isn't finite;
+-- fewer than 4 source points; counts that differ; collinear points
 abbrev pub place_conditions : List Float → List Float → List Check
 place_conditions src dst =
-    (22 when ltb (length src) 8)
-    ∷ (23 when not (eqb (length dst) (length src)))
-    ∷ (24 when collinear_of src)
-    ∷ (25 when collinear_of dst)
+    (TooFewPoints when ltb (length src) 8)
+    ∷ (CountsDiffer when not (eqb (length dst) (length src)))
+    ∷ (SourceCollinear when collinear_of src)
+    ∷ (DestinationCollinear when collinear_of dst)
     ∷ []
 
 abbrev pub design_conditions : List Float → List Float → ℕ → List Check
 design_conditions src dst room =
-    (17 when bad_length (length src))
-    ∷ (17 when bad_length (length dst))
-    ∷ (18 when ltb room (9 * length src))
-    ∷ (20 when not (all_finite src))
-    ∷ (21 when not (all_finite dst))
+    (BadLength when bad_length (length src))
+    ∷ (BadLength when bad_length (length dst))
+    ∷ (NoRoom when ltb room (9 * length src))
+    ∷ (SourceNotFinite when not (all_finite src))
+    ∷ (DestinationNotFinite when not (all_finite dst))
     ∷ place_conditions src dst
 
-abbrev pub rows_refusal : List Float → List Float → ℕ → ℕ
+abbrev pub rows_refusal : List Float → List Float → ℕ → Result ⊤ Refusal
 rows_refusal src dst room = first_refusal (design_conditions src dst room)
 
-unfoldable pub rows_reply : List Float → List Float → ℕ → Rows
+unfoldable pub rows_reply : List Float → List Float → ℕ → Result ⊤ Refusal
 unfolding collinear_of
-rows_reply src dst room = let n = rows_refusal src dst room in cond (eqb n 0) Written (Refused n)
+rows_reply src dst room = rows_refusal src dst room
 
 -- the rows at the front, and the rest as it was; nothing is written on a refusal
 unfoldable pub rows_into : List Float → List Float → List Float → List Float
 unfolding collinear_of similarity_of
 rows_into src dst a =
-    let w = design_rows (similarity_of src) (similarity_of dst) src dst in cond (eqb (rows_refusal src dst (length a)) 0) (w ++ drop (length w) a) a
+    let w = design_rows (similarity_of src) (similarity_of dst) src dst in elim (rows_refusal src dst (length a)) [ Ok _ ↦ w ++ drop (length w) a | Err _ ↦ a ]

@@ -1,37 +1,47 @@
 -- What Rows refuses, and how its rows are written, pair by pair. Assumes nothing.
-use Rattle.std.specs.Prelude.{◌≡◌, refl, false, not, List, ◌++◌, ℕ, ◌+◌, ◌*◌, ◌/◌, ◌≤◌, ◌<◌, eqb, ltb, length, drop, Float}
+use Rattle.std.specs.Prelude.{◌≡◌, refl, false, not, List, ◌++◌, ℕ, ◌+◌, ◌*◌, ◌/◌, ◌≤◌, ◌<◌, eqb, ltb, length, drop, Float, Result, Ok, Err, ⊤}
 use Rattle.std.proofs.Common.{sym, ap, ◌∙◌, arith}
-use borrow.Author.Tests.{ltb-false, eqb-true, ne_eqb, not-false}
+use borrow.Author.Tests.{ltb-false, eqb-true, not-false}
 use Rattle.std.proofs.lemmas.List.Edits.{sets}
-use Rattle.common.specs.Refusal.{first_refusal}
-use Rattle.common.specs.RefusalLaws.{refuses_none}
+use Rattle.common.specs.declared.Refusal.{Refusal}
+use Rattle.common.specs.declared.Refusal.TheVariants.{BadLength, NoRoom, SourceNotFinite, DestinationNotFinite, TooFewPoints, CountsDiffer, SourceCollinear, DestinationCollinear}
+use Rattle.common.specs.Checks.{first_refusal}
+use Rattle.common.specs.ChecksLaws.{refuses_none}
 use Rattle.camera_models.specs.declared.math.Pt2.{Pt2}
 use Rattle.point_normalise.specs.declared.linalg.Similarity.{Similarity}
-use Rattle.point_homography.specs.declared.Rows.TheVariants.{Written, Refused}
 use Rattle.point_normalise.specs.Points.{point_at, bad_length}
 use Rattle.point_normalise.specs.Linalg.{move_by, similarity_of}
 use Rattle.point_normalise.specs.Hartley.{good_length}
 use Rattle.point_homography.specs.Line.{collinear_of}
 use Rattle.point_homography.specs.Rows.{all_finite, pair_rows, moved_rows, design_rows, design_conditions, rows_refusal, rows_reply, rows_into}
-use Rattle.point_normalise.specs.Walk.{pair_next, pair_length, sets_append}
+use Rattle.point_normalise.specs.Walk.{pair_next, pair_chunk, pair_length, sets_append}
 
 eighteen : (p q : Pt2) → length (pair_rows p q) ≡ 18
 unfolding pair_rows
 eighteen p q = refl
 
-module _ (ts td : Similarity) (src dst : List Float) where
-  pub rows_length : length dst ≡ length src → length (design_rows ts td src dst) ≡ length src / 2 * 18
-  rows_length = pair_length (moved_rows ts td) 18 (λ p q. eighteen (move_by ts p) (move_by td q)) src dst
+module _ (ts td : Similarity) where
+  pub rows_length : (src dst : List Float) → length dst ≡ length src → length (design_rows ts td src dst) ≡ length src / 2 * 18
+  rows_length = pair_length (moved_rows ts td) 18 (λ p q. eighteen (move_by ts p) (move_by td q))
 
   -- one pair further
-  pub rows_next : (a : List Float) (i : ℕ) → i + 1 < length src → i + 1 < length dst
+  pub rows_next : (src dst a : List Float) (i : ℕ) → i + 1 < length src → i + 1 < length dst
       → sets (sets a (9 * i) (moved_rows ts td (point_at src i) (point_at dst i))) (9 * (i + 2)) (design_rows ts td (drop (i + 2) src) (drop (i + 2) dst)) ≡ sets a (9 * i) (design_rows ts td (drop i src) (drop i dst))
-  rows_next a i h k =
+  rows_next src dst a i h k =
       let v = moved_rows ts td (point_at src i) (point_at dst i) in
       let w = design_rows ts td (drop (i + 2) src) (drop (i + 2) dst) in
       let n : length v ≡ 18 = eighteen (move_by ts (point_at src i)) (move_by td (point_at dst i)) in
       let e : 9 * (i + 2) ≡ 9 * i + length v = omega arith in
       ap (λ (j : ℕ). sets (sets a (9 * i) v) j w) e ∙ sym (sets_append a (9 * i) v w) ∙ ap (sets a (9 * i)) (sym (pair_next (moved_rows ts td) src dst i h k))
+
+  -- one pair of chunks further
+  pub rows_chunk : (a : List Float) (i : ℕ) (p s q d : List Float) → length p ≡ 2 → length q ≡ 2
+      → sets (sets a (18 * i) (moved_rows ts td (point_at p 0) (point_at q 0))) (18 * (i + 1)) (design_rows ts td s d) ≡ sets a (18 * i) (design_rows ts td (p ++ s) (q ++ d))
+  rows_chunk a i p s q d h k =
+      let v = moved_rows ts td (point_at p 0) (point_at q 0) in
+      let n : length v ≡ 18 = eighteen (move_by ts (point_at p 0)) (move_by td (point_at q 0)) in
+      let e : 18 * (i + 1) ≡ 18 * i + length v = omega arith in
+      ap (λ (j : ℕ). sets (sets a (18 * i) v) j (design_rows ts td s d)) e ∙ sym (sets_append a (18 * i) v (design_rows ts td s d)) ∙ ap (sets a (18 * i)) (sym (pair_chunk (moved_rows ts td) p s q d h k))
 
 -- ---- what no refusal says of the lists
 pub record Fine (src dst : List Float) (room : ℕ) : Type 0 where
@@ -43,17 +53,17 @@ pub record Fine (src dst : List Float) (room : ℕ) : Type 0 where
   pub source_off : collinear_of src ≡ false
   pub target_off : collinear_of dst ≡ false
 
-pub fine : (src dst : List Float) (room : ℕ) → rows_refusal src dst room ≡ 0 → Fine src dst room
+pub fine : (src dst : List Float) (room : ℕ) → rows_refusal src dst room ≡ Ok tt → Fine src dst room
 fine src dst room h0 =
-    let h1 = refuses_none (bad_length (length src)) 17 (from 1) (omega arith) h0 in
-    let h2 = refuses_none (bad_length (length dst)) 17 (from 2) (omega arith) h1.1 in
-    let h3 = refuses_none (ltb room (9 * length src)) 18 (from 3) (omega arith) h2.1 in
-    let h4 = refuses_none (not (all_finite src)) 20 (from 4) (omega arith) h3.1 in
-    let h5 = refuses_none (not (all_finite dst)) 21 (from 5) (omega arith) h4.1 in
-    let h6 = refuses_none (ltb (length src) 8) 22 (from 6) (omega arith) h5.1 in
-    let h7 = refuses_none (not (eqb (length dst) (length src))) 23 (from 7) (omega arith) h6.1 in
-    let h8 = refuses_none (collinear_of src) 24 (from 8) (omega arith) h7.1 in
-    let h9 = refuses_none (collinear_of dst) 25 (from 9) (omega arith) h8.1 in
+    let h1 = refuses_none (bad_length (length src)) BadLength (from 1) h0 in
+    let h2 = refuses_none (bad_length (length dst)) BadLength (from 2) h1.1 in
+    let h3 = refuses_none (ltb room (9 * length src)) NoRoom (from 3) h2.1 in
+    let h4 = refuses_none (not (all_finite src)) SourceNotFinite (from 4) h3.1 in
+    let h5 = refuses_none (not (all_finite dst)) DestinationNotFinite (from 5) h4.1 in
+    let h6 = refuses_none (ltb (length src) 8) TooFewPoints (from 6) h5.1 in
+    let h7 = refuses_none (not (eqb (length dst) (length src))) CountsDiffer (from 7) h6.1 in
+    let h8 = refuses_none (collinear_of src) SourceCollinear (from 8) h7.1 in
+    let h9 = refuses_none (collinear_of dst) DestinationCollinear (from 9) h8.1 in
     record {
       even = h1.0;
       source = good_length (length src) h1.0;
@@ -64,16 +74,16 @@ fine src dst room h0 =
       target_off = h9.0;
     }
   where
-    from : ℕ → ℕ
+    from : ℕ → Result ⊤ Refusal
     from k = first_refusal (drop k (design_conditions src dst room))
 
 -- ---- the reply, and what is written
 module _ (src dst a : List Float) where
-  pub refused : (n : ℕ) → rows_refusal src dst (length a) ≡ n → (n ≡ 0 → ⊥) → (Refused n ≡ rows_reply src dst (length a)) × (a ≡ rows_into src dst a)
+  pub refused : (r : Refusal) → rows_refusal src dst (length a) ≡ Err r → (Err r ≡ rows_reply src dst (length a)) × (a ≡ rows_into src dst a)
   unfolding rows_reply rows_into
-  refused n e h = let f = ne_eqb n 0 h in (rw (e, f), rw (e, f))
+  refused r e = (sym e, rw (e, rows_into))
 
-  pub written : rows_refusal src dst (length a) ≡ 0
-      → (Written ≡ rows_reply src dst (length a)) × ((let w = design_rows (similarity_of src) (similarity_of dst) src dst in w ++ drop (length w) a) ≡ rows_into src dst a)
+  pub written : rows_refusal src dst (length a) ≡ Ok tt
+      → (Ok tt ≡ rows_reply src dst (length a)) × ((let w = design_rows (similarity_of src) (similarity_of dst) src dst in w ++ drop (length w) a) ≡ rows_into src dst a)
   unfolding rows_reply rows_into
-  written e = (rw e, rw e)
+  written e = (sym e, rw (e, rows_into))

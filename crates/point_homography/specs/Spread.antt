@@ -1,6 +1,6 @@
 -- Normalising after the line test. Of 3 to 400 points whose mean distance from some point is at most 2^-52 the line test says that they are collinear. So where it
 -- says that they aren't, normalising doesn't fail. Nothing is asked of the numbers: what isn't finite, and what overflows, is included. Assumes nothing.
-use Rattle.std.specs.Prelude.{◌≡◌, refl, Bool, true, false, not, ℕ, ◌/◌, ◌≤◌, pos, length, Float}
+use Rattle.std.specs.Prelude.{◌≡◌, refl, Bool, true, false, not, ℕ, ◌/◌, ◌≤◌, pos, length, Float, Option, Some, None}
 use Rattle.std.proofs.Common.{sym, ap, ◌∙◌, zero-lt-suc, arith, le-ltb}
 use Rattle.std.proofs.Math.Bool.{true≢false}
 use mathlib.Core.List.{List, [], ◌∷◌}
@@ -16,8 +16,6 @@ use Rattle.camera_models.specs.declared.math.Pt2.{Pt2}
 use Rattle.point_normalise.specs.Points.{fold_points, find_point, count_of, distance_of}
 use Rattle.point_normalise.specs.MeanDistance.{sign_distance, sign_mean}
 use Rattle.point_normalise.specs.Linalg.{epsilon, add_distance, mean_distance, centroid_of, degenerate}
-use Rattle.point_homography.specs.declared.Distinct.{Distinct}
-use Rattle.point_homography.specs.declared.Distinct.TheVariants.{Point, Nothing}
 use Rattle.point_homography.specs.Line.{least_distance, least_cross, far_from, cross_of, off_line, along, collinear_of}
 use Rattle.float_laws.specs.Reaches.{Reaches, not_below, Below, below_back, below_of_le, zero_reached, round_reaches, mul_reaches, div_reaches, add_reaches, sub_reaches, squares_reach}
 use Rattle.root.proofs.RootReaches.{root_reaches}
@@ -136,7 +134,7 @@ close_collinear c (x ∷ y ∷ s) n h =
     let l = x ∷ y ∷ s in
     let p0 : Pt2 = record { x = x; y = y } in
     rw (le-ltb (length l) 6 n)
-    (find_holds (Close c) (far_from p0) Point Nothing (λ (d : Distinct). along p0 d l ≡ true) refl
+    (find_holds (Close c) (far_from p0) Some None (λ (d : Option Pt2). along p0 d l ≡ true) refl
     (λ p1 h1 t1. ap not (find_holds (Close c) (off_line p0 p1) (λ p. true) false (λ (b : Bool). b ≡ false) refl (λ p2 h2 t2. absurd (not_off c p0 p1 p2 h.0 h1 h2 t2)) l h))
     s h.1)
 

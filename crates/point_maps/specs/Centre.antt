@@ -1,13 +1,13 @@
 -- The centre of the observed pixels. Definitions only.
-use Rattle.std.specs.Prelude.{◌%◌, Bool, ◌&&◌, cond, List, eqb, length, Float}
+use Rattle.std.specs.Prelude.{◌%◌, Bool, ◌&&◌, cond, List, eqb, length, Result, Ok, Err, Float}
 use Rattle.std.specs.Float.Ieee.{neg, le}
+use Rattle.common.specs.declared.Refusal.{Refusal}
+use Rattle.common.specs.declared.Refusal.TheVariants.{BadLength}
 use Rattle.float.specs.Binary64.{◌+₆₄◌, ◌*₆₄◌}
 use Rattle.float.specs.Float.{is_finite, min_of, max_of}
 use Rattle.float.specs.Literals.{plus_zero, infinity, half₆₄}
 use Rattle.camera_models.specs.declared.math.Pt2.{Pt2}
 use Rattle.point_maps.specs.declared.centre.Extent.{Extent}
-use Rattle.point_maps.specs.declared.centre.Center.{Center}
-use Rattle.point_maps.specs.declared.centre.Center.TheVariants.{At, Refused}
 use Rattle.point_normalise.specs.Points.{fold_points}
 
 -- A pixel counts if both coordinates are finite. Of equal ones, so also of two zeros, the first is kept.
@@ -38,7 +38,7 @@ center_of e =
     (record { x = half₆₄ *₆₄ (e.min_x +₆₄ e.max_x); y = half₆₄ *₆₄ (e.min_y +₆₄ e.max_y) }))
     (record { x = plus_zero; y = plus_zero })
 
--- 17 for an odd length
-unfoldable pub center_reply : List Float → Center
+-- an odd length is refused
+unfoldable pub center_reply : List Float → Result Pt2 Refusal
 unfolding center_of extent_of
-center_reply s = cond (eqb (length s % 2) 0) (At (center_of (extent_of s))) (Refused 17)
+center_reply s = cond (eqb (length s % 2) 0) (Ok (center_of (extent_of s))) (Err BadLength)

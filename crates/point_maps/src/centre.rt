@@ -8,6 +8,7 @@ ghost use Rattle.float.specs.Literals.{plus_zero, half₆₄};
 ghost use Rattle.point_maps.specs.Centre.{widen, extent_of, finite_extent, center_of, center_reply};
 
 use camera_models::math::Pt2;
+use common::Refusal;
 use point_normalise::linalg;
 
 // The least and the greatest coordinates.
@@ -17,13 +18,6 @@ pub struct Extent {
     pub min_y: f64,
     pub max_x: f64,
     pub max_y: f64,
-}
-
-#[derive(Clone, Copy)]
-pub enum Center {
-    At(Pt2),
-    // 17
-    Refused(u8),
 }
 
 fn both_finite(x: f64, y: f64) -> bool
@@ -51,18 +45,15 @@ fn extent_of(pixels: &[f64]) -> Extent
     ensures { result ≡ extent_of pixels.now }
 {
     let infinity = 1.0 / 0.0;
-    let mut e = Extent {
+    let none = Extent {
         min_x: infinity,
         min_y: infinity,
         max_x: -infinity,
         max_y: -infinity,
     };
-    let mut i = 0;
-    while i + 1 < pixels.len() {
-        e = widened(e, linalg::point_at(pixels, i));
-        i += 2;
-    }
-    e
+    pixels
+        .chunks_exact(2)
+        .fold(none, |e, xy| widened(e, linalg::point_at(xy, 0)))
 }
 
 fn all_finite(e: Extent) -> bool
@@ -87,6 +78,7 @@ fn middle(e: Extent) -> Pt2
 }
 
 // Half the greatest coordinates if none is negative, else the middle of the range.
+#[tactic(auto, unfolding(crate::specs::Centre::center_of))]
 fn center_of(e: Extent) -> Pt2
     ensures { result ≡ center_of e }
 {
@@ -99,14 +91,15 @@ fn center_of(e: Extent) -> Pt2
         }
         return middle(e);
     }
-    Pt2 { x: 0.0, y: 0.0 }
+    Pt2::default()
 }
 
-pub fn observed_pixel_center(pixels: &[f64]) -> Center
+#[tactic(auto, unfolding(crate::specs::Centre::center_reply))]
+pub fn observed_pixel_center(pixels: &[f64]) -> Result<Pt2, Refusal>
     ensures { result ≡ center_reply pixels.now }
 {
     if pixels.len() % 2 != 0 {
-        return Center::Refused(17);
+        return Err(Refusal::BadLength);
     }
-    Center::At(center_of(extent_of(pixels)))
+    Ok(center_of(extent_of(pixels)))
 }

@@ -1,5 +1,6 @@
 pub mod Points
 pub mod Walk
+pub mod Chunks
 pub mod Linalg
 pub mod Hartley
 pub mod MeanDistance

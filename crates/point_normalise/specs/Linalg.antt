@@ -1,17 +1,16 @@
 -- Hartley's normalisation of points: the centroid goes to the origin, and the mean distance from it becomes √2. Each operation is rounded. Definitions only.
-use Rattle.std.specs.Prelude.{ℕ, Bool, ◌||◌, cond, List, [], ◌∷◌, ◌++◌, eqb, ltb, length, drop, Float}
+use Rattle.std.specs.Prelude.{ℕ, Bool, ◌||◌, cond, List, [], ◌∷◌, ◌++◌, eqb, ltb, length, drop, Float, Option, Some, None, Result, Ok, Err, ⊤}
 use Rattle.std.specs.Float.{binary64}
 use Rattle.std.specs.Float.Ieee.{of_bits, neg, le}
-use Rattle.common.specs.Refusal.{◌when◌, first_refusal}
+use Rattle.common.specs.declared.Refusal.{Refusal}
+use Rattle.common.specs.declared.Refusal.TheVariants.{BadLength, NoRoom, NoSpread}
+use Rattle.common.specs.Checks.{◌when◌, first_refusal}
 use Rattle.float.specs.Binary64.{◌+₆₄◌, ◌-₆₄◌, ◌*₆₄◌, ◌/₆₄◌}
 use Rattle.float.specs.Literals.{plus_zero, two₆₄}
 use Rattle.root.specs.Root.{root}
 use Rattle.camera_models.specs.declared.math.Pt2.{Pt2}
 use Rattle.point_normalise.specs.declared.linalg.Similarity.{Similarity}
-use Rattle.point_normalise.specs.declared.linalg.Normalizer.{Normalizer}
-use Rattle.point_normalise.specs.declared.linalg.Normalizer.TheVariants.{Found, Degenerate}
-use Rattle.point_normalise.specs.declared.linalg.Normalized.{Normalized}
-use Rattle.point_normalise.specs.declared.linalg.Normalized.TheVariants.{Transform, Refused}
+use Rattle.point_normalise.specs.declared.linalg.Transform.{Transform}
 use Rattle.point_normalise.specs.Points.{fold_points, each_point, count_of, bad_length, distance_of}
 
 -- 2^-52
@@ -46,9 +45,9 @@ unfoldable pub similarity_of : List Float → Similarity
 unfolding mean_distance centroid_of
 similarity_of s = let c = centroid_of s in scaled_to c (mean_distance c s)
 
-unfoldable pub hartley_of : List Float → Normalizer
+unfoldable pub hartley_of : List Float → Option Similarity
 unfolding degenerate similarity_of
-hartley_of s = cond (degenerate s) Degenerate (Found (similarity_of s))
+hartley_of s = cond (degenerate s) None (Some (similarity_of s))
 
 abbrev pub move_by : Similarity → Pt2 → Pt2
 move_by t p = record { x = (p.x -₆₄ t.cx) *₆₄ t.scale; y = (p.y -₆₄ t.cy) *₆₄ t.scale }
@@ -59,20 +58,20 @@ move_xy t p = (move_by t p).x ∷ (move_by t p).y ∷ []
 abbrev pub move_points : Similarity → List Float → List Float
 move_points t s = each_point (move_xy t) s
 
--- ---- Normalise: 17, 18 where the destination has no room for the points, 19
-unfoldable pub normalize_refusal : List Float → ℕ → ℕ
+-- ---- Normalise: a bad length; a destination with no room for the points; points with no spread
+unfoldable pub normalize_refusal : List Float → ℕ → Result ⊤ Refusal
 unfolding degenerate
-normalize_refusal s room = first_refusal ((17 when bad_length (length s)) ∷ (18 when ltb room (length s)) ∷ (19 when degenerate s) ∷ [])
+normalize_refusal s room = first_refusal ((BadLength when bad_length (length s)) ∷ (NoRoom when ltb room (length s)) ∷ (NoSpread when degenerate s) ∷ [])
 
 -- the matrix (scale, 0, -scale cx; 0, scale, -scale cy; 0, 0, 1)
-abbrev pub transform_of : Similarity → Normalized
-transform_of t = Transform t.scale (neg t.scale *₆₄ t.cx) (neg t.scale *₆₄ t.cy)
+abbrev pub transform_of : Similarity → Transform
+transform_of t = record { t00 = t.scale; t02 = neg t.scale *₆₄ t.cx; t12 = neg t.scale *₆₄ t.cy }
 
-unfoldable pub normalize_reply : List Float → ℕ → Normalized
+unfoldable pub normalize_reply : List Float → ℕ → Result Transform Refusal
 unfolding normalize_refusal similarity_of
-normalize_reply s room = let n = normalize_refusal s room in cond (eqb n 0) (transform_of (similarity_of s)) (Refused n)
+normalize_reply s room = elim (normalize_refusal s room) [ Ok _ ↦ Ok (transform_of (similarity_of s)) | Err r ↦ Err r ]
 
 -- the moved points at the front, and the rest as it was; nothing is written on a refusal
 unfoldable pub normalize_into : List Float → List Float → List Float
 unfolding normalize_refusal similarity_of
-normalize_into s dst = let w = move_points (similarity_of s) s in cond (eqb (normalize_refusal s (length dst)) 0) (w ++ drop (length w) dst) dst
+normalize_into s dst = let w = move_points (similarity_of s) s in elim (normalize_refusal s (length dst)) [ Ok _ ↦ w ++ drop (length w) dst | Err _ ↦ dst ]

@@ -6,6 +6,12 @@ use Rattle.float.specs.Binary64.{◌+₆₄◌, ◌-₆₄◌, ◌*₆₄◌}
 use Rattle.root.specs.Root.{root}
 use Rattle.camera_models.specs.declared.math.Pt2.{Pt2}
 
+-- the points
+abbrev pub points_of : List Float → List Pt2
+points_of [] = []
+points_of (x ∷ []) = []
+points_of (x ∷ y ∷ s) = record { x = x; y = y } ∷ points_of s
+
 -- from a start, one point after the other
 unfoldable pub fold_points : {A : Type 0} → (A → Pt2 → A) → A → List Float → A
 fold_points f a [] = a
@@ -40,7 +46,7 @@ point_at s i = record { x = get_or s i nan; y = get_or s (i + 1) nan }
 abbrev pub count_of : List Float → Float
 count_of s = of_int binary64 (pos (length s / 2))
 
--- 17: an odd length, or more than 400 points
+-- an odd length, or more than 400 points
 abbrev pub bad_length : ℕ → Bool
 bad_length n = not (eqb (n % 2) 0) || ltb 800 n
 

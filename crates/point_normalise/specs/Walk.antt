@@ -1,4 +1,4 @@
--- How a loop walks a list of points: what is left at an index, one point further, and at the end. Assumes nothing.
+-- The functions over a list of points: one point or one chunk further, at the end, and how many numbers they give; and numbers written one after the other. Assumes nothing.
 use Rattle.std.specs.Prelude.{◌≡◌, Bool, true, false, ℕ, suc, ◌+◌, ◌*◌, ◌/◌, ◌^◌, ◌≤◌, ◌<◌, T, pos, get_or, drop, set, Float}
 use Rattle.std.proofs.Math.Path.{refl, sym}
 use Rattle.std.proofs.Common.{ap, ◌∙◌, add-zero, zero-add, zero-mul, add_comm, suc-mul, add-one, le→leb, length-drop, drop-cons}
@@ -20,6 +20,13 @@ point_left s i h =
 
 none_left : (s : List Float) (i : ℕ) → length s ≤ i + 1 → length (drop i s) ≤ 1
 none_left s i h = rw (length-drop i s) (omega arith)
+
+-- a chunk of two numbers
+pub as_two : (v : List Float) → length v ≡ 2 → v ≡ get_or v 0 nan ∷ get_or v 1 nan ∷ []
+as_two [] h = absurd (omega arith)
+as_two (x ∷ []) h = absurd (omega arith)
+as_two (x ∷ y ∷ []) h = refl
+as_two (x ∷ y ∷ z ∷ v) h = absurd (omega arith)
 
 -- ---- fold_points
 module _ {A : Type 0} (f : A → Pt2 → A) where
@@ -60,18 +67,24 @@ one_more : (n k : ℕ) → k + n / 2 * k ≡ suc (suc n) / 2 * k
 one_more n k = let h : suc (suc n) / 2 ≡ suc (n / 2) = omega arith in rw h (sym (suc-mul (n / 2) k ∙ add_comm (n / 2 * k) k))
 
 module _ (f : Pt2 → List Float) where
+  -- the point of a chunk of two numbers, and what the rest gives
+  pub each_chunk : (v s : List Float) → length v ≡ 2 → each_point f (v ++ s) ≡ f (point_at v 0) ++ each_point f s
+  unfolding each_point
+  each_chunk v s h = rw (as_two v h)
+
+  -- one point further
   pub each_next : (s : List Float) (i : ℕ) → i + 1 < length s → each_point f (drop i s) ≡ f (point_at s i) ++ each_point f (drop (i + 2) s)
   unfolding each_point
   each_next s i h = rw (point_left s i h)
 
-  none : (s : List Float) → length s ≤ 1 → each_point f s ≡ []
+  pub each_none : (s : List Float) → length s ≤ 1 → each_point f s ≡ []
   unfolding each_point
-  none [] h = refl
-  none (x ∷ []) h = refl
-  none (x ∷ y ∷ s) h = absurd (omega arith)
+  each_none [] h = refl
+  each_none (x ∷ []) h = refl
+  each_none (x ∷ y ∷ s) h = absurd (omega arith)
 
   pub each_end : (s : List Float) (i : ℕ) → length s ≤ i + 1 → each_point f (drop i s) ≡ []
-  each_end s i h = none (drop i s) (none_left s i h)
+  each_end s i h = each_none (drop i s) (none_left s i h)
 
   -- k numbers for each point
   pub each_length : (k : ℕ) → ((p : Pt2) → length (f p) ≡ k) → (s : List Float) → length (each_point f s) ≡ length s / 2 * k
@@ -84,11 +97,17 @@ module _ (f : Pt2 → List Float) where
 
 -- ---- each_pair
 module _ (f : Pt2 → Pt2 → List Float) where
+  -- the points of two chunks of two numbers, and what the rest gives
+  pub pair_chunk : (v s w d : List Float) → length v ≡ 2 → length w ≡ 2 → each_pair f (v ++ s) (w ++ d) ≡ f (point_at v 0) (point_at w 0) ++ each_pair f s d
+  unfolding each_pair
+  pair_chunk v s w d h k = rw (as_two v h, as_two w k)
+
+  -- one pair further
   pub pair_next : (s d : List Float) (i : ℕ) → i + 1 < length s → i + 1 < length d → each_pair f (drop i s) (drop i d) ≡ f (point_at s i) (point_at d i) ++ each_pair f (drop (i + 2) s) (drop (i + 2) d)
   unfolding each_pair
   pair_next s d i h k = rw (point_left s i h, point_left d i k)
 
-  no_pair : (s d : List Float) → length s ≤ 1 → each_pair f s d ≡ []
+  pub no_pair : (s d : List Float) → length s ≤ 1 → each_pair f s d ≡ []
   unfolding each_pair
   no_pair [] d h = refl
   no_pair (x ∷ []) d h = refl

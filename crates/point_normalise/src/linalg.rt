@@ -5,6 +5,8 @@ ghost use Rattle.point_normalise.specs.Points.{bad_length, point_at, distance_of
 ghost use Rattle.point_normalise.specs.Linalg.{centroid_of, mean_distance, scaled_to, similarity_of, hartley_of, move_by, move_points, transform_of, normalize_reply, normalize_into};
 
 use camera_models::math::Pt2;
+use common::Refusal;
+use std::num::nearest_usize_to_f64;
 
 // The map of a point p to (p - c) * scale, c being (cx, cy).
 #[derive(Clone, Copy)]
@@ -14,19 +16,24 @@ pub struct Similarity {
     pub cy: f64,
 }
 
+// The numbers of a similarity's matrix that are neither 0 nor 1; t11 is t00.
 #[derive(Clone, Copy)]
-pub enum Normalizer {
-    Found(Similarity),
-    // no points, or a mean distance of at most 2^-52
-    Degenerate,
+pub struct Transform {
+    pub t00: f64,
+    pub t02: f64,
+    pub t12: f64,
 }
 
-#[derive(Clone, Copy)]
-pub enum Normalized {
-    // the numbers of the similarity's matrix that are neither 0 nor 1; t11 is t00
-    Transform { t00: f64, t02: f64, t12: f64 },
-    // 17, 18 or 19
-    Refused(u8),
+impl From<Similarity> for Transform {
+    ghost from_gives = { λ t matrix. matrix ≡ transform_of t };
+
+    fn from(t: Similarity) -> Transform {
+        Transform {
+            t00: t.scale,
+            t02: -t.scale * t.cx,
+            t12: -t.scale * t.cy,
+        }
+    }
 }
 
 // Whether so many numbers are no list of points, or one of more than 400.
@@ -56,37 +63,32 @@ pub fn distance(p: Pt2, q: Pt2) -> f64
 }
 
 fn centroid(points: &[f64]) -> Pt2
-    requires { length points.now ≤ 800 }
     ensures { result ≡ centroid_of points.now }
 {
-    let mut cx = 0.0;
-    let mut cy = 0.0;
-    let mut i = 0;
-    while i + 1 < points.len() {
-        let p = point_at(points, i);
-        cx = cx + p.x;
-        cy = cy + p.y;
-        i += 2;
-    }
-    let n = (points.len() / 2) as f64;
+    let sum = points
+        .chunks_exact(2)
+        .fold(Pt2 { x: 0.0, y: 0.0 }, |sum, xy| {
+            let p = point_at(xy, 0);
+            Pt2 {
+                x: sum.x + p.x,
+                y: sum.y + p.y,
+            }
+        });
+    let n = nearest_usize_to_f64(points.len() / 2);
     Pt2 {
-        x: cx / n,
-        y: cy / n,
+        x: sum.x / n,
+        y: sum.y / n,
     }
 }
 
 fn mean_distance(points: &[f64], c: Pt2) -> f64
-    requires { length points.now ≤ 800 }
     ensures { result ≡ mean_distance c points.now }
 {
-    let mut mean_dist = 0.0;
-    let mut i = 0;
-    while i + 1 < points.len() {
-        mean_dist = mean_dist + distance(point_at(points, i), c);
-        i += 2;
-    }
-    let n = (points.len() / 2) as f64;
-    mean_dist / n
+    let sum = points
+        .chunks_exact(2)
+        .fold(0.0, |sum, xy| sum + distance(point_at(xy, 0), c));
+    let n = nearest_usize_to_f64(points.len() / 2);
+    sum / n
 }
 
 // The similarity that brings c to the origin and a distance of mean from it to √2.
@@ -103,7 +105,6 @@ fn scaled_to(c: Pt2, mean: f64) -> Similarity
 // The similarity that brings the centroid to the origin and the mean distance from it to √2. Of points that aren't collinear that
 // distance is never too small (point_homography/proofs/Spread.antt), so Rows asks nothing more.
 pub fn normalizing(points: &[f64]) -> Similarity
-    requires { length points.now ≤ 800 }
     ensures { result ≡ similarity_of points.now }
 {
     let c = centroid(points);
@@ -111,20 +112,19 @@ pub fn normalizing(points: &[f64]) -> Similarity
 }
 
 // The same, unless there are no points or their mean distance is at most 2^-52.
-fn hartley(points: &[f64]) -> Normalizer
-    requires { length points.now ≤ 800 }
+fn hartley(points: &[f64]) -> Option<Similarity>
     ensures { result ≡ hartley_of points.now }
 {
     if points.len() == 0 {
-        return Normalizer::Degenerate;
+        return None;
     }
     let c = centroid(points);
     let mean_dist = mean_distance(points, c);
     // 2^-52
     if mean_dist <= 2.220446049250313e-16 {
-        return Normalizer::Degenerate;
+        return None;
     }
-    Normalizer::Found(scaled_to(c, mean_dist))
+    Some(scaled_to(c, mean_dist))
 }
 
 pub fn moved(t: Similarity, p: Pt2) -> Pt2
@@ -140,39 +140,26 @@ fn write_moved(t: Similarity, points: &[f64], dst: &mut [f64])
     requires { length points.now ≤ length dst.old }
     ensures { dst.new ≡ move_points t points.now ++ drop (length (move_points t points.now)) dst.old }
 {
-    let mut i = 0;
-    while i + 1 < points.len() {
-        let p = moved(t, point_at(points, i));
-        dst[i] = p.x;
-        dst[i + 1] = p.y;
-        i += 2;
-    }
-}
-
-fn transform(t: Similarity) -> Normalized
-    ensures { result ≡ transform_of t }
-{
-    Normalized::Transform {
-        t00: t.scale,
-        t02: -t.scale * t.cx,
-        t12: -t.scale * t.cy,
+    for (i, xy) in points.chunks_exact(2).enumerate() {
+        let p = moved(t, point_at(xy, 0));
+        dst[2 * i] = p.x;
+        dst[2 * i + 1] = p.y;
     }
 }
 
 // The points, moved so that their centroid is the origin and their mean distance from it √2, at the front of dst.
-pub fn normalize_points_2d(points: &[f64], dst: &mut [f64]) -> Normalized
+#[tactic(auto, unfolding(crate::specs::Linalg::hartley_of, crate::specs::Linalg::normalize_refusal, crate::specs::Linalg::normalize_reply, crate::specs::Linalg::normalize_into))]
+pub fn normalize_points_2d(points: &[f64], dst: &mut [f64]) -> Result<Transform, Refusal>
     ensures reply { result ≡ normalize_reply points.now (length dst.old) }
     ensures written { dst.new ≡ normalize_into points.now dst.old }
 {
     if bad_length(points.len()) {
-        return Normalized::Refused(17);
+        return Err(Refusal::BadLength);
     }
     if dst.len() < points.len() {
-        return Normalized::Refused(18);
+        return Err(Refusal::NoRoom);
     }
-    let Normalizer::Found(t) = hartley(points) else {
-        return Normalized::Refused(19);
-    };
+    let t = hartley(points).ok_or(Refusal::NoSpread)?;
     write_moved(t, points, dst);
-    transform(t)
+    Ok(Transform::from(t))
 }

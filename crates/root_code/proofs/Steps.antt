@@ -1,25 +1,20 @@
 -- The numbers of the digit-by-digit loops and of the root from a guess. Assumes nothing.
-use Rattle.std.proofs.Common.{◌≡◌, ℕ, zero, suc, ◌+◌, ◌-◌, ◌*◌, ◌/◌, ◌%◌, ◌^◌, ◌<◌, ◌≤◌, Bool, true, false, cond, not, T, ltb, sym, ap, ◌∙◌, subst, le_trans, le_of_eq, lt_of_le_of_lt, le_of_lt, mul_assoc, mul-le-mul_left, pow-suc, div-one, arith, ltb→lt, nltb→le, shl_lt, shr-shr}
+use Rattle.std.proofs.Common.{◌≡◌, ℕ, zero, suc, ◌+◌, ◌-◌, ◌*◌, ◌/◌, ◌%◌, ◌^◌, ◌<◌, ◌≤◌, Bool, true, false, cond, not, T, ltb, sym, ap, ◌∙◌, subst, le_trans, le_of_eq, lt_of_le_of_lt, le_of_lt, mul_assoc, mul-le-mul_left, pow-suc, arith, ltb→lt, nltb→le, shl_lt, shr-shr}
 use native.Mathlib.Nat.{pow-le-pow_right}
-use lib.Pow.{shr_le}
 use Rattle.root_code.specs.NearestRoot.{NearestRoot}
 use Rattle.root.specs.IntegerRoot.{square_lt_back, square_mono}
 
--- the first loop: the root of m / 2 ^ s has 27 digits at most
-pub small : (r t m s : ℕ) → r * r + t ≡ m / 2 ^ s → m < 2 ^ 54 → r < 2 ^ 27
-small r t m s e h = square_lt_back r (2 ^ 27) (omega (arith, shr_le m s))
-
--- the second loop: the root of m * 4 ^ i, before the last step, has 52 digits at most
+-- the loop that extends a root: the root of m * 4 ^ i, before the last step, has 52 digits at most
 pub small_2 : (r t m i : ℕ) → r * r + t ≡ m * 4 ^ i → m < 2 ^ 54 → i < 26 → r < 2 ^ 52
 small_2 r t m i e h l =
     square_lt_back r (2 ^ 52)
     (lt_of_le_of_lt (le_trans (omega arith) (le_trans (le_of_eq e) (mul-le-mul_left m (pow-le-pow_right {n = 4} (omega arith) {i = i} {j = 25} (omega arith))))) (omega arith))
 
-pub next : (m s : ℕ) → 2 ≤ s → m / 2 ^ (s - 2) ≡ 4 * (m / 2 ^ s) + m / 2 ^ (s - 2) % 4
-next m s h = omega (arith, shr-shr m (s - 2) 2 ∙ ap (λ (x : ℕ). m / 2 ^ x) (back s h))
+pub next : (m place : ℕ) → 0 < place → m / 2 ^ (2 * (place - 1)) ≡ 4 * (m / 2 ^ (2 * place)) + m / 2 ^ (2 * (place - 1)) % 4
+next m place h = omega (arith, shr-shr m (2 * (place - 1)) 2 ∙ ap (λ (x : ℕ). m / 2 ^ x) (back place h))
   where
-    back : (s : ℕ) → 2 ≤ s → s - 2 + 2 ≡ s
-    back s h = omega arith
+    back : (place : ℕ) → 0 < place → 2 * (place - 1) + 2 ≡ 2 * place
+    back place h = omega arith
 
 pub four_times : (m i : ℕ) → m * 4 ^ (i + 1) ≡ 4 * (m * 4 ^ i)
 four_times m i = ap (λ (x : ℕ). m * x) (ap (λ (x : ℕ). 4 ^ x) (one i) ∙ pow-suc 4 i) ∙ sym (mul_assoc m (4 ^ i) 4) ∙ swap (m * 4 ^ i)
@@ -30,21 +25,12 @@ four_times m i = ap (λ (x : ℕ). m * x) (ap (λ (x : ℕ). 4 ^ x) (one i) ∙ 
     swap : (x : ℕ) → x * 4 ≡ 4 * x
     swap x = omega arith
 
-pub no_shift : (m s : ℕ) → (0 < s → ⊥) → m / 2 ^ s ≡ m
-no_shift m s h = ap (λ (x : ℕ). m / 2 ^ x) (none s h) ∙ div-one m
-  where
-    none : (s : ℕ) → (0 < s → ⊥) → s ≡ 0
-    none s h = omega arith
-
 -- a product's length
 pub product : (i j a b : ℕ) → a < 2 ^ i → b < 2 ^ j → a * b < 2 ^ (i + j)
 product i j a b h k = lt_of_le_of_lt (mul-le-mul_left a (le_of_lt k)) (shl_lt i j h)
 
 pub square : (r : ℕ) → r < 2 ^ 27 → r * r ≤ (2 ^ 27 - 1) * (2 ^ 27 - 1)
 square r h = square_mono r (2 ^ 27 - 1) (omega arith)
-
-pub root_27 : (r t m : ℕ) → r * r + t ≡ m → m < 2 ^ 54 → r < 2 ^ 27
-root_27 r t m e h = square_lt_back r (2 ^ 27) (omega arith)
 
 -- ---- the root from a guess
 

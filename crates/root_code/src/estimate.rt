@@ -4,7 +4,7 @@ ghost use Rattle.std.specs.Prelude.{◌^◌, ◌<◌};
 
 // The parabola c0 - (c1 - c2 * z / 2^26) * z / 2^17 that meets 2^47 / √t at the three Chebyshev points of the 2^27 numbers
 // t = i * 2^27 + z, packed: c0 in 32 binary digits, c1 in 18, c2 in 14.
-// A match, which compiles to a table in constant memory; a `const` array would be written to the stack in each call.
+// Kept: a match, which compiles to a table in constant memory; a `const` array would be no plainer, and is written to the stack in each call.
 fn parabola(i: u64) -> u64 {
     match i {
         8 => 0xfffe_ee8d_feca_a954,
@@ -46,6 +46,7 @@ fn first_estimate(t: u64) -> u64
     (0x1_0000_0000 + (c >> 32) - ((slope * z) >> 17)) % 0x1_0000_0000
 }
 
+// Kept: y < 2^32 is said here and where y comes from: y is multiplied at once, and a type of its own would be taken apart for it.
 // A better estimate than y of 2^58 / √m, by one step of Newton's, where t is m / 2^22.
 fn refined(t: u64, y: u64) -> u64
     requires { (t < 2 ^ 32) × (y < 2 ^ 32) }

@@ -7,6 +7,84 @@ ghost use Rattle.root_code.specs.NearestRoot.{NearestRoot};
 
 use crate::digits::{extend_by_digits, isqrt_by_digits};
 
+// A number whose root is sought, and a guess at 2^58 / √significand.
+#[derive(Clone, Copy)]
+pub struct Radicand {
+    pub significand: u64,
+    pub guess: u64,
+    pub ghost positive: { 0 < significand },
+    pub ghost below: { significand < 2 ^ 54 },
+    pub ghost guess_below: { guess < 2 ^ 32 },
+}
+
+impl Radicand {
+    // The root of significand * 2^52, rounded, digit by digit.
+    fn nearest_by_digits(self) -> u64
+        ensures { NearestRoot (self.significand * 4 ^ 26) result }
+    {
+        let p = extend_by_digits(isqrt_by_digits(self.significand));
+        nearest_whole(p.root, p.remainder)
+    }
+
+    // Near the root of the significand.
+    fn high_digits(self) -> u64
+        ensures { result < 2 ^ 28 }
+    {
+        ((self.significand >> 22) * self.guess) >> 36
+    }
+
+    // The root of significand * 2^52, rounded, of which h and l make a guess; a is what h's square leaves over. A difference below 0
+    // wraps, and is too great then.
+    pub fn nearest_root(self) -> u64
+        ensures { NearestRoot (self.significand * 4 ^ 26) result }
+    {
+        let h = self.high_digits();
+        let a = std::num::wrapping_sub_u64(self.significand, h * h);
+        if a >= 0x2000_0000 {
+            return self.nearest_by_digits();
+        }
+        let l = low_digits(a, self.guess);
+        let d = std::num::wrapping_sub_u64(a * 0x400_0000, 2 * h * l);
+        if d >= 0x20_0000_0000 {
+            return self.nearest_by_digits();
+        }
+        let root = h * 0x400_0000 + l;
+        let remainder = std::num::wrapping_sub_u64(d * 0x400_0000, l * l);
+        if remainder <= 3 * root + 2 {
+            return nearest_whole(root, remainder);
+        }
+        self.nearest_by_digits()
+    }
+
+    // The same with no branch, so that several roots are worked out side by side: where the guess is not near enough it says so.
+    pub fn guessed_root(self) -> Guessed
+        ensures { (result.root < 2 ^ 55) × (result.wide < 2 ^ 37 → result.signs < 2 ^ 63 → NearestRoot (self.significand * 4 ^ 26) result.root) }
+    {
+        let h = self.high_digits();
+        let a = std::num::wrapping_sub_u64(self.significand, h * h);
+        let l = low_digits(a % 0x1_0000_0000, self.guess);
+        let d = std::num::wrapping_sub_u64(a << 26, 2 * (h * l));
+        let root = h * 0x400_0000 + l;
+        let remainder = std::num::wrapping_sub_u64(d << 26, l * l);
+        let above = std::num::wrapping_sub_u64(root, remainder);
+        let over = std::num::wrapping_add_u64(above, 2 * root);
+        Guessed {
+            root: root + (above >> 63),
+            wide: a | d,
+            signs: remainder | over,
+        }
+    }
+}
+
+// A whole number near a root. It is the nearest one if `wide` is below 2^37 and `signs` below 2^63.
+// Kept: words and no Option: as words, an `or` joins the checks of 16 roots and one test decides; Some or None would be a test at each root.
+#[derive(Clone, Copy)]
+pub struct Guessed {
+    pub root: u64,
+    pub wide: u64,
+    pub signs: u64,
+}
+
 // The whole number that is nearest to the root: the root lies above root + 1/2 exactly where the remainder is above the root.
 fn nearest_whole(root: u64, remainder: u64) -> u64
     requires { root < 2 ^ 60 }
@@ -15,79 +93,10 @@ fn nearest_whole(root: u64, remainder: u64) -> u64
     if root < remainder { root + 1 } else { root }
 }
 
-// The root of m * 2^52, rounded, digit by digit.
-fn nearest_by_digits(m: u64) -> u64
-    requires { (0 < m) × (m < 2 ^ 54) }
-    ensures { NearestRoot (m * 4 ^ 26) result }
-{
-    let p = extend_by_digits(isqrt_by_digits(m));
-    nearest_whole(p.root, p.remainder)
-}
-
-// Near the root of m.
-fn high_digits(m: u64, y: u64) -> u64
-    requires { (m < 2 ^ 54) × (y < 2 ^ 32) }
-    ensures { result < 2 ^ 28 }
-{
-    ((m >> 22) * y) >> 36
-}
-
 // About half of what is left over times y: the 26 binary digits behind.
 fn low_digits(a: u64, y: u64) -> u64
     requires { (a < 2 ^ 32) × (y < 2 ^ 32) }
     ensures { result < 2 ^ 31 }
 {
     (a * y) >> 33
-}
-
-// The root of m * 2^52, rounded, of which h and l make a guess; a is what h's square leaves over. A difference below 0 wraps, and
-// is too great then.
-pub fn nearest_root(m: u64, y: u64) -> u64
-    requires { (0 < m) × (m < 2 ^ 54) × (y < 2 ^ 32) }
-    ensures { NearestRoot (m * 4 ^ 26) result }
-{
-    let h = high_digits(m, y);
-    let a = std::num::wrapping_sub_u64(m, h * h);
-    if a >= 0x2000_0000 {
-        return nearest_by_digits(m);
-    }
-    let l = low_digits(a, y);
-    let d = std::num::wrapping_sub_u64(a * 0x400_0000, 2 * h * l);
-    if d >= 0x20_0000_0000 {
-        return nearest_by_digits(m);
-    }
-    let root = h * 0x400_0000 + l;
-    let remainder = std::num::wrapping_sub_u64(d * 0x400_0000, l * l);
-    if remainder <= 3 * root + 2 {
-        return nearest_whole(root, remainder);
-    }
-    nearest_by_digits(m)
-}
-
-// A whole number near a root. It is the nearest one if `wide` is below 2^37 and `signs` below 2^63.
-#[derive(Clone, Copy)]
-pub struct Guessed {
-    pub root: u64,
-    pub wide: u64,
-    pub signs: u64,
-}
-
-// The same with no branch, so that several roots are worked out side by side: where the guess is not near enough it says so.
-pub fn guessed_root(m: u64, y: u64) -> Guessed
-    requires { (0 < m) × (m < 2 ^ 54) × (y < 2 ^ 32) }
-    ensures { (result.root < 2 ^ 55) × (result.wide < 2 ^ 37 → result.signs < 2 ^ 63 → NearestRoot (m * 4 ^ 26) result.root) }
-{
-    let h = high_digits(m, y);
-    let a = std::num::wrapping_sub_u64(m, h * h);
-    let l = low_digits(a % 0x1_0000_0000, y);
-    let d = std::num::wrapping_sub_u64(a << 26, 2 * (h * l));
-    let root = h * 0x400_0000 + l;
-    let remainder = std::num::wrapping_sub_u64(d << 26, l * l);
-    let above = std::num::wrapping_sub_u64(root, remainder);
-    let over = std::num::wrapping_add_u64(above, 2 * root);
-    Guessed {
-        root: root + (above >> 63),
-        wide: a | d,
-        signs: remainder | over,
-    }
 }

@@ -17,7 +17,7 @@ ghost use Rattle.root.specs.Root.{root_of, root};
 ghost use Rattle.root_code.specs.Operand.{Bounded};
 
 use crate::estimate::reciprocal_root;
-use crate::from_guess::nearest_root;
+use crate::from_guess::Radicand;
 use crate::operand::{Operand, Scaled, decompose};
 
 // The root of s, rounded. The root of significand * 4^26 has 53 digits, the leading one of which adds 1 to the exponent's field.
@@ -25,7 +25,11 @@ fn rounded(s: Scaled, guess: u64) -> f64
     requires { Bounded s × (guess < 2 ^ 32) }
     ensures { result ≡ root_of binary64 (s.significand * 4 ^ s.half) }
 {
-    let q = nearest_root(s.significand, guess);
+    let radicand = Radicand {
+        significand: s.significand,
+        guess,
+    };
+    let q = radicand.nearest_root();
     f64::from_bits((s.half - 26) * 0x10_0000_0000_0000 + q)
 }
 

@@ -6,12 +6,14 @@ ghost use Rattle.root_code.specs.Operand.{Bounded, Decomposed, AsNormal};
 ghost use Rattle.root_code.specs.Exponent.{shifted};
 
 // The value significand * 4^(half - 1074).
+// Kept: contracts say within which bounds, and no ghost field, since those of `as_normal` are wider than those of `decompose`.
 #[derive(Clone, Copy)]
 pub struct Scaled {
     pub significand: u64,
     pub half: u64,
 }
 
+// Kept: no Result, for neither side is a failure, and `Err` for a root that is known would mislead.
 #[derive(Clone, Copy)]
 pub enum Operand {
     // The root itself: of a zero, an infinity, a NaN, a negative number.
@@ -99,7 +101,7 @@ fn no_root() -> f64
 pub fn decompose(x: f64) -> Operand
     ensures { Decomposed x result }
 {
-    if x != x {
+    if x.is_nan() {
         return Operand::Known(no_root());
     }
     let b = f64::to_bits(x);

@@ -7,10 +7,11 @@ ghost use Rattle.std.specs.Float.{binary64};
 ghost use Rattle.std.specs.Float.Ieee.{lt};
 ghost use Rattle.root_code.specs.Quick.{Quick};
 
-use crate::from_guess::guessed_root;
+use crate::from_guess::Radicand;
 use crate::operand::as_normal;
 
 // The bits of a root, right if `wrong` is below 2^37.
+// Kept: a word and no Option: as words, an `or` joins the checks of 16 roots and one test decides; Some or None would be a test at each root.
 #[derive(Clone, Copy)]
 pub struct QuickRoot {
     pub bits: u64,
@@ -53,7 +54,11 @@ pub fn quick_sqrt(x: f64, guess: u64) -> QuickRoot
 {
     let b = bits_of(x);
     let s = as_normal(b);
-    let q = guessed_root(s.significand, guess % 0x1_0000_0000);
+    let radicand = Radicand {
+        significand: s.significand,
+        guess: guess % 0x1_0000_0000,
+    };
+    let q = radicand.guessed_root();
     let below = std::num::wrapping_sub_u64(b, 0x10_0000_0000_0000);
     let above = std::num::wrapping_add_u64(b, 0x10_0000_0000_0000);
     QuickRoot {

@@ -7,14 +7,12 @@ ghost use Rattle.std.specs.Prelude.{◌≡◌};
 ghost use Rattle.score_best.specs.Best.{is_better, no_best};
 ghost use Rattle.score_best.specs.Winners.{winner_of_bests};
 
-use camera_models::distortion::BrownConrady5;
-use camera_models::intrinsics::FxFyCxCy;
 use camera_tilt::sensor::ScheimpflugParams;
 use score_camera::pinhole::PinholeCamera;
 
 // A scored candidate: its number, counted from 0 over the run, its solved camera, its seed's tilts, its mean error and its score.
 #[repr(C)]
-#[derive(Clone, Copy)]
+#[derive(Clone, Copy, Default)]
 pub struct Candidate {
     pub number: usize,
     pub camera: PinholeCamera,
@@ -24,57 +22,32 @@ pub struct Candidate {
 }
 
 // The best so far, if there is one. Where there is none, the candidate's numbers are 0.
-#[derive(Clone, Copy)]
+// Kept: no Option, since C hands in both fields and gets each of their numbers back, also where none is found.
+#[derive(Clone, Copy, Default)]
 pub struct Best {
     pub found: bool,
     pub candidate: Candidate,
 }
 
 // No candidate yet.
+#[tactic(auto, unfolding(crate::specs::Best::no_best))]
 pub fn no_best() -> Best
     ensures { result ≡ no_best }
 {
-    Best {
-        found: false,
-        candidate: Candidate {
-            number: 0,
-            camera: PinholeCamera {
-                k: FxFyCxCy {
-                    fx: 0.0,
-                    fy: 0.0,
-                    cx: 0.0,
-                    cy: 0.0,
-                },
-                dist: BrownConrady5 {
-                    k1: 0.0,
-                    k2: 0.0,
-                    k3: 0.0,
-                    p1: 0.0,
-                    p2: 0.0,
-                },
-            },
-            sensor: ScheimpflugParams {
-                tilt_x: 0.0,
-                tilt_y: 0.0,
-            },
-            mean_reproj_error: 0.0,
-            score: 0.0,
-        },
-    }
+    Best::default()
 }
 
 // Whether a candidate replaces the best: its score is a number, and there is no best yet, or one whose score is none, or a higher one.
 pub fn is_better(candidate: Candidate, current: Best) -> bool
     ensures { result ≡ is_better candidate current }
 {
-    if candidate.score != candidate.score {
+    if candidate.score.is_nan() {
         return false;
     }
     if !current.found {
         return true;
     }
-    (current.candidate.score != current.candidate.score)
-        | (candidate.score < current.candidate.score)
+    current.candidate.score.is_nan() | (candidate.score < current.candidate.score)
 }
 
 // The best after one more candidate.

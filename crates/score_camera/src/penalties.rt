@@ -21,6 +21,7 @@ fn radial_complexity(distortion: BrownConrady5) -> f64
         + 0.25 * distortion.k3 * distortion.k3
 }
 
+#[tactic(auto, unfolding(crate::specs::Penalties::distortion_penalty))]
 pub fn distortion_complexity(distortion: BrownConrady5) -> f64
     ensures { result ≡ distortion_penalty distortion }
 {
@@ -35,6 +36,7 @@ fn squared_tilt(sensor: ScheimpflugParams) -> f64
     sensor.tilt_x * sensor.tilt_x + sensor.tilt_y * sensor.tilt_y
 }
 
+#[tactic(auto, unfolding(crate::specs::Penalties::tilt_penalty))]
 pub fn tilt_complexity(sensor: ScheimpflugParams) -> f64
     ensures { result ≡ tilt_penalty sensor }
 {
@@ -52,6 +54,7 @@ fn relative_offset(intrinsics: FxFyCxCy, center: Pt2) -> Pt2
 }
 
 // The weight is 0.0; the product stays, since it carries a NaN.
+#[tactic(auto, unfolding(crate::specs::Penalties::centre_penalty))]
 pub fn principal_point_complexity(intrinsics: FxFyCxCy, center: Pt2) -> f64
     ensures { result ≡ centre_penalty intrinsics center }
 {
@@ -69,6 +72,7 @@ fn score_without_centre(mean: f64, dist: BrownConrady5, sensor: ScheimpflugParam
 }
 
 // The mean error and the three penalties, summed in this order.
+#[tactic(auto, unfolding(crate::specs::Penalties::score_of))]
 pub fn candidate_score(
     mean: f64,
     camera: PinholeCamera,

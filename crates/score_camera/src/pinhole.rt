@@ -9,13 +9,14 @@ use camera_models::intrinsics::FxFyCxCy;
 
 // A pinhole with its lens distortion.
 #[repr(C)]
-#[derive(Clone, Copy)]
+#[derive(Clone, Copy, Default)]
 pub struct PinholeCamera {
     pub k: FxFyCxCy,
     pub dist: BrownConrady5,
 }
 
 // The radial coefficients put to 0, and the tangential ones brought within ±0.05.
+#[tactic(auto, unfolding(crate::specs::Camera::damped))]
 pub fn damp_seed_distortion(distortion: BrownConrady5) -> BrownConrady5
     ensures { result ≡ damped distortion }
 {
@@ -36,26 +37,23 @@ pub fn damped_camera(mut found: PinholeCamera) -> PinholeCamera
     found
 }
 
+#[tactic(auto, unfolding(crate::specs::Camera::finite_intrinsics))]
 fn finite_intrinsics(k: FxFyCxCy) -> bool
     ensures { result ≡ finite_intrinsics k }
 {
-    let mut finite = float::is_finite(k.fx);
-    finite = finite & float::is_finite(k.fy);
-    finite = finite & float::is_finite(k.cx);
-    finite & float::is_finite(k.cy)
+    float::all_finite(&[k.fx, k.fy, k.cx, k.cy])
 }
 
+#[tactic(auto, unfolding(crate::specs::Camera::finite_distortion))]
 fn finite_distortion(distortion: BrownConrady5) -> bool
     ensures { result ≡ finite_distortion distortion }
 {
-    let mut finite = float::is_finite(distortion.k1);
-    finite = finite & float::is_finite(distortion.k2);
-    finite = finite & float::is_finite(distortion.k3);
-    finite = finite & float::is_finite(distortion.p1);
-    finite & float::is_finite(distortion.p2)
+    let d = distortion;
+    float::all_finite(&[d.k1, d.k2, d.k3, d.p1, d.p2])
 }
 
 // Whether every number of the camera is finite and both focal lengths are above 0.
+#[tactic(auto, unfolding(crate::specs::Camera::valid_camera))]
 pub fn validate_camera(camera: PinholeCamera) -> bool
     ensures { result ≡ valid_camera camera }
 {

@@ -1,6 +1,6 @@
 -- 02, E9: the floor is a number, one of the seeds' penalties, and none of them is below it; so no candidate from those seeds scores below it, whichever camera the host
 -- finds, and where it isn't below the best's score none of them beats the best. Assumes nothing.
-use Rattle.std.specs.Prelude.{ℕ, ◌≡◌, refl, false, Float}
+use Rattle.std.specs.Prelude.{ℕ, ◌≡◌, refl, false, Float, Ok}
 use Rattle.std.proofs.Common.{sym, ap, ◌∙◌, ⊎_elim}
 use mathlib.Core.List.Memᴰ
 use mathlib.Core.List.{List, [], ◌∷◌, Memᴰ}
@@ -18,7 +18,6 @@ use Rattle.seed_rules.specs.declared.CandidateSeed.{CandidateSeed}
 use Rattle.score_camera.specs.Penalties.{tilt_penalty}
 use Rattle.score_outcome.specs.declared.Finding.{Finding}
 use Rattle.score_outcome.specs.declared.Scoring.{Scoring}
-use Rattle.score_outcome.specs.declared.Outcome.TheVariants.{Scored}
 use Rattle.score_outcome.specs.Evaluation.{outcome_of}
 use Rattle.score_outcome.specs.Facts.{ScoredFacts}
 use Rattle.score_outcome.proofs.Facts.{scored_facts}
@@ -85,5 +84,5 @@ above_floor ss {s} m center g f =
 
 -- whichever camera the host finds, and whichever rows and flags it sends
 pub floor_holds : (ss : List CandidateSeed) {s : CandidateSeed} → Memᴰ s ss → (share : ℕ) (f : Finding) (center : Pt2) (rows : List Float) (flags : List ℕ) (g : Scoring)
-    → outcome_of share f s.sensor center rows flags ≡ Scored g → lt g.score (floor_of ss) ≡ false
+    → outcome_of share f s.sensor center rows flags ≡ Ok g → lt g.score (floor_of ss) ≡ false
 floor_holds ss {s} m share f center rows flags g h = above_floor ss m center g (scored_facts share f s.sensor center rows flags g h)

@@ -9,11 +9,12 @@ use camera_tilt::sensor::ScheimpflugParams;
 use score_camera::penalties::tilt_complexity;
 
 // A seed's tilt penalty as it counts for the floor: NaN, which only a changed list can give, counts as infinity.
+#[tactic(auto, unfolding(crate::specs::Floor::counted_penalty))]
 pub fn counted_penalty(sensor: ScheimpflugParams) -> f64
     ensures { result ≡ counted_penalty sensor }
 {
     let penalty = tilt_complexity(sensor);
-    if penalty != penalty {
+    if penalty.is_nan() {
         return 1.0 / 0.0;
     }
     penalty
@@ -25,9 +26,7 @@ pub fn floor_between(list: &[f64], from: usize, to: usize) -> f64
     ensures { result ≡ floor_of (seeds_between list.now from to) }
 {
     let mut floor = 1.0 / 0.0;
-    let mut i = to;
-    while from < i {
-        i -= 1;
+    for i in (from..to).rev() {
         let seed = seed_lists::seed_at(list, i);
         floor = float::min(counted_penalty(seed.sensor), floor);
     }

@@ -1,5 +1,5 @@
 -- What holds of every scored finding, and which reasons a skipped one has. Assumes nothing.
-use Rattle.std.specs.Prelude.{ℕ, ◌≤◌, ◌≡◌, refl, true, false, ◌&&◌, List, Float}
+use Rattle.std.specs.Prelude.{ℕ, ◌≤◌, ◌≡◌, refl, true, false, ◌&&◌, List, Float, Ok, Err}
 use Rattle.std.proofs.Common.{sym, subst, ◌∙◌, arith}
 use Rattle.std.specs.Float.Ieee.{is_nan, lt, of_bits}
 use Rattle.common.specs.Tests.{case, both_true}
@@ -17,7 +17,9 @@ use Rattle.score_outcome.specs.declared.SolvedCamera.{SolvedCamera}
 use Rattle.score_outcome.specs.declared.Scoring.{Scoring}
 use Rattle.score_outcome.specs.declared.Finding.{Finding}
 use Rattle.score_outcome.specs.declared.Finding.TheVariants.{Failed, Solved}
-use Rattle.score_outcome.specs.declared.Outcome.TheVariants.{Skipped, Scored}
+use Rattle.score_outcome.specs.declared.SkipReason.{SkipReason}
+use Rattle.score_outcome.specs.declared.SkipReason.TheVariants.{HostFailed, BadCamera, NoMean, NoNumber}
+use Rattle.score_outcome.specs.Reasons.{Outcome, reason_number, reason_numbered}
 use Rattle.score_outcome.specs.Facts.{ScoredFacts}
 
 -- ---- what the camera check says
@@ -55,42 +57,55 @@ scoring_facts s sensor center rows flags v f n =
       score_number = n;
     }
 
+-- ---- the reasons
+-- Reason 1, 2, 3 or 4.
+pub reason_within : (r : SkipReason) → (1 ≤ reason_number r) × (reason_number r ≤ 4)
+reason_within HostFailed = (omega arith, omega arith)
+reason_within BadCamera = (omega arith, omega arith)
+reason_within NoMean = (omega arith, omega arith)
+reason_within NoNumber = (omega arith, omega arith)
+
+-- a reason's number is that reason's again
+pub reason_numbered_back : (r : SkipReason) → reason_numbered (reason_number r) ≡ Ok r
+reason_numbered_back HostFailed = refl
+reason_numbered_back BadCamera = refl
+reason_numbered_back NoMean = refl
+reason_numbered_back NoNumber = refl
+
 -- ---- the outcome, taken apart
-skipped_same : (n m : ℕ) → Skipped n ≡ Skipped m → n ≡ m
-skipped_same n m h = cc
+skipped_same : (r q : SkipReason) → ◌≡◌ {A = Outcome} (Err r) (Err q) → r ≡ q
+skipped_same r q h = cc
 
 pub scored_facts : (share : ℕ) (f : Finding) (sensor : ScheimpflugParams) (center : Pt2) (rows : List Float) (flags : List ℕ) (g : Scoring)
-    → outcome_of share f sensor center rows flags ≡ Scored g → ScoredFacts sensor center g
+    → outcome_of share f sensor center rows flags ≡ Ok g → ScoredFacts sensor center g
 unfolding outcome_of
-scored_facts share Failed sensor center rows flags g h = absurd (never 1 g h)
+scored_facts share Failed sensor center rows flags g h = absurd (never HostFailed g h)
 scored_facts share (Solved c) sensor center rows flags g h =
     let s = solved_at c sensor in
     let p = scored_passed share s sensor center rows flags g h in
     subst (λ (x : Scoring). ScoredFacts sensor center x) p.is (scoring_facts s sensor center rows flags p.valid p.finite p.number)
 
-solved_reason : (share : ℕ) (s : SolvedCamera) (sensor : ScheimpflugParams) (center : Pt2) (rows : List Float) (flags : List ℕ) (n : ℕ)
-    → evaluated share s sensor center rows flags ≡ Skipped n → (2 ≤ n) × (n ≤ 4)
-solved_reason share s sensor center rows flags n h =
+-- a solved camera's reason is 2, 3 or 4
+solved_reason : (share : ℕ) (s : SolvedCamera) (sensor : ScheimpflugParams) (center : Pt2) (rows : List Float) (flags : List ℕ)
+    → evaluated share s sensor center rows flags ≡ Err HostFailed → ⊥
+solved_reason share s sensor center rows flags h =
     case (valid_camera (damped_camera s.camera))
     (λ v. case (enough_with share s rows flags)
     (λ e. case (is_finite (mean_with s rows flags))
     (λ m. case (is_nan (scoring_of s sensor center rows flags).score)
-    (λ k. let q = skipped_same 4 n (sym (nan_skips share s sensor center rows flags v e m k) ∙ h) in (omega arith, omega arith))
-    (λ k. absurd (never n (scoring_of s sensor center rows flags) (sym h ∙ number_scores share s sensor center rows flags v e m k))))
-    (λ m. let q = skipped_same 3 n (sym (infinite_skips share s sensor center rows flags v m) ∙ h) in (omega arith, omega arith)))
-    (λ e. let q = skipped_same 3 n (sym (few_skips share s sensor center rows flags v e) ∙ h) in (omega arith, omega arith)))
-    (λ v. let q = skipped_same 2 n (sym (invalid_skips share s sensor center rows flags v) ∙ h) in (omega arith, omega arith))
+    (λ k. let q = skipped_same NoNumber HostFailed (sym (nan_skips share s sensor center rows flags v e m k) ∙ h) in cc)
+    (λ k. absurd (never HostFailed (scoring_of s sensor center rows flags) (sym h ∙ number_scores share s sensor center rows flags v e m k))))
+    (λ m. let q = skipped_same NoMean HostFailed (sym (infinite_skips share s sensor center rows flags v m) ∙ h) in cc))
+    (λ e. let q = skipped_same NoMean HostFailed (sym (few_skips share s sensor center rows flags v e) ∙ h) in cc))
+    (λ v. let q = skipped_same BadCamera HostFailed (sym (invalid_skips share s sensor center rows flags v) ∙ h) in cc)
 
--- Reason 1, 2, 3 or 4.
-pub skipped_reason : (share : ℕ) (f : Finding) (sensor : ScheimpflugParams) (center : Pt2) (rows : List Float) (flags : List ℕ) (n : ℕ)
-    → outcome_of share f sensor center rows flags ≡ Skipped n → (1 ≤ n) × (n ≤ 4)
-unfolding outcome_of
-skipped_reason share Failed sensor center rows flags n h = let e = skipped_same 1 n h in (omega arith, omega arith)
-skipped_reason share (Solved c) sensor center rows flags n h = let e = solved_reason share (solved_at c sensor) sensor center rows flags n h in (omega arith, omega arith)
+pub skipped_reason : (share : ℕ) (f : Finding) (sensor : ScheimpflugParams) (center : Pt2) (rows : List Float) (flags : List ℕ) (r : SkipReason)
+    → outcome_of share f sensor center rows flags ≡ Err r → (1 ≤ reason_number r) × (reason_number r ≤ 4)
+skipped_reason share f sensor center rows flags r h = reason_within r
 
 -- Reason 1 for Failed alone.
 pub skipped_failed : (share : ℕ) (f : Finding) (sensor : ScheimpflugParams) (center : Pt2) (rows : List Float) (flags : List ℕ)
-    → outcome_of share f sensor center rows flags ≡ Skipped 1 → f ≡ Failed
+    → outcome_of share f sensor center rows flags ≡ Err HostFailed → f ≡ Failed
 unfolding outcome_of
 skipped_failed share Failed sensor center rows flags h = refl
-skipped_failed share (Solved c) sensor center rows flags h = let e = solved_reason share (solved_at c sensor) sensor center rows flags 1 h in absurd (omega arith)
+skipped_failed share (Solved c) sensor center rows flags h = absurd (solved_reason share (solved_at c sensor) sensor center rows flags h)

@@ -1,6 +1,6 @@
 -- The five ways that a solved finding goes, and what is known of one that was scored. Assumes nothing.
-use Rattle.std.specs.Prelude.{ℕ, ◌≡◌, true, false, List, Float}
-use Rattle.std.proofs.Common.{sym, ◌∙◌, arith}
+use Rattle.std.specs.Prelude.{ℕ, ◌≡◌, true, false, List, Float, Ok, Err}
+use Rattle.std.proofs.Common.{sym, ◌∙◌}
 use Rattle.std.specs.Float.Ieee.{is_nan}
 use Rattle.common.specs.Tests.{case}
 use Rattle.float.specs.Float.{is_finite}
@@ -12,26 +12,28 @@ use Rattle.score_camera.specs.Penalties.{score_of}
 use Rattle.score_outcome.specs.Evaluation.{enough_with, mean_with, scoring_of, scored_as, evaluated}
 use Rattle.score_outcome.specs.declared.SolvedCamera.{SolvedCamera}
 use Rattle.score_outcome.specs.declared.Scoring.{Scoring}
-use Rattle.score_outcome.specs.declared.Outcome.TheVariants.{Skipped, Scored}
+use Rattle.score_outcome.specs.declared.SkipReason.{SkipReason}
+use Rattle.score_outcome.specs.declared.SkipReason.TheVariants.{BadCamera, NoMean, NoNumber}
+use Rattle.score_outcome.specs.Reasons.{Outcome}
 
 -- an outcome is skipped or scored
-pub never : (n : ℕ) (g : Scoring) → Skipped n ≡ Scored g → ⊥
-never n g h = let z : ◌≡◌ {A = ℕ} 0 1 = cc in omega arith
+pub never : (r : SkipReason) (g : Scoring) → ◌≡◌ {A = Outcome} (Err r) (Ok g) → ⊥
+never r g h = cc
 
-pub scored_same : (g k : Scoring) → Scored g ≡ Scored k → g ≡ k
+pub scored_same : (g k : Scoring) → ◌≡◌ {A = Outcome} (Ok g) (Ok k) → g ≡ k
 scored_same g k h = cc
 
 module _ (share : ℕ) (s : SolvedCamera) (sensor : ScheimpflugParams) (center : Pt2) (rows : List Float) (flags : List ℕ) where
-  pub invalid_skips : valid_camera (damped_camera s.camera) ≡ false → evaluated share s sensor center rows flags ≡ Skipped 2
+  pub invalid_skips : valid_camera (damped_camera s.camera) ≡ false → evaluated share s sensor center rows flags ≡ Err BadCamera
   unfolding evaluated
   invalid_skips v = simp v
 
-  pub few_skips : valid_camera (damped_camera s.camera) ≡ true → enough_with share s rows flags ≡ false → evaluated share s sensor center rows flags ≡ Skipped 3
+  pub few_skips : valid_camera (damped_camera s.camera) ≡ true → enough_with share s rows flags ≡ false → evaluated share s sensor center rows flags ≡ Err NoMean
   unfolding evaluated
   few_skips v e = simp (v, e)
 
   -- whether or not enough of the rows count
-  pub infinite_skips : valid_camera (damped_camera s.camera) ≡ true → is_finite (mean_with s rows flags) ≡ false → evaluated share s sensor center rows flags ≡ Skipped 3
+  pub infinite_skips : valid_camera (damped_camera s.camera) ≡ true → is_finite (mean_with s rows flags) ≡ false → evaluated share s sensor center rows flags ≡ Err NoMean
   unfolding evaluated
   infinite_skips v f = case (enough_with share s rows flags) (λ e. simp (v, e, f)) (λ e. simp (v, e))
 
@@ -41,12 +43,12 @@ module _ (share : ℕ) (s : SolvedCamera) (sensor : ScheimpflugParams) (center :
   passed_scored v e f = simp (v, e, f)
 
   pub nan_skips : valid_camera (damped_camera s.camera) ≡ true → enough_with share s rows flags ≡ true → is_finite (mean_with s rows flags) ≡ true
-      → is_nan (scoring_of s sensor center rows flags).score ≡ true → evaluated share s sensor center rows flags ≡ Skipped 4
+      → is_nan (scoring_of s sensor center rows flags).score ≡ true → evaluated share s sensor center rows flags ≡ Err NoNumber
   unfolding evaluated scored_as
   nan_skips v e f n = simp (v, e, f, n)
 
   pub number_scores : valid_camera (damped_camera s.camera) ≡ true → enough_with share s rows flags ≡ true → is_finite (mean_with s rows flags) ≡ true
-      → is_nan (scoring_of s sensor center rows flags).score ≡ false → evaluated share s sensor center rows flags ≡ Scored (scoring_of s sensor center rows flags)
+      → is_nan (scoring_of s sensor center rows flags).score ≡ false → evaluated share s sensor center rows flags ≡ Ok (scoring_of s sensor center rows flags)
   unfolding evaluated scored_as
   number_scores v e f n = simp (v, e, f, n)
 
@@ -58,17 +60,17 @@ module _ (share : ℕ) (s : SolvedCamera) (sensor : ScheimpflugParams) (center :
     pub number : is_nan (scoring_of s sensor center rows flags).score ≡ false
     pub is : scoring_of s sensor center rows flags ≡ g
 
-  pub scored_passed : (g : Scoring) → evaluated share s sensor center rows flags ≡ Scored g → Passed g
+  pub scored_passed : (g : Scoring) → evaluated share s sensor center rows flags ≡ Ok g → Passed g
   scored_passed g h =
       case (valid_camera (damped_camera s.camera))
       (λ v. case (enough_with share s rows flags)
       (λ e. case (is_finite (mean_with s rows flags))
       (λ f. case (is_nan (scoring_of s sensor center rows flags).score)
-      (λ n. absurd (never 4 g (sym (nan_skips v e f n) ∙ h)))
+      (λ n. absurd (never NoNumber g (sym (nan_skips v e f n) ∙ h)))
       (λ n. record { valid = v; enough_counted = e; finite = f; number = n; is = scored_same (scoring_of s sensor center rows flags) g (sym (number_scores v e f n) ∙ h) }))
-      (λ f. absurd (never 3 g (sym (infinite_skips v f) ∙ h))))
-      (λ e. absurd (never 3 g (sym (few_skips v e) ∙ h))))
-      (λ v. absurd (never 2 g (sym (invalid_skips v) ∙ h)))
+      (λ f. absurd (never NoMean g (sym (infinite_skips v f) ∙ h))))
+      (λ e. absurd (never NoMean g (sym (few_skips v e) ∙ h))))
+      (λ v. absurd (never BadCamera g (sym (invalid_skips v) ∙ h)))
 
 -- the finding as it is scored, from the damped camera, its mean and its score
 pub scoring_is : (s : SolvedCamera) (sensor : ScheimpflugParams) (center : Pt2) (rows : List Float) (flags : List ℕ) (k : PinholeCamera) (mean score : Float)

@@ -1,5 +1,5 @@
 -- 02, E11: what is scored rests on its share of the rows, and a share of 0 is 01's rule. Assumes nothing.
-use Rattle.std.specs.Prelude.{ℕ, zero, suc, ◌+◌, ◌*◌, ◌/◌, ◌%◌, ◌≤◌, ◌<◌, ◌≡◌, refl, true, false, List, [], leb, eqb, length, Float}
+use Rattle.std.specs.Prelude.{ℕ, zero, suc, ◌+◌, ◌*◌, ◌/◌, ◌%◌, ◌≤◌, ◌<◌, ◌≡◌, refl, true, false, List, [], leb, eqb, length, Float, Ok, Err}
 use Rattle.std.proofs.Common.{zero-mul, mul-zero, mul-le-mul_right, mul-add, mul_left_comm, arith, ap, ◌∙◌}
 use Rattle.std.proofs.Math.Path.{sym}
 use borrow.Author.Tests.{le-leb, lt-leb, leb-true, leb-false}
@@ -17,7 +17,7 @@ use Rattle.score_outcome.specs.declared.SolvedCamera.{SolvedCamera}
 use Rattle.score_outcome.specs.declared.Scoring.{Scoring}
 use Rattle.score_outcome.specs.declared.Finding.{Finding}
 use Rattle.score_outcome.specs.declared.Finding.TheVariants.{Failed, Solved}
-use Rattle.score_outcome.specs.declared.Outcome.TheVariants.{Skipped, Scored}
+use Rattle.score_outcome.specs.declared.SkipReason.TheVariants.{NoMean}
 use Rattle.score_outcome.specs.Share.{RestsOn, evaluated01, outcome01}
 
 mean_of_lem : (s : SolvedCamera) (sensor : ScheimpflugParams) (center : Pt2) (rows : List Float) (flags : List ℕ) → (scoring_of s sensor center rows flags).mean ≡ mean_with s rows flags
@@ -29,7 +29,7 @@ unfolding enough_with enough
 counted_times share s rows flags h = leb-true _ _ h
 
 pub scored_rests : (share : ℕ) (s : SolvedCamera) (sensor : ScheimpflugParams) (center : Pt2) (rows : List Float) (flags : List ℕ) (g : Scoring)
-    → evaluated share s sensor center rows flags ≡ Scored g → RestsOn share s rows flags g.mean
+    → evaluated share s sensor center rows flags ≡ Ok g → RestsOn share s rows flags g.mean
 scored_rests share s sensor center rows flags g h =
     let p = scored_passed share s sensor center rows flags g h in
     record {
@@ -52,7 +52,7 @@ unfolding mean_with errors_with error_sum counted_errors summed rows_of mean_of 
 no_mean_lem s = refl
 
 pub no_rows : (share : ℕ) (s : SolvedCamera) (sensor : ScheimpflugParams) (center : Pt2)
-    → valid_camera (damped_camera s.camera) ≡ true → (enough_with share s [] [] ≡ true) × (evaluated share s sensor center [] [] ≡ Skipped 3)
+    → valid_camera (damped_camera s.camera) ≡ true → (enough_with share s [] [] ≡ true) × (evaluated share s sensor center [] [] ≡ Err NoMean)
 unfolding enough_with
 no_rows share s sensor center v = (no_rows_enough share (errors_with s [] []).count, infinite_skips share s sensor center [] [] v (no_mean_lem s))
 

@@ -1,7 +1,10 @@
 -- What Answer refuses of a finding, and the outcome of one that it takes. Definitions only.
-use Rattle.std.specs.Prelude.{ℕ, ◌*◌, Bool, false, not, ◌||◌, cond, List, [], ◌∷◌, ◌++◌, eqb, ltb, leb, length, Float}
+use Rattle.std.specs.Prelude.{ℕ, ◌*◌, Bool, not, ◌||◌, cond, List, [], ◌∷◌, ◌++◌, eqb, ltb, leb, length, Float, Result, Ok, Err, ⊤}
+use Rattle.std.specs.List.{list_any}
 use Rattle.std.specs.Float.Ieee.{is_nan}
-use Rattle.common.specs.Refusal.{Check, ◌when◌, first_refusal}
+use Rattle.common.specs.declared.Refusal.{Refusal}
+use Rattle.common.specs.declared.Refusal.TheVariants.{BadRows, BeyondHalf}
+use Rattle.common.specs.Checks.{Check, ◌when◌, first_refusal}
 use Rattle.float.specs.Float.{is_finite}
 use Rattle.float_series.specs.Series.{sines, cosines, series_of}
 use Rattle.float_series.specs.Answer.{beyond_half}
@@ -11,34 +14,31 @@ use Rattle.score_camera.specs.declared.pinhole.PinholeCamera.{PinholeCamera}
 use Rattle.score_camera.specs.Camera.{damped_camera, valid_camera}
 use Rattle.score_camera.specs.Penalties.{score_of}
 use Rattle.score_rows.specs.Rows.{rows_of, tilt_matrix, error_sum, mean_of}
-use Rattle.score_rows.specs.declared.TiltTrig.{TiltTrig}
+use Rattle.camera_tilt.specs.declared.sensor.TiltTrig.{TiltTrig}
 use Rattle.score_rows.specs.declared.ErrorSum.{ErrorSum}
 use Rattle.score_outcome.specs.declared.SolvedCamera.{SolvedCamera}
 use Rattle.score_outcome.specs.declared.Scoring.{Scoring}
 use Rattle.score_outcome.specs.declared.Finding.{Finding}
 use Rattle.score_outcome.specs.declared.Finding.TheVariants.{Failed, Solved}
-use Rattle.score_outcome.specs.declared.Outcome.{Outcome}
-use Rattle.score_outcome.specs.declared.Outcome.TheVariants.{Skipped, Scored}
-use Rattle.score_outcome.specs.declared.ErrorCount.{ErrorCount}
-use Rattle.score_outcome.specs.declared.ErrorCount.TheVariants as count
+use Rattle.score_outcome.specs.declared.SkipReason.TheVariants.{HostFailed, BadCamera, NoMean, NoNumber}
+use Rattle.score_outcome.specs.Reasons.{Outcome}
 
 -- a flag above 1
 unfoldable pub any_above_one : List ℕ → Bool
-any_above_one [] = false
-any_above_one (flag ∷ flags) = ltb 1 flag || any_above_one flags
+any_above_one flags = list_any (λ flag. ltb 1 flag) flags
 
 -- ---- what is refused of a finding
 -- 01, 'Answer', for Solved: 13 more than 1,024 points, rows not four per flag, a flag above 1
 abbrev pub row_checks : List Float → List ℕ → List Check
-row_checks rows flags = (13 when ltb 1024 (length flags)) ∷ (13 when not (eqb (length rows) (4 * length flags))) ∷ (13 when any_above_one flags) ∷ []
+row_checks rows flags = (BadRows when ltb 1024 (length flags)) ∷ (BadRows when not (eqb (length rows) (4 * length flags))) ∷ (BadRows when any_above_one flags) ∷ []
 
 -- 02, E1: after 13, 27 where a tilt of the seed is NaN or beyond 0.5 in size
-unfoldable pub solved_refusal : ScheimpflugParams → List Float → List ℕ → ℕ
-solved_refusal sensor rows flags = first_refusal (row_checks rows flags ++ ((27 when (beyond_half sensor.tilt_x || beyond_half sensor.tilt_y)) ∷ []))
+unfoldable pub solved_refusal : ScheimpflugParams → List Float → List ℕ → Result ⊤ Refusal
+solved_refusal sensor rows flags = first_refusal (row_checks rows flags ++ ((BeyondHalf when (beyond_half sensor.tilt_x || beyond_half sensor.tilt_y)) ∷ []))
 
 -- For Failed neither rows nor tilts are read.
-unfoldable pub finding_refusal : Finding → ScheimpflugParams → List Float → List ℕ → ℕ
-finding_refusal Failed sensor rows flags = 0
+unfoldable pub finding_refusal : Finding → ScheimpflugParams → List Float → List ℕ → Result ⊤ Refusal
+finding_refusal Failed sensor rows flags = Ok tt
 finding_refusal (Solved c) sensor rows flags = solved_refusal sensor rows flags
 
 -- ---- the outcome
@@ -79,23 +79,21 @@ scoring_of s sensor center rows flags =
 
 -- 02, E3: a score that isn't a number is reason 4; an infinite one is a score
 unfoldable pub scored_as : Scoring → Outcome
-scored_as g = cond (is_nan g.score) (Skipped 4) (Scored g)
+scored_as g = cond (is_nan g.score) (Err NoNumber) (Ok g)
 
 -- 01, 'The run': the camera is damped, then checked (reason 2), and the rows are projected; a mean that isn't finite is reason 3, and so is, by 02, E11,
 -- one over too few of the rows.
 unfoldable pub evaluated : ℕ → SolvedCamera → ScheimpflugParams → Pt2 → List Float → List ℕ → Outcome
 evaluated share s sensor center rows flags =
-    cond (not (valid_camera (damped_camera s.camera))) (Skipped 2)
-    (cond (not (enough_with share s rows flags)) (Skipped 3)
-    (cond (not (is_finite (mean_with s rows flags))) (Skipped 3) (scored_as (scoring_of s sensor center rows flags))))
+    cond (not (valid_camera (damped_camera s.camera))) (Err BadCamera)
+    (cond (not (enough_with share s rows flags)) (Err NoMean)
+    (cond (not (is_finite (mean_with s rows flags))) (Err NoMean) (scored_as (scoring_of s sensor center rows flags))))
 
 -- Reason 1: the host Failed. A solved camera is looked at with the seed's own tilts.
 unfoldable pub outcome_of : ℕ → Finding → ScheimpflugParams → Pt2 → List Float → List ℕ → Outcome
-outcome_of share Failed sensor center rows flags = Skipped 1
+outcome_of share Failed sensor center rows flags = Err HostFailed
 outcome_of share (Solved c) sensor center rows flags = evaluated share (solved_at c sensor) sensor center rows flags
 
 -- ---- what the mean rests on: sum and count of a solved finding's errors, refused as Answer refuses the finding
-unfoldable pub error_count_of : PinholeCamera → ScheimpflugParams → List Float → List ℕ → ErrorCount
-error_count_of c sensor rows flags =
-    let n = solved_refusal sensor rows flags in
-    cond (eqb n 0) (count.Errors (errors_with (solved_at c sensor) rows flags)) (count.Refused n)
+unfoldable pub error_count_of : PinholeCamera → ScheimpflugParams → List Float → List ℕ → Result ErrorSum Refusal
+error_count_of c sensor rows flags = elim (solved_refusal sensor rows flags) [ Ok _ ↦ Ok (errors_with (solved_at c sensor) rows flags) | Err r ↦ Err r ]

@@ -1,4 +1,5 @@
 pub mod Evaluation
 pub mod Mean
 pub mod Facts
+pub mod Reasons
 pub mod Share

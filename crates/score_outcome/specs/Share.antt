@@ -1,5 +1,5 @@
 -- 02, E11: what it is to rest on a share of the rows, and 01's outcome, which asks for none. Definitions only.
-use Rattle.std.specs.Prelude.{ℕ, ◌*◌, ◌≤◌, ◌≡◌, not, cond, List, length, Float}
+use Rattle.std.specs.Prelude.{ℕ, ◌*◌, ◌≤◌, ◌≡◌, not, cond, List, length, Float, Err}
 use Rattle.float.specs.Float.{is_finite}
 use Rattle.camera_models.specs.declared.math.Pt2.{Pt2}
 use Rattle.camera_tilt.specs.declared.sensor.ScheimpflugParams.{ScheimpflugParams}
@@ -8,8 +8,8 @@ use Rattle.score_outcome.specs.Evaluation.{solved_at, errors_with, mean_with, sc
 use Rattle.score_outcome.specs.declared.SolvedCamera.{SolvedCamera}
 use Rattle.score_outcome.specs.declared.Finding.{Finding}
 use Rattle.score_outcome.specs.declared.Finding.TheVariants.{Failed, Solved}
-use Rattle.score_outcome.specs.declared.Outcome.{Outcome}
-use Rattle.score_outcome.specs.declared.Outcome.TheVariants.{Skipped}
+use Rattle.score_outcome.specs.declared.SkipReason.TheVariants.{HostFailed, BadCamera, NoMean}
+use Rattle.score_outcome.specs.Reasons.{Outcome}
 
 -- ---- a mean of these rows over at least this share of them, in whole numbers
 pub record RestsOn (share : ℕ) (s : SolvedCamera) (rows : List Float) (flags : List ℕ) (mean : Float) : Type 0 where
@@ -19,9 +19,9 @@ pub record RestsOn (share : ℕ) (s : SolvedCamera) (rows : List Float) (flags :
 -- ---- 01's outcome, with the reason 4 of 02, E3: it asks for no share
 abbrev pub evaluated01 : SolvedCamera → ScheimpflugParams → Pt2 → List Float → List ℕ → Outcome
 evaluated01 s sensor center rows flags =
-    cond (not (valid_camera (damped_camera s.camera))) (Skipped 2)
-    (cond (not (is_finite (mean_with s rows flags))) (Skipped 3) (scored_as (scoring_of s sensor center rows flags)))
+    cond (not (valid_camera (damped_camera s.camera))) (Err BadCamera)
+    (cond (not (is_finite (mean_with s rows flags))) (Err NoMean) (scored_as (scoring_of s sensor center rows flags)))
 
 abbrev pub outcome01 : Finding → ScheimpflugParams → Pt2 → List Float → List ℕ → Outcome
-outcome01 Failed sensor center rows flags = Skipped 1
+outcome01 Failed sensor center rows flags = Err HostFailed
 outcome01 (Solved c) sensor center rows flags = evaluated01 (solved_at c sensor) sensor center rows flags

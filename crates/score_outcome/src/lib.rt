@@ -5,16 +5,19 @@
 
 ghost use Rattle.std.specs.Prelude.{◌≡◌, ◌≤◌};
 ghost use Rattle.score_camera.specs.Penalties.{score_of};
+ghost use Rattle.score_outcome.specs.Reasons.{reason_number, reason_numbered};
 ghost use Rattle.score_outcome.specs.Evaluation.{any_above_one, trig_of, solved_refusal, finding_refusal, enough, scored_as, evaluated, outcome_of, error_count_of};
 
 use camera_models::math::Pt2;
-use camera_tilt::sensor::ScheimpflugParams;
+use camera_tilt::sensor::{ScheimpflugParams, TiltTrig};
+use common::Refusal;
 use float_series::{beyond, cosine_sum, sine_sum};
 use score_camera::penalties::candidate_score;
 use score_camera::pinhole::{PinholeCamera, damped_camera, validate_camera};
-use score_rows::{ErrorSum, TiltTrig, mean_reproj_error, reproj_error_sum, tilt_matrix};
+use score_rows::{ErrorSum, mean_reproj_error, reproj_error_sum, tilt_matrix};
 
 // What the host found for a seed: the camera's nine numbers, or nothing.
+// Kept: the interface names the two kinds of finding, Failed and Solved.
 #[derive(Clone, Copy)]
 pub enum Finding {
     Failed,
@@ -36,67 +39,97 @@ pub struct Scoring {
     pub score: f64,
 }
 
-// Skipped: 1 the host failed, 2 the camera is not valid, 3 too few rows count or the mean error is not finite, 4 the score is not a number.
-#[derive(Clone, Copy)]
-pub enum Outcome {
-    Skipped(u8),
-    Scored(Scoring),
+// Why a finding has no score, in the order of the numbers that other languages are told (`u8::from`).
+#[derive(Clone, Copy, Debug, PartialEq, Eq)]
+pub enum SkipReason {
+    // the host found no camera
+    HostFailed,
+    // the camera is not valid
+    BadCamera,
+    // too few rows count, or the mean error is not finite
+    NoMean,
+    // the score is not a number
+    NoNumber,
 }
 
-// Sum and count of a finding's errors, or the number of its refusal.
-#[derive(Clone, Copy)]
-pub enum ErrorCount {
-    Errors(ErrorSum),
-    Refused(u8),
+impl From<SkipReason> for u8 {
+    ghost from_gives = { λ reason number. number ≡ reason_number reason };
+
+    fn from(reason: SkipReason) -> u8 {
+        match reason {
+            SkipReason::HostFailed => 1,
+            SkipReason::BadCamera => 2,
+            SkipReason::NoMean => 3,
+            SkipReason::NoNumber => 4,
+        }
+    }
 }
 
+// Of any other number there is no reason, and no line of the journal has it.
+impl TryFrom<u8> for SkipReason {
+    type Error = Refusal;
+
+    ghost try_from_gives = { λ number reason. reason ≡ reason_numbered number };
+
+    fn try_from(number: u8) -> Result<SkipReason, Refusal> {
+        match number {
+            1 => Ok(SkipReason::HostFailed),
+            2 => Ok(SkipReason::BadCamera),
+            3 => Ok(SkipReason::NoMean),
+            4 => Ok(SkipReason::NoNumber),
+            _ => Err(Refusal::NotWritable),
+        }
+    }
+}
+
+// A finding is scored, or skipped for a reason.
+pub type Outcome = Result<Scoring, SkipReason>;
+
+#[tactic(auto, unfolding(crate::specs::Evaluation::any_above_one))]
 fn any_above_one(flags: &[u8]) -> bool
     ensures { result ≡ any_above_one flags.now }
 {
-    let mut i = 0;
-    while i < flags.len() {
-        if flags[i] > 1 {
-            return true;
-        }
-        i += 1;
-    }
-    false
+    flags.iter().any(|flag| *flag > 1)
 }
 
-fn solved_refusal(sensor: ScheimpflugParams, rows: &[f64], flags: &[u8]) -> u8
+// Kept: rows and flags are two lists, here and below: the rules name the two, and C lends them apart.
+#[tactic(auto, unfolding(crate::specs::Evaluation::solved_refusal))]
+fn solved_refusal(sensor: ScheimpflugParams, rows: &[f64], flags: &[u8]) -> Result<(), Refusal>
     ensures { result ≡ solved_refusal sensor rows.now flags.now }
 {
     if flags.len() > 1024 {
-        return 13;
+        return Err(Refusal::BadRows);
     }
     if rows.len() != 4 * flags.len() {
-        return 13;
+        return Err(Refusal::BadRows);
     }
     if any_above_one(flags) {
-        return 13;
+        return Err(Refusal::BadRows);
     }
     if beyond(sensor.tilt_x) | beyond(sensor.tilt_y) {
-        return 27;
+        return Err(Refusal::BeyondHalf);
     }
-    0
+    Ok(())
 }
 
-// The number of the first refusal of a finding, 0 for none. Of a failed one neither rows nor tilts are read.
+// The first refusal of a finding. Of a failed one neither rows nor tilts are read.
+#[tactic(auto, unfolding(crate::specs::Evaluation::finding_refusal))]
 pub fn finding_refusal(
     finding: Finding,
     sensor: ScheimpflugParams,
     rows: &[f64],
     flags: &[u8],
-) -> u8
+) -> Result<(), Refusal>
     ensures { result ≡ finding_refusal finding sensor rows.now flags.now }
 {
     let Finding::Solved(_) = finding else {
-        return 0;
+        return Ok(());
     };
     solved_refusal(sensor, rows, flags)
 }
 
 // Sine and cosine of each tilt, by the series.
+#[tactic(auto, unfolding(crate::specs::Evaluation::trig_of))]
 fn trig_of(sensor: ScheimpflugParams) -> TiltTrig
     ensures { result ≡ trig_of sensor }
 {
@@ -123,6 +156,8 @@ fn is_enough(share: usize, counted: u64, all: usize) -> bool
 }
 
 // The outcome of a camera with a finite mean error.
+// Kept: tilts and centre are two values, here and below: the tilts are the seed's, the centre the run's.
+#[tactic(auto, unfolding(crate::specs::Evaluation::scored_as))]
 fn scored_outcome(
     mean: f64,
     camera: PinholeCamera,
@@ -132,10 +167,10 @@ fn scored_outcome(
     ensures { result ≡ scored_as (record { camera = camera; mean = mean; score = score_of mean camera sensor center }) }
 {
     let score = candidate_score(mean, camera, sensor, center);
-    if score != score {
-        return Outcome::Skipped(4);
+    if float::is_nan(score) {
+        return Err(SkipReason::NoNumber);
     }
-    Outcome::Scored(Scoring {
+    Ok(Scoring {
         camera: camera,
         mean: mean,
         score: score,
@@ -155,20 +190,21 @@ fn evaluate_candidate(
 {
     let camera = damped_camera(solved.camera);
     if !validate_camera(camera) {
-        return Outcome::Skipped(2);
+        return Err(SkipReason::BadCamera);
     }
     let errors = reproj_error_sum(camera, tilt_matrix(solved.trig), rows, flags);
     if !is_enough(share, errors.count, flags.len()) {
-        return Outcome::Skipped(3);
+        return Err(SkipReason::NoMean);
     }
     let mean = mean_reproj_error(errors);
     if !float::is_finite(mean) {
-        return Outcome::Skipped(3);
+        return Err(SkipReason::NoMean);
     }
     scored_outcome(mean, camera, sensor, center)
 }
 
 // The outcome of what the host found, where a mean has to rest on this share of all rows, in per cent.
+#[tactic(auto, unfolding(crate::specs::Evaluation::outcome_of))]
 pub fn finding_outcome(
     share: usize,
     finding: Finding,
@@ -180,7 +216,7 @@ pub fn finding_outcome(
     ensures { result ≡ outcome_of share finding sensor center rows.now flags.now }
 {
     let Finding::Solved(camera) = finding else {
-        return Outcome::Skipped(1);
+        return Err(SkipReason::HostFailed);
     };
     let trig = trig_of(sensor);
     let solved = SolvedCamera { camera, trig };
@@ -188,18 +224,16 @@ pub fn finding_outcome(
 }
 
 // Sum and count of the errors that the mean of a solved camera divides, damped as it is for its outcome.
+#[tactic(auto, unfolding(crate::specs::Evaluation::error_count_of, crate::specs::Evaluation::errors_with))]
 pub fn count_errors(
     camera: PinholeCamera,
     sensor: ScheimpflugParams,
     rows: &[f64],
     flags: &[u8],
-) -> ErrorCount
+) -> Result<ErrorSum, Refusal>
     ensures { result ≡ error_count_of camera sensor rows.now flags.now }
 {
-    let number = solved_refusal(sensor, rows, flags);
-    if number != 0 {
-        return ErrorCount::Refused(number);
-    }
+    solved_refusal(sensor, rows, flags)?;
     let h = tilt_matrix(trig_of(sensor));
-    ErrorCount::Errors(reproj_error_sum(damped_camera(camera), h, rows, flags))
+    Ok(reproj_error_sum(damped_camera(camera), h, rows, flags))
 }

@@ -1,6 +1,6 @@
 -- The theorems on specs/Steps.antt: rows added one by one, some at a time, and by their flags. Assumes nothing.
 use Rattle.std.specs.Prelude.{◌≡◌, ℕ, zero, suc, ◌+◌, ◌*◌, ◌%◌, ◌^◌, ◌<◌, ◌≤◌, Bool, true, false, cond, ◌&&◌, List, [], ◌∷◌, length, drop, ◌==◌, slice_index, slice_index_or, refl, Float}
-use Rattle.std.proofs.Common.{sym, ap, ap₂, subst, ◌∙◌, arith, mod-eq_of_lt, add-one, drop-cons}
+use Rattle.std.proofs.Common.{◌/◌, min, not, T, ltb, ltb→lt, nltb→le, sym, ap, ap₂, subst, ◌∙◌, arith, mod-eq_of_lt, add-one, drop-cons}
 use Rattle.std.proofs.Math.Seq.{drop-length}
 use Rattle.std.specs.Float.{nan, binary64}
 use Rattle.std.specs.Float.Ieee.{of_bits}
@@ -45,6 +45,20 @@ rows_by_fours (x ∷ y ∷ u ∷ []) fs n a b c = omega arith
 rows_by_fours (x ∷ y ∷ u ∷ v ∷ ns) [] n a b c = absurd (omega arith)
 rows_by_fours (x ∷ y ∷ u ∷ v ∷ ns) (f ∷ fs) zero a b c = absurd (omega arith)
 rows_by_fours (x ∷ y ∷ u ∷ v ∷ ns) (f ∷ fs) (suc n) a b c = ap suc (rows_by_fours ns fs n (omega arith) (omega arith) (omega arith))
+
+-- so as many as the fewer of them
+pub rows_fewer : (ns : List Float) (fs : List ℕ) → min (length ns / 4) (length fs) ≡ length (rows_of ns fs)
+rows_fewer ns fs = go (ltb (length ns / 4) (length fs)) (ltb→lt (length ns / 4) (length fs)) (nltb→le (length ns / 4) (length fs))
+  where
+    go : (t : Bool) → (T t → length ns / 4 < length fs) → (T (not t) → length fs ≤ length ns / 4) → min (length ns / 4) (length fs) ≡ length (rows_of ns fs)
+    go true x y =
+        let few = x tt in
+        let e : min (length ns / 4) (length fs) ≡ length ns / 4 = omega arith in
+        e ∙ sym (rows_by_fours ns fs (length ns / 4) (omega arith) (omega arith) (omega arith))
+    go false x y =
+        let few = y tt in
+        let e : min (length ns / 4) (length fs) ≡ length fs = omega arith in
+        e ∙ sym (rows_by_flags ns fs (omega arith))
 
 -- ---- each row is the one that stands at its place
 past_four : (x y u v : Float) (ns : List Float) (n m : ℕ) → n ≡ suc (suc (suc (suc m))) → slice_index_or (x ∷ y ∷ u ∷ v ∷ ns) n nan ≡ slice_index_or ns m nan

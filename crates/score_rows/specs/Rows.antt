@@ -12,7 +12,7 @@ use Rattle.camera_tilt.specs.Sensor.{tilt_projection_matrix, apply_homography}
 use Rattle.camera_models.specs.declared.math.Pt2.{Pt2}
 use Rattle.point_normalise.specs.Points.{distance_of}
 use Rattle.score_camera.specs.declared.pinhole.PinholeCamera.{PinholeCamera}
-use Rattle.score_rows.specs.declared.TiltTrig.{TiltTrig}
+use Rattle.camera_tilt.specs.declared.sensor.TiltTrig.{TiltTrig}
 use Rattle.score_rows.specs.declared.Row.{Row}
 use Rattle.score_rows.specs.declared.ErrorSum.{ErrorSum}
 

@@ -2,237 +2,162 @@
 // another, each with an exact check; then the sum in the rows' order. Where a check fails, or few rows of a block lie in front of the
 // camera, its rows are taken one by one.
 
-ghost use Rattle.std.specs.Prelude.{◌≡◌, ◌+◌, ◌*◌, ◌<◌, ◌≤◌, length};
+ghost use Rattle.std.specs.Prelude.{◌≡◌, ◌≤◌, IfSome};
 ghost use Rattle.score_rows.specs.Steps.{add_rows, add_bits, add_all, one_in_front, in_front, Squares, QuickRoots, FiniteBits};
 
-use crate::{ErrorSum, add_rows, square_at, with_error};
+// Kept: arrays of 16 for squares, guesses and roots, and n of their places in use: there is no heap, and the last block has fewer rows.
+
+use crate::rows::{Block, Rows};
+use crate::{ErrorSum, Projection, add_rows, square_at, with_error};
 use root_code::quick::{quick_guess, quick_sqrt};
-use score_camera::pinhole::PinholeCamera;
 
-// Sum and count with some more rows, and how many these are.
-#[derive(Clone, Copy)]
-struct Part {
-    total: ErrorSum,
-    rows: usize,
-}
-
-// The squares of the errors of the n rows from row i on. No row waits for another, here and in the roots below.
-fn square_errors(
-    squares: &mut [f64; 16],
-    camera: PinholeCamera,
-    h: [[f64; 3]; 3],
-    rows: &[f64],
-    i: usize,
-    n: usize,
-)
-    requires { (length squares.old ≡ 16) × (n ≤ 16) × (4 * (i + n) ≤ length rows.now) }
-    ensures { (length squares.new ≡ 16) × Squares camera h rows.now i n squares.new }
+// The squares of the errors of a block's rows. No row waits for another, here and in the roots below.
+fn square_errors(squares: &mut [f64; 16], by: Projection, block: Block)
+    ensures { Squares by.camera by.h block.entry.rows.numbers.now block.entry.i block.entry.n squares.new }
 {
-    let mut j = 0;
-    while j < n {
-        squares[j] = square_at(camera, h, rows, i + j);
-        j += 1;
+    for j in 0..block.n {
+        squares[j] = square_at(by, block.rows, block.i + j);
     }
 }
 
 // Guesses for the roots of n numbers, on which nothing rests. They have a loop of their own: what is left for each row is then so
 // short that the processor works on several rows at a time.
 fn quick_guesses(guesses: &mut [u64; 16], squares: &[f64; 16], n: usize)
-    requires { (length guesses.old ≡ 16) × (n ≤ 16) }
-    ensures { length guesses.new ≡ 16 }
+    requires { n ≤ 16 }
 {
-    let mut j = 0;
-    while j < n {
+    for j in 0..n {
         guesses[j] = quick_guess(squares[j]);
-        j += 1;
     }
 }
 
 // The roots of n numbers from the guesses that stand in their places. All of them are right if the reply is below 2^37.
 fn quick_roots(bits: &mut [u64; 16], squares: &[f64; 16], n: usize) -> u64
-    requires { (length bits.old ≡ 16) × (n ≤ 16) }
-    ensures { (length bits.new ≡ 16) × QuickRoots n bits.new result squares.now }
+    requires { n ≤ 16 }
+    ensures { QuickRoots n bits.new result squares.now }
 {
     let mut wrong: u64 = 0;
-    let mut j = 0;
-    while j < n {
+    for j in 0..n {
         let q = quick_sqrt(squares[j], bits[j]);
         bits[j] = q.bits;
         wrong = wrong | q.wrong;
-        j += 1;
     }
     wrong
 }
 
-// How many of n rows a block takes.
-fn block_of(n: usize) -> usize
-    ensures { (result ≤ n) × (result ≤ 16) × (0 < n → 0 < result) }
-{
-    if n < 16 { n } else { 16 }
-}
-
 // 1 for a row in front of the camera.
+#[tactic(auto, unfolding(crate::specs::Steps::one_in_front))]
 fn one_in_front(flag: u8) -> u8
     ensures { result ≡ one_in_front flag }
 {
     if flag == 1 { 1 } else { 0 }
 }
 
-// How many of the n rows from row i on lie in front of the camera.
-fn in_front(flags: &[u8], i: usize, n: usize) -> u8
-    requires { (n ≤ 16) × (i + n ≤ length flags.now) }
-    ensures { result ≡ in_front flags.now i n }
+// How many of a block's rows lie in front of the camera.
+fn in_front(block: Block) -> u8
+    ensures { result ≡ in_front block.entry.rows.flags.now block.entry.i block.entry.n }
 {
     let mut count: u8 = 0;
-    let mut j = 0;
-    while j < n {
-        count += one_in_front(flags[i + j]);
-        j += 1;
+    for j in 0..block.n {
+        count += one_in_front(block.rows.flags[block.i + j]);
     }
     count
 }
 
 // n rows in front of the camera, in their order, from the bits of their errors.
+// Kept: beside add_some, whose look at each flag costs 7 instructions a row; a test that is passed in would need contracts for it.
 fn add_all(total: ErrorSum, bits: &[u64; 16], n: usize) -> ErrorSum
     requires { (n ≤ 16) × FiniteBits n bits.now }
     ensures { result ≡ add_all total bits.now n }
 {
     let mut sum = total;
-    let mut j = 0;
-    while j < n {
+    for j in 0..n {
         sum = with_error(sum, true, f64::from_bits(bits[j]));
-        j += 1;
     }
     sum
 }
 
-// The n rows from row i on, in front of the camera or not.
-fn add_some(total: ErrorSum, flags: &[u8], bits: &[u64; 16], i: usize, n: usize) -> ErrorSum
-    requires { (n ≤ 16) × (i + n ≤ length flags.now) × FiniteBits n bits.now }
-    ensures { result ≡ add_bits total flags.now bits.now i n }
+// A block's rows, in front of the camera or not.
+fn add_some(total: ErrorSum, block: Block, bits: &[u64; 16]) -> ErrorSum
+    requires { FiniteBits block.n bits.now }
+    ensures { result ≡ add_bits total block.entry.rows.flags.now bits.now block.entry.i block.entry.n }
 {
     let mut sum = total;
-    let mut j = 0;
-    while j < n {
-        sum = with_error(sum, flags[i + j] == 1, f64::from_bits(bits[j]));
-        j += 1;
+    for j in 0..block.n {
+        let counted = block.rows.flags[block.i + j] == 1;
+        sum = with_error(sum, counted, f64::from_bits(bits[j]));
     }
     sum
 }
 
 // The same, without a look at each flag where all of the rows lie in front.
-fn add_roots(total: ErrorSum, flags: &[u8], bits: &[u64; 16], i: usize, n: usize) -> ErrorSum
-    requires { (n ≤ 16) × (i + n ≤ length flags.now) × FiniteBits n bits.now }
-    ensures { result ≡ add_bits total flags.now bits.now i n }
+fn add_roots(total: ErrorSum, block: Block, bits: &[u64; 16]) -> ErrorSum
+    requires { FiniteBits block.n bits.now }
+    ensures { result ≡ add_bits total block.entry.rows.flags.now bits.now block.entry.i block.entry.n }
 {
-    if in_front(flags, i, n) as usize == n {
-        return add_all(total, bits, n);
+    if in_front(block) as usize == block.n {
+        return add_all(total, bits, block.n);
     }
-    add_some(total, flags, bits, i, n)
+    add_some(total, block, bits)
 }
 
-// The rows of the block at row i, 0 where one by one is faster.
-fn dense_block(flags: &[u8], i: usize, n: usize) -> usize
-    requires { (i ≤ n) × (n ≤ length flags.now) }
-    ensures { (i + result ≤ n) × (result ≤ 16) }
-{
-    if n - i < 8 {
-        return 0;
-    }
-    let block = block_of(n - i);
-    if in_front(flags, i, block) < 8 {
-        return 0;
-    }
-    block
-}
-
-// Blocks from row i on, side by side, as far as all of them are dense and all of their roots right. The first one has some rows.
+// A block's rows, their roots all at once. None where the check of one of these fails.
 fn add_dense(
     total: ErrorSum,
-    camera: PinholeCamera,
-    h: [[f64; 3]; 3],
-    rows: &[f64],
-    flags: &[u8],
-    i: usize,
-    first: usize,
-    n: usize,
-) -> Part
-    requires { (i + first ≤ n) × (first ≤ 16) × (4 * n ≤ length rows.now) × (n ≤ length flags.now) }
-    ensures { (i + result.rows ≤ n) × (result.total ≡ add_rows total camera h rows.now flags.now i result.rows) }
+    by: Projection,
+    block: Block,
+    squares: &mut [f64; 16],
+    bits: &mut [u64; 16],
+) -> Option<ErrorSum>
+    ensures { IfSome result (λ s. s ≡ add_rows total by.camera by.h block.entry.rows.numbers.now block.entry.rows.flags.now block.entry.i block.entry.n) }
+{
+    square_errors(squares, by, block);
+    quick_guesses(bits, squares, block.n);
+    if quick_roots(bits, squares, block.n) >= 0x20_0000_0000 {
+        return None;
+    }
+    Some(add_roots(total, block, bits))
+}
+
+// A block's rows, one by one. Where none lies in front of the camera, they are passed over.
+fn add_sparse(total: ErrorSum, by: Projection, block: Block) -> ErrorSum
+    ensures { result ≡ add_rows total by.camera by.h block.entry.rows.numbers.now block.entry.rows.flags.now block.entry.i block.entry.n }
+{
+    if in_front(block) == 0 {
+        return total;
+    }
+    add_rows(total, by, block)
+}
+
+// A block's rows, whichever way is faster.
+fn add_block(
+    total: ErrorSum,
+    by: Projection,
+    block: Block,
+    squares: &mut [f64; 16],
+    bits: &mut [u64; 16],
+) -> ErrorSum
+    ensures { result ≡ add_rows total by.camera by.h block.entry.rows.numbers.now block.entry.rows.flags.now block.entry.i block.entry.n }
+{
+    if 8 <= in_front(block) {
+        if let Some(sum) = add_dense(total, by, block, squares, bits) {
+            return sum;
+        }
+    }
+    add_sparse(total, by, block)
+}
+
+// All rows, 16 at a time.
+pub fn add_blocks(total: ErrorSum, by: Projection, rows: Rows) -> ErrorSum
+    ensures { result ≡ add_rows total by.camera by.h rows.entry.numbers.now rows.entry.flags.now 0 rows.entry.count }
 {
     let mut squares = [0.0; 16];
     let mut bits = [0u64; 16];
     let mut sum = total;
-    let mut done = 0;
-    let mut block = first;
-    while 0 < block {
-        square_errors(&mut squares, camera, h, rows, i + done, block);
-        quick_guesses(&mut bits, &squares, block);
-        if quick_roots(&mut bits, &squares, block) >= 0x20_0000_0000 {
-            return Part {
-                total: sum,
-                rows: done,
-            };
-        }
-        sum = add_roots(sum, flags, &bits, i + done, block);
-        done += block;
-        block = dense_block(flags, i + done, n);
-    }
-    Part {
-        total: sum,
-        rows: done,
-    }
-}
-
-// The n rows from row i on, one by one. Where they are many and none lies in front of the camera, they are passed over.
-fn add_sparse(
-    total: ErrorSum,
-    camera: PinholeCamera,
-    h: [[f64; 3]; 3],
-    rows: &[f64],
-    flags: &[u8],
-    i: usize,
-    n: usize,
-) -> ErrorSum
-    requires { (n ≤ 16) × (4 * (i + n) ≤ length rows.now) × (i + n ≤ length flags.now) }
-    ensures { result ≡ add_rows total camera h rows.now flags.now i n }
-{
-    if 8 <= n {
-        if in_front(flags, i, n) == 0 {
-            return total;
-        }
-    }
-    add_rows(total, camera, h, rows, flags, i, n)
-}
-
-// The first n rows: dense blocks as far as they go, then a block one by one, and so on to the end.
-pub fn add_blocks(
-    total: ErrorSum,
-    camera: PinholeCamera,
-    h: [[f64; 3]; 3],
-    rows: &[f64],
-    flags: &[u8],
-    n: usize,
-) -> ErrorSum
-    requires { (4 * n ≤ length rows.now) × (n ≤ length flags.now) }
-    ensures { result ≡ add_rows total camera h rows.now flags.now 0 n }
-{
-    let mut sum = total;
-    let mut done = 0;
-    while done < n {
-        let first = dense_block(flags, done, n);
-        let part = if first == 0 {
-            Part {
-                total: sum,
-                rows: 0,
-            }
-        } else {
-            add_dense(sum, camera, h, rows, flags, done, first, n)
-        };
-        let at = done + part.rows;
-        let block = block_of(n - at);
-        sum = add_sparse(part.total, camera, h, rows, flags, at, block);
-        done = at + block;
+    for k in 0..rows.count.div_ceil(16) {
+        let i = 16 * k;
+        let n = (rows.count - i).min(16);
+        let block = Block { rows, i, n };
+        sum = add_block(sum, by, block, &mut squares, &mut bits);
     }
     sum
 }

@@ -4,30 +4,23 @@
 #![tactic(auto)]
 
 mod blocks;
+mod rows;
 
-ghost use Rattle.std.specs.Prelude.{◌≡◌, ◌+◌, ◌*◌, ◌<◌, ◌≤◌, length};
+ghost use Rattle.std.specs.Prelude.{◌≡◌, ◌<◌};
 ghost use Rattle.score_rows.specs.Rows.{rows_of, tilt_matrix, projected, no_errors, error_sum, mean_of};
 ghost use Rattle.score_rows.specs.Steps.{add_error, squared_distance, square_at, add_row, add_rows};
 
 use crate::blocks::add_blocks;
+use crate::rows::{Block, Rows, rows_of};
 use camera_models::distortion::distort;
 use camera_models::intrinsics::sensor_to_pixel;
 use camera_models::math::Pt2;
-use camera_tilt::sensor::{apply_homography, tilt_projection_matrix};
+use camera_tilt::sensor::{TiltTrig, apply_homography, tilt_projection_matrix};
 use point_normalise::linalg;
 use score_camera::pinhole::PinholeCamera;
 
-// Sine and cosine of each tilt of a seed.
-#[repr(C)]
-#[derive(Clone, Copy)]
-pub struct TiltTrig {
-    pub sin_x: f64,
-    pub cos_x: f64,
-    pub sin_y: f64,
-    pub cos_y: f64,
-}
-
-// An ideal point, the pixel where it was seen, and 1 if it lies in front of the camera, 0 if not.
+// An ideal point, the pixel where it was seen, and 1 if it lies in front of the camera, 0 if not. The rules are said of lists of such
+// rows; the code reads their numbers where they stand.
 #[derive(Clone, Copy)]
 pub struct Row {
     pub ideal: Pt2,
@@ -35,14 +28,22 @@ pub struct Row {
     pub flag: u8,
 }
 
-// Running sum and count of reprojection errors.
+// What brings an ideal point to a pixel: the camera, and its sensor's tilt.
 #[derive(Clone, Copy)]
+struct Projection {
+    camera: PinholeCamera,
+    h: [[f64; 3]; 3],
+}
+
+// Running sum and count of reprojection errors.
+#[derive(Clone, Copy, Default)]
 pub struct ErrorSum {
     pub sum: f64,
     pub count: u64,
 }
 
 // The sum divided by the count, infinity where nothing was counted.
+#[tactic(auto, unfolding(crate::specs::Rows::mean_of))]
 pub fn mean_reproj_error(total: ErrorSum) -> f64
     ensures { result ≡ mean_of total }
 {
@@ -53,13 +54,18 @@ pub fn mean_reproj_error(total: ErrorSum) -> f64
 }
 
 // The pixel of an ideal point. No short cut for radial coefficients of 0: their factor is NaN where a power of the radius overflows.
-fn project_point(camera: PinholeCamera, h: [[f64; 3]; 3], ideal: Pt2) -> Pt2
-    ensures { result ≡ projected camera h ideal }
+#[tactic(auto, unfolding(crate::specs::Rows::projected))]
+fn project_point(by: Projection, ideal: Pt2) -> Pt2
+    ensures { result ≡ projected by.camera by.h ideal }
 {
-    sensor_to_pixel(camera.k, apply_homography(h, distort(camera.dist, ideal)))
+    sensor_to_pixel(
+        by.camera.k,
+        apply_homography(by.h, distort(by.camera.dist, ideal)),
+    )
 }
 
 // The square of the distance of two points.
+#[tactic(auto, unfolding(crate::specs::Steps::squared_distance))]
 fn squared_distance(p: Pt2, q: Pt2) -> f64
     ensures { result ≡ squared_distance p q }
 {
@@ -69,13 +75,14 @@ fn squared_distance(p: Pt2, q: Pt2) -> f64
 }
 
 // The square of a row's error.
-fn squared_error(camera: PinholeCamera, h: [[f64; 3]; 3], ideal: Pt2, seen: Pt2) -> f64
-    ensures { result ≡ squared_distance (projected camera h ideal) seen }
+fn squared_error(by: Projection, ideal: Pt2, seen: Pt2) -> f64
+    ensures { result ≡ squared_distance (projected by.camera by.h ideal) seen }
 {
-    squared_distance(project_point(camera, h, ideal), seen)
+    squared_distance(project_point(by, ideal), seen)
 }
 
 // One more error, counted or not.
+#[tactic(auto, unfolding(crate::specs::Steps::add_error))]
 fn add_error(total: ErrorSum, counted: bool, err: f64) -> ErrorSum
     ensures { result ≡ add_error total counted err }
 {
@@ -88,6 +95,7 @@ fn add_error(total: ErrorSum, counted: bool, err: f64) -> ErrorSum
     total
 }
 
+// Kept: a function of its own beside add_error and with_error: the rules name this form, the sum and count lent by `&mut` to the step.
 // The step for one row, once it is known whether it counts: the running sum and count are lent to it, and it changes them.
 fn add_if_counted(total: &mut ErrorSum, counted: bool, err: f64)
     ensures { total.new ≡ add_error total.old counted err }
@@ -105,78 +113,52 @@ fn with_error(total: ErrorSum, counted: bool, err: f64) -> ErrorSum
 }
 
 // The square of the error of row k.
-fn square_at(camera: PinholeCamera, h: [[f64; 3]; 3], rows: &[f64], k: usize) -> f64
-    requires { 4 * k + 4 ≤ length rows.now }
-    ensures { result ≡ square_at camera h rows.now k }
+#[tactic(auto, unfolding(crate::specs::Steps::square_at))]
+fn square_at(by: Projection, rows: Rows, k: usize) -> f64
+    requires { k < rows.count }
+    ensures { result ≡ square_at by.camera by.h rows.entry.numbers.now k }
 {
-    let ideal = linalg::point_at(rows, 4 * k);
-    let seen = linalg::point_at(rows, 4 * k + 2);
-    squared_error(camera, h, ideal, seen)
+    let ideal = linalg::point_at(rows.numbers, 4 * k);
+    let seen = linalg::point_at(rows.numbers, 4 * k + 2);
+    squared_error(by, ideal, seen)
 }
 
 // One more row: row k. It is counted if it lies in front of the camera and has a finite error, and not projected if it lies behind.
-fn add_row(
-    total: ErrorSum,
-    camera: PinholeCamera,
-    h: [[f64; 3]; 3],
-    rows: &[f64],
-    flags: &[u8],
-    k: usize,
-) -> ErrorSum
-    requires { (4 * k + 4 ≤ length rows.now) × (k < length flags.now) }
-    ensures { result ≡ add_row total camera h rows.now flags.now k }
+#[tactic(auto, unfolding(crate::specs::Steps::add_row, crate::specs::Steps::add_error))]
+fn add_row(total: ErrorSum, by: Projection, rows: Rows, k: usize) -> ErrorSum
+    requires { k < rows.count }
+    ensures { result ≡ add_row total by.camera by.h rows.entry.numbers.now rows.entry.flags.now k }
 {
-    if flags[k] != 1 {
+    if rows.flags[k] != 1 {
         return total;
     }
-    let err = root_code::sqrt(square_at(camera, h, rows, k));
+    let err = root_code::sqrt(square_at(by, rows, k));
     if float::is_finite(err) {
         return with_error(total, true, err);
     }
     total
 }
 
-// The n rows from row i on, one by one.
-fn add_rows(
-    total: ErrorSum,
-    camera: PinholeCamera,
-    h: [[f64; 3]; 3],
-    rows: &[f64],
-    flags: &[u8],
-    i: usize,
-    n: usize,
-) -> ErrorSum
-    requires { (4 * (i + n) ≤ length rows.now) × (i + n ≤ length flags.now) }
-    ensures { result ≡ add_rows total camera h rows.now flags.now i n }
+// The rows of a block, one by one.
+fn add_rows(total: ErrorSum, by: Projection, block: Block) -> ErrorSum
+    ensures { result ≡ add_rows total by.camera by.h block.entry.rows.numbers.now block.entry.rows.flags.now block.entry.i block.entry.n }
 {
     let mut sum = total;
-    let mut j = 0;
-    while j < n {
-        sum = add_row(sum, camera, h, rows, flags, i + j);
-        j += 1;
+    for j in 0..block.n {
+        sum = add_row(sum, by, block.rows, block.i + j);
     }
     sum
-}
-
-// How many rows there are: four numbers and a flag each.
-fn row_count(rows: &[f64], flags: &[u8]) -> usize
-    ensures { (result ≡ length (rows_of rows.now flags.now)) × ((4 * result ≤ length rows.now) × (result ≤ length flags.now)) }
-{
-    let fours = rows.len() / 4;
-    if fours < flags.len() {
-        return fours;
-    }
-    flags.len()
 }
 
 // Nothing is counted yet.
 fn no_errors() -> ErrorSum
     ensures { result ≡ no_errors }
 {
-    ErrorSum { sum: 0.0, count: 0 }
+    ErrorSum::default()
 }
 
 // Sum and count of the errors of all rows. Few rows have a loop of their own, in which nothing is made ready for blocks.
+// Kept: the loop of add_rows stands here again: by a call of add_rows one row takes 291 instructions, as it stands 242.
 pub fn reproj_error_sum(
     camera: PinholeCamera,
     h: [[f64; 3]; 3],
@@ -185,23 +167,25 @@ pub fn reproj_error_sum(
 ) -> ErrorSum
     ensures { result ≡ error_sum camera h (rows_of rows.now flags.now) }
 {
-    let n = row_count(rows, flags);
-    if 8 <= n {
-        return add_blocks(no_errors(), camera, h, rows, flags, n);
+    let by = Projection { camera, h };
+    let all = rows_of(rows, flags);
+    if 8 <= all.count {
+        return add_blocks(no_errors(), by, all);
     }
     let mut total = no_errors();
-    let mut i = 0;
-    while i < n {
-        total = add_row(total, camera, h, rows, flags, i);
-        i += 1;
+    for i in 0..all.count {
+        total = add_row(total, by, all, i);
     }
     total
 }
 
+// The forward tilt.
+// Kept: a name of its own: the contracts here and of its callers are said of tilt_matrix, and each would have to look into that.
+#[tactic(auto, unfolding(crate::specs::Rows::tilt_matrix))]
 pub fn tilt_matrix(trig: TiltTrig) -> [[f64; 3]; 3]
     ensures { result ≡ tilt_matrix trig }
 {
-    tilt_projection_matrix(trig.sin_x, trig.cos_x, trig.sin_y, trig.cos_y)
+    tilt_projection_matrix(trig)
 }
 
 // The mean error of the rows, projected by the camera onto the tilted sensor.

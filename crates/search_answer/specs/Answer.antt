@@ -1,19 +1,20 @@
 -- Answer, as a function of the run's record, the finding and the lent list: refusals, then the rules' outcome, then its entry. Definitions only.
-use Rattle.std.specs.Prelude.{ℕ, zero, suc, ◌-◌, not, ◌&&◌, cond, List, [], ◌∷◌, ltb, eqb, length, Float}
-use Rattle.common.specs.Refusal.{◌when◌, first_refusal}
+use Rattle.std.specs.Prelude.{ℕ, zero, suc, ◌-◌, not, ◌&&◌, cond, List, [], ◌∷◌, ltb, length, Float, Result, Ok, Err, ⊤}
+use Rattle.common.specs.Checks.{◌when◌, first_refusal}
+use Rattle.common.specs.declared.Refusal.{Refusal}
+use Rattle.common.specs.declared.Refusal.TheVariants.{NoSeedWaits, ShortList}
 use Rattle.seed_rules.specs.declared.CandidateSeed.{CandidateSeed}
 use Rattle.seed_rules.specs.Rules.{offsets, y_offsets, next_list}
 use Rattle.seed_rules.specs.Layout.{written}
 use Rattle.score_outcome.specs.declared.Finding.{Finding}
-use Rattle.score_outcome.specs.declared.Outcome.{Outcome}
-use Rattle.score_outcome.specs.declared.Outcome.TheVariants as outcome
+use Rattle.score_outcome.specs.Reasons.{Outcome}
 use Rattle.score_outcome.specs.Evaluation.{outcome_of, finding_refusal}
 use Rattle.score_best.specs.declared.Best.{Best}
 use Rattle.score_best.specs.declared.Candidate.{Candidate}
 use Rattle.search_record.specs.Record.{sound, entered, next_step, round_opened, ended}
 use Rattle.search_record.specs.declared.run.Run.{Run}
 use Rattle.search_answer.specs.declared.Answered.{Answered}
-use Rattle.search_answer.specs.declared.Answered.TheVariants.{Scored, Skipped, Refused}
+use Rattle.search_answer.specs.declared.Answered.TheVariants.{Scored, Skipped}
 use Rattle.search_answer.specs.declared.AnswerReply.{AnswerReply}
 
 -- the run and the lent list after a call
@@ -25,14 +26,11 @@ abbrev pub left : Run → List Float → Left
 left r l = record { run = r; list = l }
 
 -- ---- refusals: 12 no seed is waiting (or the record isn't sound), 10 the list is too short, then those of the finding for the seed that the run keeps
-abbrev pub answer_refusal : Run → ℕ → Finding → List Float → List ℕ → ℕ
-answer_refusal r n f rows flags =
-    let k = finding_refusal f r.waiting.seed.sensor rows flags in
-    first_refusal
-    ((12 when not (sound r && r.waiting.is_waiting))
-    ∷ (10 when ltb n r.place.demand)
-    ∷ (k when not (eqb k 0))
-    ∷ [])
+abbrev pub run_refusal : Run → ℕ → Result ⊤ Refusal
+run_refusal r n = first_refusal ((NoSeedWaits when not (sound r && r.waiting.is_waiting)) ∷ (ShortList when ltb n r.place.demand) ∷ [])
+
+abbrev pub answer_refusal : Run → ℕ → Finding → List Float → List ℕ → Result ⊤ Refusal
+answer_refusal r n f rows flags = elim (run_refusal r n) [ Ok _ ↦ finding_refusal f r.waiting.seed.sensor rows flags | Err refusal ↦ Err refusal ]
 
 -- ---- the end of a round
 -- the round's best, or, if it has none, the run's
@@ -62,8 +60,8 @@ enter_def r l o =
     cond (ltb e.place.at e.place.len) (left e l) (close_round (e.options.refine_rounds - e.place.round) e l)
 
 abbrev pub reply_of : Outcome → Answered
-reply_of (outcome.Skipped reason) = Skipped reason
-reply_of (outcome.Scored s) = Scored s.score
+reply_of (Ok s) = Scored s.score
+reply_of (Err reason) = Skipped reason
 
 -- the outcome of a finding for the seed that waits
 unfoldable pub outcome_for : Run → Finding → List Float → List ℕ → Outcome
@@ -74,10 +72,11 @@ pub record AnswerLeft : Type 0 where
   pub reply : AnswerReply
   pub list : List Float
 
+-- a refused Answer leaves the run and the list
 unfoldable pub answer_def : Run → Finding → List Float → List ℕ → List Float → AnswerLeft
 answer_def r f rows flags l =
-    let n = answer_refusal r (length l) f rows flags in
     let o = outcome_for r f rows flags in
-    cond (eqb n 0)
-    (record { reply = record { reply = reply_of o; run = (enter_def r l o).run }; list = (enter_def r l o).list })
-    (record { reply = record { reply = Refused n; run = r }; list = l })
+    elim (answer_refusal r (length l) f rows flags) [
+      | Ok _ ↦ record { reply = record { reply = Ok (reply_of o); run = (enter_def r l o).run }; list = (enter_def r l o).list }
+      | Err refusal ↦ record { reply = record { reply = Err refusal; run = r }; list = l }
+    ]

@@ -1,21 +1,24 @@
 -- What Answer can rely on where none of its refusals holds, how a round ends, and what is entered. Assumes nothing.
-use Rattle.std.specs.Prelude.{ℕ, zero, suc, ◌+◌, ◌-◌, ◌≤◌, ◌<◌, ◌≡◌, refl, Bool, true, false, not, ◌&&◌, cond, List, [], ◌∷◌, ltb, eqb, Float}
-use Rattle.std.proofs.Common.{sym, ap, arith}
+use Rattle.std.specs.Prelude.{ℕ, zero, suc, ◌+◌, ◌-◌, ◌≤◌, ◌<◌, ◌≡◌, refl, Bool, true, false, not, ◌&&◌, cond, List, [], ◌∷◌, ltb, eqb, length, Float, Result, Ok, Err, ⊤}
+use Rattle.std.proofs.Common.{sym, ap, ◌∙◌, arith}
 use borrow.Author.Tests.{ltb-false, eqb-true, not-false, lt-ltb, le-ltb}
 use Rattle.common.specs.Tests.{both_true}
-use Rattle.common.specs.RefusalLaws.{refuses_none}
+use Rattle.common.specs.declared.Refusal.{Refusal}
+use Rattle.common.specs.declared.Refusal.TheVariants.{NoSeedWaits, ShortList}
+use Rattle.common.specs.ChecksLaws.{refuses_none}
 use Rattle.seed_rules.specs.declared.CandidateSeed.{CandidateSeed}
 use Rattle.seed_rules.specs.Layout.{laid, six, Leaves}
 use Rattle.seed_rules.specs.Rules.{offsets, y_offsets, next_list}
 use Rattle.score_outcome.specs.declared.Finding.{Finding}
-use Rattle.score_outcome.specs.declared.Outcome.{Outcome}
+use Rattle.score_outcome.specs.Reasons.{Outcome}
+use Rattle.score_outcome.specs.Evaluation.{finding_refusal}
 use Rattle.score_best.specs.declared.Best.{Best}
 use Rattle.score_best.specs.declared.Candidate.{Candidate}
 use Rattle.search_record.specs.Record.{sound, entered, next_step, round_opened, ended}
-use Rattle.search_answer.specs.Answer.{Left, left, answer_refusal, or_best, next_seeds, open_round, close_round, enter_def}
+use Rattle.search_answer.specs.Answer.{Left, left, run_refusal, answer_refusal, or_best, next_seeds, open_round, close_round, enter_def, outcome_for, reply_of, answer_def}
 use Rattle.search_record.specs.declared.run.Run.{Run}
 
--- ---- a finding's refusal, as the last of Answer's
+-- ---- a number that is given where it isn't 0
 pub unless_zero : (n : ℕ) → cond (not (eqb n 0)) n 0 ≡ n
 unless_zero n = go (eqb n 0) refl
   where
@@ -84,12 +87,18 @@ pub record Answerable (r : Run) (n : ℕ) : Type 0 where
   pub waits : r.waiting.is_waiting ≡ true
   pub demand_fits : r.place.demand ≤ n
 
-pub answer_passed : (r : Run) (n : ℕ) (f : Finding) (rows : List Float) (flags : List ℕ) → answer_refusal r n f rows flags ≡ 0 → Answerable r n
+-- (what is refused of the run alone comes before the finding's refusals)
+none_of_run : (x y : Result ⊤ Refusal) → ◌≡◌ {A = Result ⊤ Refusal} (elim x [ Ok _ ↦ y | Err refusal ↦ Err refusal ]) (Ok tt) → x ≡ Ok tt
+none_of_run (Ok _) y h = refl
+none_of_run (Err e) y h = cc
+
+pub answer_passed : (r : Run) (n : ℕ) (f : Finding) (rows : List Float) (flags : List ℕ) → answer_refusal r n f rows flags ≡ Ok tt → Answerable r n
 answer_passed r n f rows flags h =
-    let p = refuses_none (not (sound r && r.waiting.is_waiting)) 12 _ (omega arith) h in
-    let q = refuses_none (ltb n r.place.demand) 10 _ (omega arith) p.1 in
-    let k = both_true (sound r) r.waiting.is_waiting (not-false _ p.0) in
-    record { is_sound = k.0; waits = k.1; demand_fits = ltb-false n _ q.0 }
+    let k = none_of_run (run_refusal r n) (finding_refusal f r.waiting.seed.sensor rows flags) h in
+    let p = refuses_none (not (sound r && r.waiting.is_waiting)) NoSeedWaits _ k in
+    let q = refuses_none (ltb n r.place.demand) ShortList _ p.1 in
+    let w = both_true (sound r) r.waiting.is_waiting (not-false _ p.0) in
+    record { is_sound = w.0; waits = w.1; demand_fits = ltb-false n _ q.0 }
 
 -- ---- an outcome is entered
 module _ (r e : Run) (l : List Float) (o : Outcome) (is : e ≡ entered r o) where
@@ -104,3 +113,24 @@ module _ (r e : Run) (l : List Float) (o : Outcome) (is : e ≡ entered r o) whe
 pub entered_rounds : (r e : Run) (o : Outcome) → e ≡ entered r o → (e.options ≡ r.options) × (e.place.round ≡ r.place.round)
 unfolding entered
 entered_rounds r e o is = (ap (λ (x : Run). x.options) is, ap (λ (x : Run). x.place.round) is)
+
+-- ---- what Answer gives where it refuses, and where it doesn't
+module _ (r : Run) (f : Finding) (rows : List Float) (flags : List ℕ) (l : List Float) where
+  by : (x : Result ⊤ Refusal) → answer_refusal r (length l) f rows flags ≡ x
+      → answer_def r f rows flags l ≡ elim x [
+        | Ok _ ↦ let o = outcome_for r f rows flags in record { reply = record { reply = Ok (reply_of o); run = (enter_def r l o).run }; list = (enter_def r l o).list }
+        | Err refusal ↦ record { reply = record { reply = Err refusal; run = r }; list = l }
+      ]
+  unfolding answer_def
+  by x h = ap (λ (y : Result ⊤ Refusal). elim y [
+    | Ok _ ↦ let o = outcome_for r f rows flags in record { reply = record { reply = Ok (reply_of o); run = (enter_def r l o).run }; list = (enter_def r l o).list }
+    | Err refusal ↦ record { reply = record { reply = Err refusal; run = r }; list = l }
+  ]) h
+
+  pub answer_refused : (e : Refusal) → answer_refusal r (length l) f rows flags ≡ Err e → answer_def r f rows flags l ≡ record { reply = record { reply = Err e; run = r }; list = l }
+  answer_refused e h = by (Err e) h
+
+  -- (o is the outcome)
+  pub answer_enters : (o : Outcome) → o ≡ outcome_for r f rows flags → answer_refusal r (length l) f rows flags ≡ Ok tt
+      → answer_def r f rows flags l ≡ record { reply = record { reply = Ok (reply_of o); run = (enter_def r l o).run }; list = (enter_def r l o).list }
+  answer_enters o is h = by (Ok tt) h ∙ rw (← is)

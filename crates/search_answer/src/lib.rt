@@ -10,33 +10,52 @@ ghost use Rattle.search_answer.specs.Answer.{answer_refusal, or_best, close_roun
 
 use camera_models::intrinsics::FxFyCxCy;
 use camera_tilt::sensor::ScheimpflugParams;
+use common::Refusal;
 use score_best::Best;
-use score_outcome::{Finding, Outcome};
+use score_outcome::{Finding, Outcome, SkipReason};
 use search_record::run::{Options, Run, ended, entered, is_sound, next_step, opened};
 use seed_grids::local_seed_grid;
 
+// Kept: an outcome's two answers, Scored and Skipped, have these names in the papers.
 #[derive(Clone, Copy)]
 pub enum Answered {
     Scored(f64),
-    Skipped(u8),
-    Refused(u8),
+    Skipped(SkipReason),
+}
+
+impl From<Outcome> for Answered {
+    ghost from_gives = { λ outcome answered. answered ≡ reply_of outcome };
+
+    fn from(outcome: Outcome) -> Answered {
+        match outcome {
+            Ok(scoring) => Answered::Scored(scoring.score),
+            Err(reason) => Answered::Skipped(reason),
+        }
+    }
 }
 
 #[derive(Clone, Copy)]
 pub struct AnswerReply {
-    pub reply: Answered,
+    pub reply: Result<Answered, Refusal>,
     pub run: Run,
 }
 
-// Answer's refusals, of which the first that holds is returned; 0 where none does.
-fn answer_refusal(run: Run, list_len: usize, finding: Finding, rows: &[f64], flags: &[u8]) -> u8
+// Answer's refusals, of which the first that holds is returned.
+// Kept: the record and its list are two values, here and below: C keeps them apart. A check reads no more of the list than its length.
+fn answer_refusal(
+    run: Run,
+    list_len: usize,
+    finding: Finding,
+    rows: &[f64],
+    flags: &[u8],
+) -> Result<(), Refusal>
     ensures { result ≡ answer_refusal run list_len finding rows.now flags.now }
 {
     if !(is_sound(run) & run.waiting.is_waiting) {
-        return 12;
+        return Err(Refusal::NoSeedWaits);
     }
     if list_len < run.place.demand {
-        return 10;
+        return Err(Refusal::ShortList);
     }
     score_outcome::finding_refusal(finding, run.waiting.seed.sensor, rows, flags)
 }
@@ -52,6 +71,7 @@ fn or_else(first: Best, second: Best) -> Best
 }
 
 // Writes the seeds at this step around the tilts, with the camera, and says how many there are. About one axis the y offset is 0 alone.
+#[tactic(auto, unfolding(seed_rules::specs::Rules::offsets, seed_rules::specs::Rules::y_offsets))]
 fn next_seeds(
     options: Options,
     step: f64,
@@ -91,6 +111,7 @@ fn close_round(mut run: Run, list: &mut [f64]) -> Run
     ensures value { result ≡ (close_round (run.options.refine_rounds - run.place.round) run list.old).run }
     ensures list_after { list.new ≡ (close_round (run.options.refine_rounds - run.place.round) run list.old).list }
 {
+    // Kept: `opened` counts the round in the record, by which the next step is chosen; a `for` would count it a second time.
     while run.place.round < run.options.refine_rounds {
         let best = or_else(run.round_best, run.run_best);
         if !best.found {
@@ -127,16 +148,8 @@ pub fn enter(mut run: Run, list: &mut [f64], outcome: Outcome) -> Run
     run
 }
 
-fn reply_of(outcome: Outcome) -> Answered
-    ensures { result ≡ reply_of outcome }
-{
-    match outcome {
-        Outcome::Skipped(reason) => Answered::Skipped(reason),
-        Outcome::Scored(scoring) => Answered::Scored(scoring.score),
-    }
-}
-
 // The outcome of a finding for the seed that waits.
+#[tactic(auto, unfolding(crate::specs::Answer::outcome_for))]
 fn outcome_for(run: Run, finding: Finding, rows: &[f64], flags: &[u8]) -> Outcome
     ensures { result ≡ outcome_for run finding rows.now flags.now }
 {
@@ -151,7 +164,7 @@ fn outcome_for(run: Run, finding: Finding, rows: &[f64], flags: &[u8]) -> Outcom
 }
 
 pub fn answer(
-    mut run: Run,
+    run: Run,
     finding: Finding,
     rows: &[f64],
     flags: &[u8],
@@ -160,12 +173,15 @@ pub fn answer(
     ensures value { result ≡ (answer_def run finding rows.now flags.now list.old).reply }
     ensures list_after { list.new ≡ (answer_def run finding rows.now flags.now list.old).list }
 {
-    let number = answer_refusal(run, list.len(), finding, rows, flags);
-    let mut reply = Answered::Refused(number);
-    if number == 0 {
-        let outcome = outcome_for(run, finding, rows, flags);
-        reply = reply_of(outcome);
-        run = enter(run, list, outcome);
+    if let Err(refusal) = answer_refusal(run, list.len(), finding, rows, flags) {
+        return AnswerReply {
+            reply: Err(refusal),
+            run,
+        };
     }
-    AnswerReply { reply, run }
+    let outcome = outcome_for(run, finding, rows, flags);
+    AnswerReply {
+        reply: Ok(Answered::from(outcome)),
+        run: enter(run, list, outcome),
+    }
 }

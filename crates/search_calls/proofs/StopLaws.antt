@@ -1,16 +1,17 @@
 -- When seeds are left, and what the floor of a reply means: it is the lowest penalty of the seeds left, and none of them can score below it, whatever list is lent.
 -- Assumes nothing.
-use Rattle.std.specs.Prelude.{ℕ, suc, ◌-◌, ◌≤◌, ◌<◌, ◌≡◌, refl, true, false, ltb, length, Float}
-use Rattle.std.proofs.Common.{arith, sym, ap, ◌∙◌, true≢false}
+use Rattle.std.specs.Prelude.{ℕ, suc, ◌-◌, ◌≤◌, ◌<◌, ◌≡◌, true, false, ltb, length, Float, Option, Some, None, Result, Ok, Err}
+use Rattle.std.proofs.Common.{arith, ap, ◌∙◌}
 use mathlib.Core.List.{List, [], ◌∷◌, Memᴰ}
 use borrow.Author.Tests.{lt-ltb, le-ltb}
 use Rattle.std.specs.Float.Ieee.{lt}
+use Rattle.common.specs.declared.Refusal.{Refusal}
+use Rattle.common.specs.declared.Refusal.TheVariants.{ShortList}
 use Rattle.common.specs.Tests.{case}
 use Rattle.camera_models.specs.declared.math.Pt2.{Pt2}
 use Rattle.seed_rules.specs.declared.CandidateSeed.{CandidateSeed}
 use Rattle.score_outcome.specs.declared.Finding.{Finding}
 use Rattle.score_outcome.specs.declared.Scoring.{Scoring}
-use Rattle.score_outcome.specs.declared.Outcome.TheVariants.{Scored}
 use Rattle.score_outcome.specs.Evaluation.{outcome_of}
 use Rattle.score_best.specs.declared.Best.{Best}
 use Rattle.score_best.specs.Best.{no_best}
@@ -20,7 +21,6 @@ use Rattle.search_record.specs.Record.{sound}
 use Rattle.search_record.specs.Laws.{bounds, waiting_at}
 use Rattle.search_record.specs.declared.run.Run.{Run}
 use Rattle.search_calls.specs.declared.stop.Outlook.{Outlook}
-use Rattle.search_calls.specs.declared.stop.Stopped.TheVariants.{Standing, Refused}
 use Rattle.search_calls.specs.Stop.{left_seeds, best_so_far, nothing_left, with_floor, outlook_of, stop_def}
 
 -- ---- whether a seed is left
@@ -45,50 +45,51 @@ left_some b r l h = case r.waiting.is_waiting (λ w. rw w) (λ w. rw w (some_bet
 
 -- ---- the four ways that the call goes
 module _ (r : Run) (l : List Float) where
-  pub stop_unsound : sound r ≡ false → stop_def r l ≡ Standing (nothing_left no_best)
+  pub stop_unsound : sound r ≡ false → stop_def r l ≡ Ok (nothing_left no_best)
   unfolding stop_def
   stop_unsound s = simp s
 
   module _ (s : sound r ≡ true) where
-    pub stop_short : length l < r.place.demand → stop_def r l ≡ Refused 10
+    pub stop_short : length l < r.place.demand → stop_def r l ≡ Err ShortList
     unfolding stop_def
     stop_short h = simp (s, lt-ltb (length l) r.place.demand h)
 
-    pub stop_none : r.place.demand ≤ length l → r.place.len ≤ r.place.at → stop_def r l ≡ Standing (nothing_left (best_so_far r))
+    pub stop_none : r.place.demand ≤ length l → r.place.len ≤ r.place.at → stop_def r l ≡ Ok (nothing_left (best_so_far r))
     unfolding stop_def outlook_of
     stop_none h k = simp (s, le-ltb (length l) r.place.demand h, left_none r l s k)
 
-    pub stop_some : r.place.demand ≤ length l → r.place.at < r.place.len → stop_def r l ≡ Standing (with_floor (best_so_far r) (floor_of (left_seeds r l)))
+    pub stop_some : r.place.demand ≤ length l → r.place.at < r.place.len → stop_def r l ≡ Ok (with_floor (best_so_far r) (floor_of (left_seeds r l)))
     unfolding stop_def
     stop_some h k = simp (s, le-ltb (length l) r.place.demand h, left_some (best_so_far r) r l k)
 
 -- ---- the floor of a reply
-outlook_floor : (b : Best) (ss : List CandidateSeed) → (outlook_of b ss).has_floor ≡ true → (outlook_of b ss).floor ≡ floor_of ss
+outlook_floor : (b : Best) (ss : List CandidateSeed) (x : Float) → (outlook_of b ss).floor ≡ Some x → x ≡ floor_of ss
 unfolding outlook_of
-outlook_floor b [] h = absurd (true≢false (sym h))
-outlook_floor b (s ∷ ss) h = refl
+outlook_floor b [] x h = cc
+outlook_floor b (s ∷ ss) x h = cc
 
-same_outlook : (o p : Outlook) → Standing o ≡ Standing p → o ≡ p
+same_outlook : (o p : Outlook) → ◌≡◌ {A = Result Outlook Refusal} (Ok o) (Ok p) → o ≡ p
 same_outlook o p h = cc
 
-never : (n : ℕ) (o : Outlook) → Refused n ≡ Standing o → ⊥
-never n o h = let z : ◌≡◌ {A = ℕ} 0 1 = cc in omega arith
+never : (e : Refusal) (o : Outlook) → ◌≡◌ {A = Result Outlook Refusal} (Err e) (Ok o) → ⊥
+never e o h = cc
 
-pub stop_floor : (r : Run) (l : List Float) (o : Outlook) → stop_def r l ≡ Standing o → o.has_floor ≡ true → o.floor ≡ floor_of (left_seeds r l)
+pub stop_floor : (r : Run) (l : List Float) (o : Outlook) → stop_def r l ≡ Ok o → (x : Float) → o.floor ≡ Some x → x ≡ floor_of (left_seeds r l)
 unfolding stop_def
-stop_floor r l o e h =
+stop_floor r l o e x h =
     case (sound r)
     (λ s. case (ltb (length l) r.place.demand)
-    (λ t. absurd (never 10 o (simp (s, t) at e)))
+    (λ t. absurd (never ShortList o (simp (s, t) at e)))
     (λ t.
     let q = same_outlook (outlook_of (best_so_far r) (left_seeds r l)) o (simp (s, t) at e) in
-    ap (λ (p : Outlook). p.floor) (sym q) ∙ outlook_floor (best_so_far r) (left_seeds r l) (ap (λ (p : Outlook). p.has_floor) q ∙ h)))
+    outlook_floor (best_so_far r) (left_seeds r l) x (ap (λ (p : Outlook). p.floor) q ∙ h)))
     (λ s.
     let q = same_outlook (nothing_left no_best) o (simp s at e) in
-    absurd (true≢false (sym (ap (λ (p : Outlook). p.has_floor) q ∙ h))))
+    let z : ◌≡◌ {A = Option Float} None (Some x) = ap (λ (p : Outlook). p.floor) q ∙ h in
+    cc)
 
 -- 02, E9: no candidate from the seeds left can score below the floor, whichever camera the host finds
-pub none_below : (r : Run) (l : List Float) (o : Outlook) → stop_def r l ≡ Standing o → o.has_floor ≡ true → {s : CandidateSeed} → Memᴰ s (left_seeds r l)
-    → (share : ℕ) (f : Finding) (center : Pt2) (rows : List Float) (flags : List ℕ) (g : Scoring) → outcome_of share f s.sensor center rows flags ≡ Scored g → lt g.score o.floor ≡ false
-none_below r l o e h {s} m share f center rows flags g k =
-    ap (lt g.score) (stop_floor r l o e h) ∙ floor_holds (left_seeds r l) m share f center rows flags g k
+pub none_below : (r : Run) (l : List Float) (o : Outlook) → stop_def r l ≡ Ok o → (x : Float) → o.floor ≡ Some x → {s : CandidateSeed} → Memᴰ s (left_seeds r l)
+    → (share : ℕ) (f : Finding) (center : Pt2) (rows : List Float) (flags : List ℕ) (g : Scoring) → outcome_of share f s.sensor center rows flags ≡ Ok g → lt g.score x ≡ false
+none_below r l o e x h {s} m share f center rows flags g k =
+    ap (lt g.score) (stop_floor r l o e x h) ∙ floor_holds (left_seeds r l) m share f center rows flags g k

@@ -1,39 +1,41 @@
 -- Next and the seed call, as functions of the run's record and the lent list, for every record and list. Definitions only.
-use Rattle.std.specs.Prelude.{ℕ, ◌*◌, Bool, not, ◌&&◌, cond, List, [], ◌∷◌, leb, ltb, eqb, length, take, drop, Float}
-use Rattle.common.specs.Refusal.{Check, ◌when◌, first_refusal}
+use Rattle.std.specs.Prelude.{ℕ, ◌*◌, Bool, not, ◌&&◌, cond, List, [], ◌∷◌, leb, ltb, length, take, drop, Float, Result, Ok, Err, ⊤}
+use Rattle.common.specs.Checks.{Check, ◌when◌, first_refusal}
+use Rattle.common.specs.declared.Refusal.{Refusal}
+use Rattle.common.specs.declared.Refusal.TheVariants.{NothingScored, SeedWaits, ShortList}
 use Rattle.seed_rules.specs.Layout.{seed_at}
 use Rattle.search_record.specs.Record.{sound, awaiting}
 use Rattle.search_record.specs.declared.run.Run.{Run}
 use Rattle.search_calls.specs.declared.next.Handed.{Handed}
-use Rattle.search_calls.specs.declared.next.Handed.TheVariants.{Candidate, Over, Refused}
+use Rattle.search_calls.specs.declared.next.Handed.TheVariants.{Candidate, Over}
 use Rattle.search_calls.specs.declared.next.NextReply.{NextReply}
 
 -- 01, 'Next': 9 a seed is waiting, 10 the list is shorter than Start's 8 demands, 11 the run ended with no candidate scored. Before them
 -- 11 for a record that isn't sound.
 abbrev pub next_checks : Run → ℕ → List Check
 next_checks r n =
-    (11 when not (sound r))
-    ∷ (9 when r.waiting.is_waiting)
-    ∷ (10 when ltb n r.place.demand)
-    ∷ (11 when (r.place.over && not r.run_best.found))
+    (NothingScored when not (sound r))
+    ∷ (SeedWaits when r.waiting.is_waiting)
+    ∷ (ShortList when ltb n r.place.demand)
+    ∷ (NothingScored when (r.place.over && not r.run_best.found))
     ∷ []
 
-abbrev pub next_refusal : Run → ℕ → ℕ
+abbrev pub next_refusal : Run → ℕ → Result ⊤ Refusal
 next_refusal r n = first_refusal (next_checks r n)
 
--- the reply: a refusal's number, Over, or the next candidate's number
-abbrev pub reply_by : ℕ → Bool → ℕ → Handed
-reply_by n over number = cond (eqb n 0) (cond over Over (Candidate number)) (Refused n)
+-- the reply: a refusal, Over, or the next candidate's number
+abbrev pub reply_by : Result ⊤ Refusal → Bool → ℕ → Result Handed Refusal
+reply_by (Ok _) over number = Ok (cond over Over (Candidate number))
+reply_by (Err refusal) over number = Err refusal
 
--- The list's next seed is handed out under the next number, and the run keeps its six numbers. Once the run has a result: Over.
+-- The list's next seed is handed out under the next number, and the run keeps its six numbers. Once the run has a result: Over. A refused Next leaves the run.
 unfoldable pub next_def : Run → List Float → NextReply
-next_def r l =
-    let n = next_refusal r (length l) in
-    cond (eqb n 0)
-    (cond r.place.over
-    (record { reply = Over; run = r })
-    (record { reply = Candidate r.place.number; run = awaiting r (seed_at l r.place.at) }))
-    (record { reply = Refused n; run = r })
+next_def r l = elim (next_refusal r (length l)) [
+  | Ok _ ↦ cond r.place.over
+      (record { reply = Ok Over; run = r })
+      (record { reply = Ok (Candidate r.place.number); run = awaiting r (seed_at l r.place.at) })
+  | Err refusal ↦ record { reply = Err refusal; run = r }
+]
 
 -- ---- the call beside it: the waiting seed's six numbers as they stand in the list, or nothing
 unfoldable pub seed_lent : Run → ℕ → Bool

@@ -1,40 +1,56 @@
--- What Next and the seed call can rely on: the seed in place lies within the list. Assumes nothing.
-use Rattle.std.specs.Prelude.{ℕ, ◌+◌, ◌*◌, ◌≤◌, ◌≡◌, true, false, not, ◌&&◌, List, leb, ltb, eqb, length, Float}
-use Rattle.std.proofs.Common.{true≢false, arith, leb-true, ltb-false}
-use Rattle.std.proofs.lemmas.Bool.{not-true, not-false}
-use Rattle.common.specs.Tests.{case, both_true}
-use Rattle.common.specs.RefusalLaws.{refuses_none}
+-- What Next and the seed call can rely on: the seed in place lies within the list. And how Next goes. Assumes nothing.
+use Rattle.std.specs.Prelude.{ℕ, ◌+◌, ◌*◌, ◌≤◌, ◌≡◌, refl, true, false, not, ◌&&◌, cond, List, leb, ltb, length, Float, Result, Ok, Err, ⊤}
+use Rattle.std.proofs.Common.{sym, ap, ◌∙◌, leb-true, ltb-false}
+use Rattle.std.proofs.lemmas.Bool.{not-false}
+use Rattle.common.specs.declared.Refusal.{Refusal}
+use Rattle.common.specs.declared.Refusal.TheVariants.{NothingScored, SeedWaits, ShortList}
+use Rattle.common.specs.Tests.{both_true}
+use Rattle.common.specs.ChecksLaws.{refuses_none}
 use Rattle.seed_rules.specs.Layout.{seed_at}
 use Rattle.search_record.specs.Record.{sound, awaiting}
 use Rattle.search_record.specs.Laws.{bounds, open_at, waiting_at, in_list}
 use Rattle.search_calls.specs.Next.{next_refusal, reply_by, next_def, seed_lent}
+use Rattle.search_calls.specs.declared.next.Handed.TheVariants.{Candidate, Over}
 use Rattle.search_record.specs.declared.run.Run.{Run}
 
-pub next_in_list : (r : Run) (n : ℕ) → next_refusal r n ≡ 0 → r.place.over ≡ false → 6 * r.place.at + 6 ≤ n
+pub next_in_list : (r : Run) (n : ℕ) → next_refusal r n ≡ Ok tt → r.place.over ≡ false → 6 * r.place.at + 6 ≤ n
 next_in_list r n h e =
-    let p = refuses_none (not (sound r)) 11 _ (omega arith) h in
-    let q = refuses_none r.waiting.is_waiting 9 _ (omega arith) p.1 in
-    let s = refuses_none (ltb n r.place.demand) 10 _ (omega arith) q.1 in
+    let p = refuses_none (not (sound r)) NothingScored _ h in
+    let q = refuses_none r.waiting.is_waiting SeedWaits _ p.1 in
+    let s = refuses_none (ltb n r.place.demand) ShortList _ q.1 in
     let b = bounds r (not-false (sound r) p.0) in
     in_list r n b (open_at r b e) (ltb-false n r.place.demand s.0)
 
--- with no refusal and the run not over, a seed is handed out
-pub next_hands : (r : Run) (l : List Float) (n : ℕ) → n ≡ next_refusal r (length l) → (eqb n 0 && not r.place.over) ≡ true
-    → next_def r l ≡ record { reply = reply_by n r.place.over r.place.number; run = awaiting r (seed_at l r.place.at) }
-unfolding next_def
-next_hands r l n is h =
-    let k = both_true (eqb n 0) (not r.place.over) h in
-    rw (← is, k.0, not-true r.place.over k.1)
+-- ---- the three ways that Next goes
+module _ (r : Run) (l : List Float) where
+  by : (x : Result ⊤ Refusal) → next_refusal r (length l) ≡ x
+      → next_def r l ≡ elim x [
+        | Ok _ ↦ cond r.place.over (record { reply = Ok Over; run = r }) (record { reply = Ok (Candidate r.place.number); run = awaiting r (seed_at l r.place.at) })
+        | Err refusal ↦ record { reply = Err refusal; run = r }
+      ]
+  unfolding next_def
+  by x h = ap (λ (y : Result ⊤ Refusal). elim y [
+    | Ok _ ↦ cond r.place.over (record { reply = Ok Over; run = r }) (record { reply = Ok (Candidate r.place.number); run = awaiting r (seed_at l r.place.at) })
+    | Err refusal ↦ record { reply = Err refusal; run = r }
+  ]) h
 
--- otherwise the run stays as it is
-pub next_keeps : (r : Run) (l : List Float) (n : ℕ) → n ≡ next_refusal r (length l) → (eqb n 0 && not r.place.over) ≡ false
-    → next_def r l ≡ record { reply = reply_by n r.place.over r.place.number; run = r }
-unfolding next_def
-next_keeps r l n is h =
-    rw (← is)
-    (case (eqb n 0)
-    (λ e. case r.place.over (λ o. rw (e, o)) (λ o. absurd (true≢false (rw (e, o) at h))))
-    (λ e. rw e))
+  -- a refused one leaves the run
+  pub next_refused : (e : Refusal) → next_refusal r (length l) ≡ Err e → next_def r l ≡ record { reply = Err e; run = r }
+  next_refused e h = by (Err e) h
+
+  pub next_over : next_refusal r (length l) ≡ Ok tt → r.place.over ≡ true → next_def r l ≡ record { reply = Ok Over; run = r }
+  next_over h o = by (Ok tt) h ∙ rw o
+
+  -- with no refusal and the run not over, a seed is handed out
+  pub next_hands : next_refusal r (length l) ≡ Ok tt → r.place.over ≡ false
+      → next_def r l ≡ record { reply = Ok (Candidate r.place.number); run = awaiting r (seed_at l r.place.at) }
+  next_hands h o = by (Ok tt) h ∙ rw o
+
+  -- otherwise the run stays as it is
+  pub next_keeps : (x : Result ⊤ Refusal) → x ≡ next_refusal r (length l) → (x ≡ Ok tt → r.place.over ≡ true)
+      → next_def r l ≡ record { reply = reply_by x r.place.over r.place.number; run = r }
+  next_keeps (Ok _) is h = let o : r.place.over ≡ true = h refl in next_over (sym is) o ∙ rw o
+  next_keeps (Err e) is h = next_refused e (sym is)
 
 pub seed_in_list : (r : Run) (n : ℕ) → seed_lent r n ≡ true → 6 * r.place.at + 6 ≤ n
 unfolding seed_lent

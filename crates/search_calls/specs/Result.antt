@@ -1,19 +1,20 @@
 -- Result, as a function of the run's record, for every record. Definitions only.
-use Rattle.std.specs.Prelude.{ℕ, not, cond, [], ◌∷◌, eqb}
-use Rattle.common.specs.Refusal.{◌when◌, first_refusal}
+use Rattle.std.specs.Prelude.{not, [], ◌∷◌, Result, Ok, Err, ⊤}
+use Rattle.common.specs.Checks.{◌when◌, first_refusal}
+use Rattle.common.specs.declared.Refusal.{Refusal}
+use Rattle.common.specs.declared.Refusal.TheVariants.{NothingScored, NotOver}
+use Rattle.score_best.specs.declared.Candidate.{Candidate}
 use Rattle.search_record.specs.Record.{sound}
 use Rattle.search_record.specs.declared.run.Run.{Run}
-use Rattle.search_calls.specs.declared.result.Resulted.{Resulted}
-use Rattle.search_calls.specs.declared.result.Resulted.TheVariants.{Result, Refused}
 
 -- 01, 'Result': 14 the run isn't over, 11 it ended with no candidate scored. Before them 11 for a record that isn't sound.
-abbrev pub result_refusal : Run → ℕ
+abbrev pub result_refusal : Run → Result ⊤ Refusal
 result_refusal r =
     first_refusal
-    ((11 when not (sound r))
-    ∷ (14 when not r.place.over)
-    ∷ (11 when not r.run_best.found)
+    ((NothingScored when not (sound r))
+    ∷ (NotOver when not r.place.over)
+    ∷ (NothingScored when not r.run_best.found)
     ∷ [])
 
-unfoldable pub result_def : Run → Resulted
-result_def r = let n = result_refusal r in cond (eqb n 0) (Result r.run_best.candidate) (Refused n)
+unfoldable pub result_def : Run → Result Candidate Refusal
+result_def r = elim (result_refusal r) [ Ok _ ↦ Ok r.run_best.candidate | Err refusal ↦ Err refusal ]

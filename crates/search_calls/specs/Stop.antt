@@ -1,7 +1,8 @@
 -- 02, E9: the stop call, as a function of the run's record and the lent list, for every record and list. Definitions only.
-use Rattle.std.specs.Prelude.{◌+◌, true, false, not, ◌&&◌, cond, List, [], ◌∷◌, ltb, length, Float}
+use Rattle.std.specs.Prelude.{◌+◌, false, not, ◌&&◌, cond, List, [], ◌∷◌, ltb, length, Float, Some, None, Result, Ok, Err}
 use Rattle.std.specs.Float.Ieee.{lt}
-use Rattle.float.specs.Literals.{plus_zero}
+use Rattle.common.specs.declared.Refusal.{Refusal}
+use Rattle.common.specs.declared.Refusal.TheVariants.{ShortList}
 use Rattle.seed_rules.specs.declared.CandidateSeed.{CandidateSeed}
 use Rattle.score_best.specs.declared.Best.{Best}
 use Rattle.score_best.specs.Best.{no_best}
@@ -9,8 +10,6 @@ use Rattle.score_floor.specs.Floor.{floor_of, seeds_between}
 use Rattle.search_record.specs.Record.{sound}
 use Rattle.search_record.specs.declared.run.Run.{Run}
 use Rattle.search_calls.specs.declared.stop.Outlook.{Outlook}
-use Rattle.search_calls.specs.declared.stop.Stopped.{Stopped}
-use Rattle.search_calls.specs.declared.stop.Stopped.TheVariants.{Standing, Refused}
 
 -- the seeds of this round's list not yet answered: the waiting one as the run keeps it, and the others as they stand in the list now
 unfoldable pub left_seeds : Run → List Float → List CandidateSeed
@@ -23,19 +22,19 @@ unfoldable pub best_so_far : Run → Best
 best_so_far r = cond r.run_best.found r.run_best no_best
 
 abbrev pub nothing_left : Best → Outlook
-nothing_left b = record { best = b; has_floor = false; floor = plus_zero; no_gain = false }
+nothing_left b = record { best = b; floor = None; no_gain = false }
 
 -- this round can gain nothing where the floor isn't below the best's score; with no best nothing is said of gain
 abbrev pub with_floor : Best → Float → Outlook
-with_floor b x = record { best = b; has_floor = true; floor = x; no_gain = b.found && not (lt x b.candidate.score) }
+with_floor b x = record { best = b; floor = Some x; no_gain = b.found && not (lt x b.candidate.score) }
 
 unfoldable pub outlook_of : Best → List CandidateSeed → Outlook
 outlook_of b [] = nothing_left b
 outlook_of b (s ∷ ss) = with_floor b (floor_of (s ∷ ss))
 
 -- 10 the list is shorter than Start's 8 demands. A record that no call returned is answered as a run that ended with nothing scored.
-unfoldable pub stop_def : Run → List Float → Stopped
+unfoldable pub stop_def : Run → List Float → Result Outlook Refusal
 stop_def r l =
     cond (sound r)
-    (cond (ltb (length l) r.place.demand) (Refused 10) (Standing (outlook_of (best_so_far r) (left_seeds r l))))
-    (Standing (nothing_left no_best))
+    (cond (ltb (length l) r.place.demand) (Err ShortList) (Ok (outlook_of (best_so_far r) (left_seeds r l))))
+    (Ok (nothing_left no_best))

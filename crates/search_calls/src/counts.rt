@@ -7,6 +7,7 @@ use journal_line::Counts;
 use search_record::counts::no_counts;
 use search_record::run::{Run, is_sound};
 
+#[tactic(auto, unfolding(crate::specs::Counts::counts_def))]
 pub fn counts(run: Run) -> Counts
     ensures { result ≡ counts_def run }
 {

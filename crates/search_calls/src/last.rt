@@ -4,43 +4,43 @@ ghost use Rattle.std.specs.Prelude.{◌≡◌};
 ghost use Rattle.search_calls.specs.Last.{has_line, recorded_in, last_def};
 
 use journal_line::{Line, Recorded};
+use score_outcome::SkipReason;
 use search_record::run::{LastAnswer, Run, is_sound};
 
-#[derive(Clone, Copy)]
-pub enum LastLine {
-    Answered(Line),
-    Nothing,
-}
-
-// Whether the run keeps a line: a candidate was answered, and scored or skipped for reason 1 to 4.
+// Whether a candidate was answered.
+#[tactic(auto, unfolding(crate::specs::Last::has_line))]
 fn has_line(run: Run) -> bool
     ensures { result ≡ has_line run }
 {
-    is_sound(run) & run.last.found & (run.last.skipped <= 4)
+    is_sound(run) & run.last.found
 }
 
-fn recorded_in(last: LastAnswer) -> Recorded
+// What the kept answer's numbers record: scored, or skipped for reason 1 to 4.
+#[tactic(auto, unfolding(crate::specs::Last::recorded_in))]
+fn recorded_in(last: LastAnswer) -> Option<Recorded>
     ensures { result ≡ recorded_in last }
 {
     if last.skipped == 0 {
-        let scored = last.scored;
-        return Recorded::Scored(scored);
+        return Some(Ok(last.scored));
     }
-    Recorded::Skipped(last.skipped)
+    match SkipReason::try_from(last.skipped) {
+        Ok(reason) => Some(Err(reason)),
+        Err(_) => None,
+    }
 }
 
-pub fn last_line(run: Run) -> LastLine
+#[tactic(auto, unfolding(crate::specs::Last::last_def))]
+pub fn last_line(run: Run) -> Option<Line>
     ensures { result ≡ last_def run }
 {
     if !has_line(run) {
-        return LastLine::Nothing;
+        return None;
     }
-    let seed = run.last.seed;
-    let outcome = recorded_in(run.last);
-    LastLine::Answered(Line {
+    let outcome = recorded_in(run.last)?;
+    Some(Line {
         number: run.last.number,
         round: run.last.round,
-        seed,
+        seed: run.last.seed,
         outcome,
     })
 }

@@ -1,68 +1,68 @@
 // Next hands out the list's next seed, and the seed call beside it returns that seed's six numbers as a part of the caller's list.
 
 ghost use Rattle.std.specs.Prelude.{◌≡◌};
-ghost use Rattle.search_calls.specs.Next.{next_refusal, reply_by, next_def, seed_lent, seed_part};
+ghost use Rattle.search_calls.specs.Next.{next_refusal, next_def, seed_lent, seed_part};
 
+use common::Refusal;
 use search_record::run::{Run, awaiting, is_sound};
 
-// Next's reply: the candidate's number; Over (01's term: the run is over and has a result); or a refusal's number.
+// What Next hands out: the candidate's number, or Over (01's term: the run is over and has a result).
+// Kept: the papers name Over, which is a reply and no absence.
 #[derive(Clone, Copy)]
 pub enum Handed {
     Candidate(usize),
     Over,
-    Refused(u8),
 }
 
 #[derive(Clone, Copy)]
 pub struct NextReply {
-    pub reply: Handed,
+    pub reply: Result<Handed, Refusal>,
     pub run: Run,
 }
 
-// Next's refusals, of which the first that holds is returned; 0 where none does.
-fn next_refusal(run: Run, list_len: usize) -> u8
+// Next's refusals, of which the first that holds is returned.
+// Kept: the record and its list are two values, here and below: C keeps them apart. A check reads no more of the list than its length.
+fn next_refusal(run: Run, list_len: usize) -> Result<(), Refusal>
     ensures { result ≡ next_refusal run list_len }
 {
     if !is_sound(run) {
-        return 11;
+        return Err(Refusal::NothingScored);
     }
     if run.waiting.is_waiting {
-        return 9;
+        return Err(Refusal::SeedWaits);
     }
     if list_len < run.place.demand {
-        return 10;
+        return Err(Refusal::ShortList);
     }
     if run.place.over & !run.run_best.found {
-        return 11;
+        return Err(Refusal::NothingScored);
     }
-    0
+    Ok(())
 }
 
-// The reply, by the refusal's number, whether the run is over, and the next candidate's number.
-fn reply_by(refusal: u8, over: bool, number: usize) -> Handed
-    ensures { result ≡ reply_by refusal over number }
-{
-    if refusal != 0 {
-        return Handed::Refused(refusal);
-    }
-    if over {
-        return Handed::Over;
-    }
-    Handed::Candidate(number)
-}
-
-pub fn next(mut run: Run, list: &[f64]) -> NextReply
+pub fn next(run: Run, list: &[f64]) -> NextReply
     ensures { result ≡ next_def run list.now }
 {
-    let refusal = next_refusal(run, list.len());
-    let reply = reply_by(refusal, run.place.over, run.place.number);
-    if (refusal == 0) & !run.place.over {
-        run = awaiting(run, seed_lists::seed_at(list, run.place.at));
+    if let Err(refusal) = next_refusal(run, list.len()) {
+        return NextReply {
+            reply: Err(refusal),
+            run,
+        };
     }
-    NextReply { reply, run }
+    if run.place.over {
+        return NextReply {
+            reply: Ok(Handed::Over),
+            run,
+        };
+    }
+    NextReply {
+        reply: Ok(Handed::Candidate(run.place.number)),
+        run: awaiting(run, seed_lists::seed_at(list, run.place.at)),
+    }
 }
 
 // Whether a seed waits, and the list is long enough.
+#[tactic(auto, unfolding(crate::specs::Next::seed_lent))]
 fn is_seed_lent(run: Run, list_len: usize) -> bool
     ensures { result ≡ seed_lent run list_len }
 {

@@ -7,7 +7,7 @@ use search_record::run::{Run, is_sound};
 
 // The round and the rounds that are asked for after round 0; of this round's list the answered seeds and all of them; and the answered ones over the run.
 #[repr(C)]
-#[derive(Clone, Copy)]
+#[derive(Clone, Copy, Default)]
 pub struct ProgressReply {
     pub round: usize,
     pub rounds: usize,
@@ -16,17 +16,12 @@ pub struct ProgressReply {
     pub answered_in_run: usize,
 }
 
+#[tactic(auto, unfolding(crate::specs::Progress::progress_def))]
 pub fn progress(run: Run) -> ProgressReply
     ensures { result ≡ progress_def run }
 {
     if !is_sound(run) {
-        return ProgressReply {
-            round: 0,
-            rounds: 0,
-            answered: 0,
-            total: 0,
-            answered_in_run: 0,
-        };
+        return ProgressReply::default();
     }
     ProgressReply {
         round: run.place.round,

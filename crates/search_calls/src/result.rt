@@ -3,38 +3,30 @@
 ghost use Rattle.std.specs.Prelude.{◌≡◌};
 ghost use Rattle.search_calls.specs.Result.{result_refusal, result_def};
 
+use common::Refusal;
 use score_best::Candidate;
 use search_record::run::{Run, is_sound};
 
-#[derive(Clone, Copy)]
-pub enum Resulted {
-    Result(Candidate),
-    Refused(u8),
-}
-
-// Result's refusals, of which the first that holds is returned; 0 where none does.
-fn result_refusal(run: Run) -> u8
+// Result's refusals, of which the first that holds is returned.
+fn result_refusal(run: Run) -> Result<(), Refusal>
     ensures { result ≡ result_refusal run }
 {
     if !is_sound(run) {
-        return 11;
+        return Err(Refusal::NothingScored);
     }
     if !run.place.over {
-        return 14;
+        return Err(Refusal::NotOver);
     }
     if !run.run_best.found {
-        return 11;
+        return Err(Refusal::NothingScored);
     }
-    0
+    Ok(())
 }
 
-pub fn result(run: Run) -> Resulted
+#[tactic(auto, unfolding(crate::specs::Result::result_def))]
+pub fn result(run: Run) -> Result<Candidate, Refusal>
     ensures { result ≡ result_def run }
 {
-    let number = result_refusal(run);
-    if number != 0 {
-        return Resulted::Refused(number);
-    }
-    let candidate = run.run_best.candidate;
-    Resulted::Result(candidate)
+    result_refusal(run)?;
+    Ok(run.run_best.candidate)
 }

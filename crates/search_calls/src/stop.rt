@@ -4,26 +4,22 @@ ghost use Rattle.std.specs.Prelude.{◌≡◌, ◌*◌, ◌≤◌, ◌<◌, leng
 ghost use Rattle.score_floor.specs.Floor.{floor_of};
 ghost use Rattle.search_calls.specs.Stop.{left_seeds, best_so_far, nothing_left, with_floor, stop_def};
 
+use common::Refusal;
 use score_best::{Best, no_best};
 use score_floor::{counted_penalty, floor_between};
 use search_record::run::{Run, is_sound};
 
 // The run's best, if found; the floor of the seeds left, where there are any; and whether this round can gain nothing.
+// Kept: `best` is the record's own Best, handed on as it stands; an Option would be made here and taken apart again by its callers.
 #[derive(Clone, Copy)]
 pub struct Outlook {
     pub best: Best,
-    pub has_floor: bool,
-    pub floor: f64,
+    pub floor: Option<f64>,
     pub no_gain: bool,
 }
 
-#[derive(Clone, Copy)]
-pub enum Stopped {
-    Standing(Outlook),
-    Refused(u8),
-}
-
 // The run's best as Result gives it. Where there is none, all its numbers are 0.
+#[tactic(auto, unfolding(crate::specs::Stop::best_so_far))]
 fn best_so_far(run: Run) -> Best
     ensures { result ≡ best_so_far run }
 {
@@ -39,8 +35,7 @@ fn nothing_left(best: Best) -> Outlook
 {
     Outlook {
         best,
-        has_floor: false,
-        floor: 0.0,
+        floor: None,
         no_gain: false,
     }
 }
@@ -52,8 +47,7 @@ fn with_floor(best: Best, floor: f64) -> Outlook
     let no_gain = best.found & !(floor < best.candidate.score);
     Outlook {
         best,
-        has_floor: true,
-        floor,
+        floor: Some(floor),
         no_gain,
     }
 }
@@ -70,18 +64,18 @@ fn floor_left(run: Run, list: &[f64]) -> f64
     float::min(counted_penalty(run.waiting.seed.sensor), others)
 }
 
-pub fn stop(run: Run, list: &[f64]) -> Stopped
+pub fn stop(run: Run, list: &[f64]) -> Result<Outlook, Refusal>
     ensures { result ≡ stop_def run list.now }
 {
     if !is_sound(run) {
-        return Stopped::Standing(nothing_left(no_best()));
+        return Ok(nothing_left(no_best()));
     }
     if list.len() < run.place.demand {
-        return Stopped::Refused(10);
+        return Err(Refusal::ShortList);
     }
     let best = best_so_far(run);
     if run.place.len <= run.place.at {
-        return Stopped::Standing(nothing_left(best));
+        return Ok(nothing_left(best));
     }
-    Stopped::Standing(with_floor(best, floor_left(run, list)))
+    Ok(with_floor(best, floor_left(run, list)))
 }

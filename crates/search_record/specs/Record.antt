@@ -1,20 +1,17 @@
 -- The run's record as the calls change it, for every record, sound or not. Definitions only.
-use Rattle.std.specs.Prelude.{ℕ, ◌+◌, ◌*◌, Bool, true, false, not, ◌&&◌, cond, leb, ltb, eqb, Float}
+use Rattle.std.specs.Prelude.{ℕ, ◌+◌, ◌*◌, Bool, true, false, not, ◌&&◌, cond, leb, ltb, eqb, Float, Ok, Err}
 use Rattle.float.specs.Binary64.{◌*₆₄◌}
 use Rattle.float.specs.Literals.{plus_zero, half₆₄}
 use Rattle.camera_tilt.specs.declared.sensor.ScheimpflugParams.{ScheimpflugParams}
 use Rattle.seed_rules.specs.declared.CandidateSeed.{CandidateSeed}
-use Rattle.score_outcome.specs.declared.Outcome.{Outcome}
-use Rattle.score_outcome.specs.declared.Outcome.TheVariants.{Skipped, Scored}
+use Rattle.score_outcome.specs.Reasons.{Outcome, reason_number}
 use Rattle.score_best.specs.declared.Best.{Best}
 use Rattle.score_best.specs.Best.{improved, no_best, candidate_of}
 use Rattle.journal_line.specs.declared.ScoredFields.{ScoredFields}
-use Rattle.journal_line.specs.declared.Recorded.{Recorded}
-use Rattle.journal_line.specs.declared.Recorded.TheVariants as recorded
 use Rattle.journal_line.specs.declared.Counts.{Counts}
 use Rattle.journal_line.specs.Counts.{with_count}
 use Rattle.journal_line.specs.Report.{total}
-use Rattle.journal_line.specs.Outcome.{recorded_as}
+use Rattle.journal_line.specs.Outcome.{Recorded, recorded_as}
 use Rattle.search_record.specs.declared.run.LastAnswer.{LastAnswer}
 use Rattle.search_record.specs.declared.run.Place.{Place}
 use Rattle.search_record.specs.declared.run.Waiting.{Waiting}
@@ -73,14 +70,14 @@ abbrev pub no_answer : LastAnswer
 no_answer = record { found = false; number = 0; round = 0; seed = no_seed; skipped = 0; scored = no_fields }
 
 abbrev pub last_answer : ℕ → ℕ → CandidateSeed → Recorded → LastAnswer
-last_answer n r s (recorded.Scored f) = record { found = true; number = n; round = r; seed = s; skipped = 0; scored = f }
-last_answer n r s (recorded.Skipped reason) = record { found = true; number = n; round = r; seed = s; skipped = reason; scored = no_fields }
+last_answer n r s (Ok f) = record { found = true; number = n; round = r; seed = s; skipped = 0; scored = f }
+last_answer n r s (Err reason) = record { found = true; number = n; round = r; seed = s; skipped = reason_number reason; scored = no_fields }
 
 -- ---- the waiting seed's outcome is entered: nothing waits, the place moves on, a scored candidate may become the best, its
 -- line's fields are kept, and it is counted
 unfoldable pub with_outcome : Best → ℕ → ScheimpflugParams → Outcome → Best
-with_outcome b n t (Skipped reason) = b
-with_outcome b n t (Scored s) = improved b (candidate_of n t s)
+with_outcome b n t (Ok s) = improved b (candidate_of n t s)
+with_outcome b n t (Err reason) = b
 
 unfoldable pub entered : Run → Outcome → Run
 entered r o =

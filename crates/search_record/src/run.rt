@@ -2,10 +2,9 @@
 
 ghost use Rattle.std.specs.Prelude.{◌≡◌, ◌<◌, ◌≤◌};
 ghost use Rattle.journal_line.specs.Report.{total};
-ghost use Rattle.search_record.specs.Record.{sound, has_place, no_seed, no_fields, no_answer, last_answer, next_step};
+ghost use Rattle.search_record.specs.Record.{sound, has_place, no_answer, last_answer, next_step};
 
 use crate::counts::{add_up, with_count};
-use camera_models::intrinsics::FxFyCxCy;
 use camera_models::math::Pt2;
 use camera_tilt::sensor::ScheimpflugParams;
 use journal_line::outcome::recorded_as;
@@ -28,6 +27,7 @@ pub struct Options {
 // How far the run has come. `demand` is how many numbers the lent list must have. `step` is the one that the current list was made with,
 // 0 in round 0. Of the list's `len` seeds the first `at` are answered. `number` is the next candidate's, counted over the run.
 // `round` is 01's, from 0; `over` says that the run is over, with a result or with 11.
+// Kept: lengths and places in a list that isn't here, since the record holds numbers alone and the list is lent (no heap).
 #[derive(Clone, Copy)]
 pub struct Place {
     pub demand: usize,
@@ -40,7 +40,8 @@ pub struct Place {
 }
 
 // The seed that waits (01's term): handed out and not answered yet. Its numbers are 0 where there is none.
-#[derive(Clone, Copy)]
+// Kept: a flag beside the seed, and no Option, since C hands the record in and gets every number of it back, also where the flag is 0.
+#[derive(Clone, Copy, Default)]
 pub struct Waiting {
     pub is_waiting: bool,
     pub seed: CandidateSeed,
@@ -48,7 +49,8 @@ pub struct Waiting {
 
 // The last answered candidate, as a journal's line records it: `skipped` is 0 where it was scored, else the reason, and then `scored` is 0.
 // Nothing is found before the first answer.
-#[derive(Clone, Copy)]
+// Kept: flags and numbers beside their values, and no Option or Result, since C hands the record in and gets every number of it back.
+#[derive(Clone, Copy, Default)]
 pub struct LastAnswer {
     pub found: bool,
     pub number: usize,
@@ -72,6 +74,7 @@ pub struct Run {
 }
 
 // An open run has a seed left in its list, and where the run is over, none waits.
+#[tactic(auto, unfolding(crate::specs::Record::has_place))]
 fn has_place(place: Place, waiting: Waiting) -> bool
     ensures { result ≡ has_place place waiting }
 {
@@ -82,6 +85,7 @@ fn has_place(place: Place, waiting: Waiting) -> bool
 }
 
 // Whether Start or a call can have made this record: all that the calls' sums and indexes need.
+#[tactic(auto, unfolding(crate::specs::Record::sound))]
 pub fn is_sound(run: Run) -> bool
     ensures { result ≡ sound run }
 {
@@ -98,62 +102,18 @@ pub fn is_sound(run: Run) -> bool
         & has_place(run.place, run.waiting)
 }
 
-fn no_seed() -> CandidateSeed
-    ensures { result ≡ no_seed }
-{
-    CandidateSeed {
-        reference_k: FxFyCxCy {
-            fx: 0.0,
-            fy: 0.0,
-            cx: 0.0,
-            cy: 0.0,
-        },
-        sensor: ScheimpflugParams {
-            tilt_x: 0.0,
-            tilt_y: 0.0,
-        },
-    }
-}
-
 // No seed waits.
 pub fn nobody() -> Waiting
     ensures { result ≡ Rattle.search_record.specs.Record.nobody }
 {
-    Waiting {
-        is_waiting: false,
-        seed: no_seed(),
-    }
-}
-
-fn no_fields() -> ScoredFields
-    ensures { result ≡ no_fields }
-{
-    ScoredFields {
-        score: 0.0,
-        mean: 0.0,
-        k: FxFyCxCy {
-            fx: 0.0,
-            fy: 0.0,
-            cx: 0.0,
-            cy: 0.0,
-        },
-        p1: 0.0,
-        p2: 0.0,
-    }
+    Waiting::default()
 }
 
 // No candidate is answered.
 pub fn no_answer() -> LastAnswer
     ensures { result ≡ no_answer }
 {
-    LastAnswer {
-        found: false,
-        number: 0,
-        round: 0,
-        seed: no_seed(),
-        skipped: 0,
-        scored: no_fields(),
-    }
+    LastAnswer::default()
 }
 
 // The candidate with this number, handed out in this round, as it is recorded.
@@ -165,17 +125,17 @@ fn last_answer(number: usize, round: usize, seed: CandidateSeed, recorded: Recor
         number,
         round,
         seed,
-        skipped: 0,
-        scored: no_fields(),
+        ..LastAnswer::default()
     };
     match recorded {
-        Recorded::Scored(fields) => last.scored = fields,
-        Recorded::Skipped(reason) => last.skipped = reason,
+        Ok(fields) => last.scored = fields,
+        Err(reason) => last.skipped = reason.into(),
     }
     last
 }
 
 // The run with a seed that waits for its answer.
+#[tactic(auto, unfolding(crate::specs::Record::awaiting))]
 pub fn awaiting(mut run: Run, seed: CandidateSeed) -> Run
     ensures { result ≡ Rattle.search_record.specs.Record.awaiting run seed }
 {
@@ -188,10 +148,11 @@ pub fn awaiting(mut run: Run, seed: CandidateSeed) -> Run
 }
 
 // A best after the outcome of the candidate with this number and these tilts.
+#[tactic(auto, unfolding(crate::specs::Record::with_outcome))]
 fn with_outcome(best: Best, number: usize, sensor: ScheimpflugParams, outcome: Outcome) -> Best
     ensures { result ≡ Rattle.search_record.specs.Record.with_outcome best number sensor outcome }
 {
-    let Outcome::Scored(scoring) = outcome else {
+    let Ok(scoring) = outcome else {
         return best;
     };
     let camera = scoring.camera;
@@ -208,6 +169,7 @@ fn with_outcome(best: Best, number: usize, sensor: ScheimpflugParams, outcome: O
 }
 
 // The waiting seed's outcome is entered: nothing waits, the place moves on by one, and the run keeps it as its last answer and counts it.
+#[tactic(auto, unfolding(crate::specs::Record::entered))]
 pub fn entered(mut run: Run, outcome: Outcome) -> Run
     requires at_bound { (run.place.at < 512) × (run.place.number ≤ 656) }
     requires counts_bound { total run.counts ≤ 656 }
@@ -242,6 +204,7 @@ pub fn entered(mut run: Run, outcome: Outcome) -> Run
 }
 
 // The step of the next round's list: refine_step for round 1's, then half of the last one.
+#[tactic(auto, unfolding(crate::specs::Record::next_step))]
 pub fn next_step(run: Run) -> f64
     ensures { result ≡ next_step run }
 {
@@ -252,6 +215,7 @@ pub fn next_step(run: Run) -> f64
 }
 
 // The run at the start of its next round, whose list has this many seeds.
+#[tactic(auto, unfolding(crate::specs::Record::round_opened))]
 pub fn opened(mut run: Run, len: usize) -> Run
     requires { run.place.round < 16 }
     ensures { result ≡ Rattle.search_record.specs.Record.round_opened run len }
@@ -266,6 +230,7 @@ pub fn opened(mut run: Run, len: usize) -> Run
     run
 }
 
+#[tactic(auto, unfolding(crate::specs::Record::ended))]
 pub fn ended(mut run: Run) -> Run
     ensures { result ≡ Rattle.search_record.specs.Record.ended run }
 {

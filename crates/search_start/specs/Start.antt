@@ -1,9 +1,11 @@
 -- Start, as a function of its inputs and the lent list: refusals in their order, then round 0's list and the run. Definitions only.
-use Rattle.std.specs.Prelude.{ℕ, ◌+◌, ◌*◌, ◌/◌, ◌%◌, Bool, not, ◌&&◌, ◌||◌, cond, List, [], ◌∷◌, ◌++◌, ltb, eqb, length, get_or, Float}
+use Rattle.std.specs.Prelude.{ℕ, ◌+◌, ◌*◌, ◌/◌, ◌%◌, Bool, not, ◌&&◌, ◌||◌, cond, List, [], ◌∷◌, ◌++◌, ltb, eqb, length, get_or, Float, Result, Ok, Err, ⊤}
 use Rattle.std.specs.Float.{nan}
 use Rattle.std.specs.Float.Ieee.{lt, eq}
 use Rattle.common.specs.Each.{every}
-use Rattle.common.specs.Refusal.{Check, ◌when◌, first_refusal}
+use Rattle.common.specs.Checks.{Check, ◌when◌, first_refusal}
+use Rattle.common.specs.declared.Refusal.{Refusal}
+use Rattle.common.specs.declared.Refusal.TheVariants.{TooFewViews, NoTilts, BadBound, BadStep, TooMany, BadSeed, TiltNotFinite, SmallBuffer, BeyondHalf, TwoAxes, TiltedSeed, ShareAboveAll}
 use Rattle.float.specs.Float.{is_finite}
 use Rattle.float.specs.Literals.{plus_zero, half₆₄}
 use Rattle.camera_models.specs.declared.math.Pt2.{Pt2}
@@ -16,8 +18,6 @@ use Rattle.journal_line.specs.Counts.{no_counts}
 use Rattle.search_record.specs.Record.{nobody, no_answer}
 use Rattle.search_record.specs.declared.run.Options.{Options}
 use Rattle.search_record.specs.declared.run.Run.{Run}
-use Rattle.search_start.specs.declared.Started.{Started}
-use Rattle.search_start.specs.declared.Started.TheVariants.{Accepted, Refused}
 
 -- a number, and above 0
 abbrev pub positive : Float → Bool
@@ -68,22 +68,22 @@ opening_of options center demand n = record {
 -- a share of counted rows above 100 per cent (E11)
 abbrev pub options_checks : ℕ → Options → ℕ → ℕ → ℕ → List Check
 options_checks views options x y d =
-    (1 when ltb views 3)
-    ∷ (2 when (eqb x 0 || eqb y 0))
-    ∷ (3 when not (positive options.max_abs_tilt))
-    ∷ (4 when (ltb 0 options.refine_rounds && not (positive options.refine_step)))
-    ∷ (5 when too_many x y d options.refine_rounds)
+    (TooFewViews when ltb views 3)
+    ∷ (NoTilts when (eqb x 0 || eqb y 0))
+    ∷ (BadBound when not (positive options.max_abs_tilt))
+    ∷ (BadStep when (ltb 0 options.refine_rounds && not (positive options.refine_step)))
+    ∷ (TooMany when too_many x y d options.refine_rounds)
     ∷ []
 
 abbrev pub last_checks : Options → List Float → List Float → List Check
 last_checks options ys decomposition =
-    (31 when (options.one_axis && not (only_zero ys)))
-    ∷ (32 when (options.one_axis && not (every untilted_seed (all_seeds decomposition))))
-    ∷ (33 when ltb 100 options.min_counted)
+    (TwoAxes when (options.one_axis && not (only_zero ys)))
+    ∷ (TiltedSeed when (options.one_axis && not (every untilted_seed (all_seeds decomposition))))
+    ∷ (ShareAboveAll when ltb 100 options.min_counted)
     ∷ []
 
 abbrev pub further_checks : Options → List Float → List Float → List Check
-further_checks options ys decomposition = (27 when lt half₆₄ options.max_abs_tilt) ∷ last_checks options ys decomposition
+further_checks options ys decomposition = (BeyondHalf when lt half₆₄ options.max_abs_tilt) ∷ last_checks options ys decomposition
 
 -- The inputs are the parameters of these parts; n is how many numbers the lent list has.
 module _ (views : ℕ) (options : Options) (xs ys decomposition : List Float) where
@@ -92,15 +92,15 @@ module _ (views : ℕ) (options : Options) (xs ys decomposition : List Float) wh
 
   abbrev pub lists_checks : ℕ → List Check
   lists_checks n =
-      (6 when not (every (good_seed options.max_abs_tilt) (all_seeds decomposition)))
-      ∷ (7 when not (every is_finite xs && every is_finite ys))
-      ∷ (8 when ltb n start_demand)
+      (BadSeed when not (every (good_seed options.max_abs_tilt) (all_seeds decomposition)))
+      ∷ (TiltNotFinite when not (every is_finite xs && every is_finite ys))
+      ∷ (SmallBuffer when ltb n start_demand)
       ∷ further_checks options ys decomposition
 
   abbrev pub start_checks : ℕ → List Check
   start_checks n = options_checks views options (length xs) (length ys) (length decomposition) ++ lists_checks n
 
-  abbrev pub start_refusal : ℕ → ℕ
+  abbrev pub start_refusal : ℕ → Result ⊤ Refusal
   start_refusal n = first_refusal (start_checks n)
 
 module _ (views : ℕ) (options : Options) (xs ys decomposition : List Float) (base : FxFyCxCy) (center : Pt2) where
@@ -110,10 +110,15 @@ module _ (views : ℕ) (options : Options) (xs ys decomposition : List Float) (b
   abbrev pub opening : ℕ → Run
   opening n = opening_of options center (start_demand views options xs ys decomposition) n
 
-  unfoldable pub start_reply : List Float → Started
-  start_reply l =
-      let n = start_refusal views options xs ys decomposition (length l) in
-      cond (eqb n 0) (Accepted (opening (length start_seeds))) (Refused n)
+  -- a refused Start leaves the list
+  unfoldable pub start_reply : List Float → Result Run Refusal
+  start_reply l = elim (start_refusal views options xs ys decomposition (length l)) [
+    | Ok _ ↦ Ok (opening (length start_seeds))
+    | Err refusal ↦ Err refusal
+  ]
 
   unfoldable pub start_list : List Float → List Float
-  start_list l = cond (eqb (start_refusal views options xs ys decomposition (length l)) 0) (written start_seeds l) l
+  start_list l = elim (start_refusal views options xs ys decomposition (length l)) [
+    | Ok _ ↦ written start_seeds l
+    | Err refusal ↦ l
+  ]

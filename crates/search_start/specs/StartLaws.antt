@@ -1,17 +1,21 @@
 -- What Start can rely on where none of its refusals holds: sizes within their limits, good seeds, a list that is long enough, a bound of at most 0.5, and in a one-axis
 -- run no tilt about y, a share of at most 100. Assumes nothing.
-use Rattle.std.specs.Prelude.{ℕ, ◌+◌, ◌*◌, ◌/◌, ◌≤◌, ◌≡◌, refl, Bool, true, false, not, ◌&&◌, ◌||◌, cond, List, ltb, eqb, length, Float}
-use Rattle.std.proofs.Common.{sym, ◌∙◌, le_refl, le_of_lt, arith, ltb-true, ltb-false, eqb-true, ne_eqb}
-use Rattle.std.proofs.lemmas.Bool.{not-false, eqb-false}
+use Rattle.std.specs.Prelude.{ℕ, ◌+◌, ◌*◌, ◌/◌, ◌≤◌, ◌≡◌, refl, Bool, true, false, not, ◌&&◌, ◌||◌, cond, List, [], ◌∷◌, ◌++◌, ltb, eqb, length, Float, Result, Ok, Err, ⊤}
+use Rattle.std.proofs.Common.{sym, ap, ◌∙◌, le_refl, le_of_lt, ltb-true, ltb-false}
+use Rattle.std.proofs.lemmas.Bool.{not-false}
 use Rattle.std.specs.Float.Ieee.{lt}
 use Rattle.common.specs.Each.{every}
 use Rattle.common.specs.Tests.{both_false}
-use Rattle.common.specs.Refusal.{first_refusal}
-use Rattle.common.specs.RefusalLaws.{refuses_none}
+use Rattle.common.specs.declared.Refusal.{Refusal}
+use Rattle.common.specs.declared.Refusal.TheVariants.{TooFewViews, NoTilts, BadBound, BadStep, TooMany, BadSeed, TiltNotFinite, SmallBuffer, BeyondHalf, TwoAxes, TiltedSeed, ShareAboveAll}
+use Rattle.common.specs.Checks.{Check, ◌when◌, first_refusal}
+use Rattle.common.specs.ChecksLaws.{refuses_none}
 use Rattle.float.specs.Float.{is_finite}
 use Rattle.float.specs.Literals.{half₆₄}
-use Rattle.seed_rules.specs.Layout.{all_seeds}
-use Rattle.search_start.specs.Start.{positive, good_seed, only_zero, untilted_seed, too_many, demand_of, start_demand, options_checks, lists_checks, start_refusal}
+use Rattle.camera_models.specs.declared.math.Pt2.{Pt2}
+use Rattle.camera_models.specs.declared.intrinsics.FxFyCxCy.{FxFyCxCy}
+use Rattle.seed_rules.specs.Layout.{all_seeds, written}
+use Rattle.search_start.specs.Start.{positive, good_seed, only_zero, untilted_seed, too_many, demand_of, start_demand, options_checks, lists_checks, start_refusal, start_seeds, opening, start_reply, start_list}
 use Rattle.search_record.specs.declared.run.Options.{Options}
 
 pub record Sizes (x y d rounds : ℕ) : Type 0 where
@@ -45,38 +49,61 @@ demand_covers d x y = go (6 * (d + x * y)) (ltb (6 * (d + x * y)) 54) refl
     go n false h = le_refl n
 
 -- the first five refusals, and then the rest
-first_five : (a b c d e : Bool) (rest : ℕ) → cond a 1 (cond b 2 (cond c 3 (cond d 4 (cond e 5 rest)))) ≡ cond (eqb (cond a 1 (cond b 2 (cond c 3 (cond d 4 (cond e 5 0))))) 0) rest (cond a 1 (cond b 2 (cond c 3 (cond d 4 (cond e 5 0)))))
-first_five true b c d e rest = refl
-first_five false true c d e rest = refl
-first_five false false true d e rest = refl
-first_five false false false true e rest = refl
-first_five false false false false true rest = refl
-first_five false false false false false rest = refl
+first_five : (a b c d e : Bool) (p q r s t : Refusal) (rest : Result ⊤ Refusal)
+    → ◌≡◌ {A = Result ⊤ Refusal} (cond a (Err p) (cond b (Err q) (cond c (Err r) (cond d (Err s) (cond e (Err t) rest)))))
+    (elim (first_refusal ((p when a) ∷ (q when b) ∷ (r when c) ∷ (s when d) ∷ (t when e) ∷ [])) [ Ok _ ↦ rest | Err refusal ↦ Err refusal ])
+first_five true b c d e p q r s t rest = refl
+first_five false true c d e p q r s t rest = refl
+first_five false false true d e p q r s t rest = refl
+first_five false false false true e p q r s t rest = refl
+first_five false false false false true p q r s t rest = refl
+first_five false false false false false p q r s t rest = refl
 
-neither : (r l : ℕ) → cond (eqb r 0) l r ≡ 0 → (r ≡ 0) × (l ≡ 0)
-neither r l h = go (eqb r 0) refl
-  where
-    go : (b : Bool) → eqb r 0 ≡ b → (r ≡ 0) × (l ≡ 0)
-    go true e = (eqb-true r 0 e, rw e at h)
-    go false e = absurd (eqb-false r 0 e (rw e at h))
+neither : (r l : Result ⊤ Refusal) → ◌≡◌ {A = Result ⊤ Refusal} (elim r [ Ok _ ↦ l | Err refusal ↦ Err refusal ]) (Ok tt) → (r ≡ Ok tt) × (l ≡ Ok tt)
+neither (Ok _) l h = (refl, h)
+neither (Err e) l h = cc
 
-module _ (views : ℕ) (options : Options) (xs ys decomposition : List Float) (n r : ℕ) (is : r ≡ first_refusal (options_checks views options (length xs) (length ys) (length decomposition))) where
-  first : start_refusal views options xs ys decomposition n ≡ cond (eqb r 0) (first_refusal (lists_checks views options xs ys decomposition n)) r
-  first = rw is (first_five (ltb views 3) (eqb (length xs) 0 || eqb (length ys) 0) (not (positive options.max_abs_tilt)) (ltb 0 options.refine_rounds && not (positive options.refine_step)) (too_many (length xs) (length ys) (length decomposition) options.refine_rounds) _)
+-- ---- refusals before others: theirs where they refuse, else those of the rest
+refused_first : (cs ds : List Check) (e : Refusal) → first_refusal cs ≡ Err e → first_refusal (cs ++ ds) ≡ Err e
+refused_first [] ds e h = cc
+refused_first ((r when true) ∷ cs) ds e h = h
+refused_first ((r when false) ∷ cs) ds e h = refused_first cs ds e h
 
-  pub options_refused : (r ≡ 0 → ⊥) → start_refusal views options xs ys decomposition n ≡ r
-  options_refused h = first ∙ rw (ne_eqb _ _ h)
+passed_first : (cs ds : List Check) → first_refusal cs ≡ Ok tt → first_refusal (cs ++ ds) ≡ first_refusal ds
+passed_first [] ds h = refl
+passed_first ((r when true) ∷ cs) ds h = cc
+passed_first ((r when false) ∷ cs) ds h = passed_first cs ds h
 
-  pub options_passed : r ≡ 0 → start_refusal views options xs ys decomposition n ≡ first_refusal (lists_checks views options xs ys decomposition n)
-  options_passed h = first ∙ rw h
+none_first : (cs ds : List Check) → first_refusal (cs ++ ds) ≡ Ok tt → first_refusal cs ≡ Ok tt
+none_first [] ds h = refl
+none_first ((r when true) ∷ cs) ds h = cc
+none_first ((r when false) ∷ cs) ds h = none_first cs ds h
 
-  pub sizes_fit : r ≡ 0 → Sizes (length xs) (length ys) (length decomposition) options.refine_rounds
+module _ (views : ℕ) (options : Options) (xs ys decomposition : List Float) (n : ℕ) where
+  -- the refusals of the options, and the others
+  abbrev pub options_refusal : Result ⊤ Refusal
+  options_refusal = first_refusal (options_checks views options (length xs) (length ys) (length decomposition))
+
+  abbrev pub lists_refusal : Result ⊤ Refusal
+  lists_refusal = first_refusal (lists_checks views options xs ys decomposition n)
+
+  first : start_refusal views options xs ys decomposition n ≡ elim options_refusal [ Ok _ ↦ lists_refusal | Err refusal ↦ Err refusal ]
+  first =
+      first_five (ltb views 3) (eqb (length xs) 0 || eqb (length ys) 0) (not (positive options.max_abs_tilt)) (ltb 0 options.refine_rounds && not (positive options.refine_step)) (too_many (length xs) (length ys) (length decomposition) options.refine_rounds) TooFewViews NoTilts BadBound BadStep TooMany lists_refusal
+
+  pub options_refused : (e : Refusal) → options_refusal ≡ Err e → start_refusal views options xs ys decomposition n ≡ Err e
+  options_refused e h = refused_first (options_checks views options (length xs) (length ys) (length decomposition)) (lists_checks views options xs ys decomposition n) e h
+
+  pub options_passed : options_refusal ≡ Ok tt → start_refusal views options xs ys decomposition n ≡ lists_refusal
+  options_passed h = passed_first (options_checks views options (length xs) (length ys) (length decomposition)) (lists_checks views options xs ys decomposition n) h
+
+  pub sizes_fit : options_refusal ≡ Ok tt → Sizes (length xs) (length ys) (length decomposition) options.refine_rounds
   sizes_fit h =
-      let h1 = (refuses_none (ltb views 3) 1 _ (omega arith) (sym is ∙ h)).1 in
-      let h2 = (refuses_none (eqb (length xs) 0 || eqb (length ys) 0) 2 _ (omega arith) h1).1 in
-      let h3 = (refuses_none (not (positive options.max_abs_tilt)) 3 _ (omega arith) h2).1 in
-      let h4 = (refuses_none (ltb 0 options.refine_rounds && not (positive options.refine_step)) 4 _ (omega arith) h3).1 in
-      too_many_passed _ _ _ _ (refuses_none (too_many (length xs) (length ys) (length decomposition) options.refine_rounds) 5 _ (omega arith) h4).0
+      let h1 = (refuses_none (ltb views 3) TooFewViews _ h).1 in
+      let h2 = (refuses_none (eqb (length xs) 0 || eqb (length ys) 0) NoTilts _ h1).1 in
+      let h3 = (refuses_none (not (positive options.max_abs_tilt)) BadBound _ h2).1 in
+      let h4 = (refuses_none (ltb 0 options.refine_rounds && not (positive options.refine_step)) BadStep _ h3).1 in
+      too_many_passed _ _ _ _ (refuses_none (too_many (length xs) (length ys) (length decomposition) options.refine_rounds) TooMany _ h4).0
 
 where_set : (a b : Bool) → (a && not b) ≡ false → a ≡ true → b ≡ true
 where_set a b h e = not-false b (rw e at h)
@@ -91,18 +118,18 @@ pub record Passed (views : ℕ) (options : Options) (xs ys decomposition : List 
   pub share_most : options.min_counted ≤ 100
 
 pub start_passed : (views : ℕ) (options : Options) (xs ys decomposition : List Float) (n : ℕ)
-    → start_refusal views options xs ys decomposition n ≡ 0 → Passed views options xs ys decomposition n
+    → start_refusal views options xs ys decomposition n ≡ Ok tt → Passed views options xs ys decomposition n
 start_passed views options xs ys decomposition n h =
-    let p = neither (first_refusal (options_checks views options (length xs) (length ys) (length decomposition))) (first_refusal (lists_checks views options xs ys decomposition n)) (sym (first views options xs ys decomposition n _ refl) ∙ h) in
-    let h6 = refuses_none (not (every (good_seed options.max_abs_tilt) (all_seeds decomposition))) 6 _ (omega arith) p.1 in
-    let h7 = (refuses_none (not (every is_finite xs && every is_finite ys)) 7 _ (omega arith) h6.1).1 in
-    let h8 = refuses_none (ltb n (start_demand views options xs ys decomposition)) 8 _ (omega arith) h7 in
-    let h9 = refuses_none (lt half₆₄ options.max_abs_tilt) 27 _ (omega arith) h8.1 in
-    let h10 = refuses_none (options.one_axis && not (only_zero ys)) 31 _ (omega arith) h9.1 in
-    let h11 = refuses_none (options.one_axis && not (every untilted_seed (all_seeds decomposition))) 32 _ (omega arith) h10.1 in
-    let h12 = (refuses_none (ltb 100 options.min_counted) 33 _ (omega arith) h11.1).0 in
+    let first = none_first (options_checks views options (length xs) (length ys) (length decomposition)) (lists_checks views options xs ys decomposition n) h in
+    let h6 = refuses_none (not (every (good_seed options.max_abs_tilt) (all_seeds decomposition))) BadSeed _ (sym (options_passed views options xs ys decomposition n first) ∙ h) in
+    let h7 = (refuses_none (not (every is_finite xs && every is_finite ys)) TiltNotFinite _ h6.1).1 in
+    let h8 = refuses_none (ltb n (start_demand views options xs ys decomposition)) SmallBuffer _ h7 in
+    let h9 = refuses_none (lt half₆₄ options.max_abs_tilt) BeyondHalf _ h8.1 in
+    let h10 = refuses_none (options.one_axis && not (only_zero ys)) TwoAxes _ h9.1 in
+    let h11 = refuses_none (options.one_axis && not (every untilted_seed (all_seeds decomposition))) TiltedSeed _ h10.1 in
+    let h12 = (refuses_none (ltb 100 options.min_counted) ShareAboveAll _ h11.1).0 in
     record {
-      sizes = sizes_fit views options xs ys decomposition n _ refl p.0;
+      sizes = sizes_fit views options xs ys decomposition n first;
       good_seeds = not-false _ h6.0;
       demand_fits = ltb-false n _ h8.0;
       bound_small = h9.0;
@@ -110,3 +137,22 @@ start_passed views options xs ys decomposition n h =
       untilted_seeds = where_set options.one_axis (every untilted_seed (all_seeds decomposition)) h11.0;
       share_most = ltb-false 100 _ h12;
     }
+
+-- ---- what Start gives where one of its refusals holds, and where none does
+module _ (views : ℕ) (options : Options) (xs ys decomposition : List Float) (base : FxFyCxCy) (center : Pt2) (l : List Float) where
+  pub start_refused : (e : Refusal) → start_refusal views options xs ys decomposition (length l) ≡ Err e
+      → (start_reply views options xs ys decomposition base center l ≡ Err e) × (start_list views options xs ys decomposition base center l ≡ l)
+  unfolding start_reply start_list
+  start_refused e h = (
+    ap (λ (r : Result ⊤ Refusal). elim r [ Ok _ ↦ Ok (opening views options xs ys decomposition base center (length (start_seeds views options xs ys decomposition base center))) | Err why ↦ Err why ]) h,
+    ap (λ (r : Result ⊤ Refusal). elim r [ Ok _ ↦ written (start_seeds views options xs ys decomposition base center) l | Err why ↦ l ]) h,
+  )
+
+  pub start_accepted : start_refusal views options xs ys decomposition (length l) ≡ Ok tt
+      → (start_reply views options xs ys decomposition base center l ≡ Ok (opening views options xs ys decomposition base center (length (start_seeds views options xs ys decomposition base center))))
+      × (start_list views options xs ys decomposition base center l ≡ written (start_seeds views options xs ys decomposition base center) l)
+  unfolding start_reply start_list
+  start_accepted h = (
+    ap (λ (r : Result ⊤ Refusal). elim r [ Ok _ ↦ Ok (opening views options xs ys decomposition base center (length (start_seeds views options xs ys decomposition base center))) | Err why ↦ Err why ]) h,
+    ap (λ (r : Result ⊤ Refusal). elim r [ Ok _ ↦ written (start_seeds views options xs ys decomposition base center) l | Err why ↦ l ]) h,
+  )

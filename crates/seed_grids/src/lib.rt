@@ -3,43 +3,78 @@
 
 #![tactic(auto)]
 
-ghost use Rattle.std.specs.Prelude.{map, ◌+◌, ◌*◌, ◌/◌, ◌≤◌, length};
-ghost use Rattle.seed_rules.specs.Layout.{six, seeds_of, all_seeds, Leaves, two, tilts_of};
-ghost use Rattle.seed_rules.specs.Merge.{keep, merged_into, merged};
+ghost use Rattle.std.specs.Prelude.{◌≡◌, map, ◌+◌, ◌*◌, ◌/◌, ◌≤◌, length};
+ghost use Rattle.seed_rules.specs.Layout.{six, two, read_from, seeds_of, all_seeds, Leaves};
+ghost use Rattle.seed_rules.specs.Merge.{merged_into, merged};
 ghost use Rattle.seed_rules.specs.Rules as rules;
-ghost use Rattle.seed_rules.specs.Rules.{tilt_near, in_bound, tilts, moved, seed_with, seeds_within, seed_grid, initial_list, next_list};
+ghost use Rattle.seed_rules.specs.Rules.{tilts, pairs, tilt_along, entries_within, seed_grid, initial_list, next_list};
 
 use camera_models::intrinsics::FxFyCxCy;
 use camera_tilt::sensor::ScheimpflugParams;
-use seed_lists::{push_candidate_seed, push_in_bound, push_seed, seed_at, tilts_at};
+use seed_lists::{Entries, Entry};
 use seed_rules::CandidateSeed;
 
-// ---- a later round's list
+// ---- the pairs of two axes
 
-// One x tilt with every y offset.
-fn local_seed_row(
-    seeds: &mut [f64],
-    mut count: usize,
-    reference_k: FxFyCxCy,
+// The tilts along one axis: typed ones, or offsets from a centre's tilt.
+// Kept: the centre as an Option: as closures the two axes would be two more types of both functions below, and their contracts would ask what each gives.
+#[derive(Clone, Copy)]
+struct Axis<'a> {
+    center: Option<f64>,
+    numbers: &'a [f64],
+}
+
+fn tilt_along(center: Option<f64>, number: f64) -> f64
+    ensures { result ≡ tilt_along center number }
+{
+    match center {
+        Some(tilt) => tilt + number,
+        None => number,
+    }
+}
+
+// One x tilt with every y tilt, each pair within the bound as an entry.
+fn push_row<E: Entry>(
+    list: &mut Entries<E>,
+    beside: E::Beside,
     tilt_x: f64,
-    center_y: f64,
-    offsets_y: &[f64],
+    y_axis: Axis,
+    max_abs_tilt: f64,
+)
+    requires { E.width * (list.old.count + length y_axis.numbers.now) ≤ length list.old.numbers.now }
+    ensures same_reference { list.new.numbers.ghost_name ≡ list.old.numbers.ghost_name }
+    ensures same_length { length list.new.numbers.now ≡ length list.old.numbers.now }
+    ensures pushed { Leaves E.numbers E.width (merged_into E.near (read_from E.first E.width list.old.count list.old.numbers.now) (entries_within (E.tilted beside) max_abs_tilt (map (tilts tilt_x) (map (tilt_along y_axis.entry.center) y_axis.entry.numbers.now)))) list.old.numbers.now list.new.numbers.now list.new.count }
+{
+    for number in y_axis.numbers {
+        let tilts = ScheimpflugParams {
+            tilt_x,
+            tilt_y: tilt_along(y_axis.center, *number),
+        };
+        list.push_in_bound(beside, tilts, max_abs_tilt);
+    }
+}
+
+// Every x tilt with every y tilt, x outer: those within the bound, merged. Says how many there are.
+fn push_pairs<E: Entry>(
+    numbers: &mut [f64],
+    beside: E::Beside,
+    x_axis: Axis,
+    y_axis: Axis,
     max_abs_tilt: f64,
 ) -> usize
-    requires { 6 * (count + length offsets_y.now) ≤ length seeds.old }
-    ensures { Leaves six 6 (merged_into rules.near (seeds_of count seeds.old) (seeds_within max_abs_tilt reference_k (map (tilts tilt_x) (moved center_y offsets_y.now)))) seeds.old seeds.new result }
+    requires { E.width * (length x_axis.numbers.now * length y_axis.numbers.now) ≤ length numbers.old }
+    ensures { Leaves E.numbers E.width (merged E.near (entries_within (E.tilted beside) max_abs_tilt (pairs (map (tilt_along x_axis.entry.center) x_axis.entry.numbers.now) (map (tilt_along y_axis.entry.center) y_axis.entry.numbers.now)))) numbers.old numbers.new result }
 {
-    let mut j = 0;
-    while j < offsets_y.len() {
-        let sensor = ScheimpflugParams {
-            tilt_x,
-            tilt_y: center_y + offsets_y[j],
-        };
-        count = push_in_bound(seeds, count, reference_k, sensor, max_abs_tilt);
-        j += 1;
+    let mut list = Entries::<E>::new(numbers);
+    for number in x_axis.numbers {
+        let tilt_x = tilt_along(x_axis.center, *number);
+        push_row(&mut list, beside, tilt_x, y_axis, max_abs_tilt);
     }
-    count
+    list.count
 }
+
+// ---- a later round's list
 
 // The offsets around a centre, x outer, with the camera found there: those within the bound, merged. Says how many there are.
 pub fn local_seed_grid(
@@ -53,102 +88,51 @@ pub fn local_seed_grid(
     requires { 6 * (length offsets_x.now * length offsets_y.now) ≤ length seeds.old }
     ensures { Leaves six 6 (next_list offsets_x.now offsets_y.now center reference_k max_abs_tilt) seeds.old seeds.new result }
 {
-    let mut kept = 0;
-    let mut i = 0;
-    while i < offsets_x.len() {
-        kept = local_seed_row(
-            seeds,
-            kept,
-            reference_k,
-            center.tilt_x + offsets_x[i],
-            center.tilt_y,
-            offsets_y,
-            max_abs_tilt,
-        );
-        i += 1;
-    }
-    kept
+    let x_axis = Axis {
+        center: Some(center.tilt_x),
+        numbers: offsets_x,
+    };
+    let y_axis = Axis {
+        center: Some(center.tilt_y),
+        numbers: offsets_y,
+    };
+    push_pairs::<CandidateSeed>(seeds, reference_k, x_axis, y_axis, max_abs_tilt)
 }
 
 // ---- round 0's list
-
-// One typed x tilt with every typed y tilt.
-fn seed_row(
-    grid: &mut [f64],
-    mut count: usize,
-    tilt_x: f64,
-    y_seeds: &[f64],
-    max_abs_tilt: f64,
-) -> usize
-    requires { 2 * (count + length y_seeds.now) ≤ length grid.old }
-    ensures { Leaves two 2 (merged_into tilt_near (tilts_of count grid.old) (keep (in_bound max_abs_tilt) (map (tilts tilt_x) y_seeds.now))) grid.old grid.new result }
-{
-    let mut j = 0;
-    while j < y_seeds.len() {
-        let t = ScheimpflugParams {
-            tilt_x,
-            tilt_y: y_seeds[j],
-        };
-        count = push_seed(grid, count, t, max_abs_tilt);
-        j += 1;
-    }
-    count
-}
 
 // The typed tilts, x outer: those within the bound, merged by tilt alone.
 fn seed_grid(x_seeds: &[f64], y_seeds: &[f64], max_abs_tilt: f64, grid: &mut [f64]) -> usize
     requires { 2 * (length x_seeds.now * length y_seeds.now) ≤ length grid.old }
     ensures { Leaves two 2 (seed_grid x_seeds.now y_seeds.now max_abs_tilt) grid.old grid.new result }
 {
-    let mut kept = 0;
-    let mut i = 0;
-    while i < x_seeds.len() {
-        kept = seed_row(grid, kept, x_seeds[i], y_seeds, max_abs_tilt);
-        i += 1;
-    }
-    kept
+    let x_axis = Axis {
+        center: None,
+        numbers: x_seeds,
+    };
+    let y_axis = Axis {
+        center: None,
+        numbers: y_seeds,
+    };
+    push_pairs::<ScheimpflugParams>(grid, (), x_axis, y_axis, max_abs_tilt)
 }
 
-// Offers the decomposition's seeds, in their order.
-fn push_decomposition(seeds: &mut [f64], decomposition: &[f64]) -> usize
-    requires { 6 * (length decomposition.now / 6) ≤ length seeds.old }
-    ensures { Leaves six 6 (merged rules.near (all_seeds decomposition.now)) seeds.old seeds.new result }
-{
-    let number = decomposition.len() / 6;
-    let mut kept = 0;
-    let mut i = 0;
-    while i < number {
-        kept = push_candidate_seed(seeds, kept, seed_at(decomposition, i));
-        i += 1;
-    }
-    kept
-}
-
-// Offers the grid's tilts with the base camera, in their order.
-fn push_grid(
-    seeds: &mut [f64],
-    mut count: usize,
-    grid: &[f64],
+// Offers the first entries of other numbers as seeds, in their order.
+// Kept: the numbers beside their count: both lists are only read here, and a struct of borrowed numbers and a count would serve these two calls alone.
+fn push_entries<F: Entry>(
+    list: &mut Entries<CandidateSeed>,
+    from: &[f64],
     number: usize,
     base_k: FxFyCxCy,
-) -> usize
-    requires { (2 * number ≤ length grid.now) × (6 * (count + number) ≤ length seeds.old) }
-    ensures { Leaves six 6 (merged_into rules.near (seeds_of count seeds.old) (map (seed_with base_k) (tilts_of number grid.now))) seeds.old seeds.new result }
+)
+    requires { (F.width * number ≤ length from.now) × (6 * (list.old.count + number) ≤ length list.old.numbers.now) }
+    ensures same_reference { list.new.numbers.ghost_name ≡ list.old.numbers.ghost_name }
+    ensures same_length { length list.new.numbers.now ≡ length list.old.numbers.now }
+    ensures pushed { Leaves six 6 (merged_into rules.near (seeds_of list.old.count list.old.numbers.now) (map (F.seeded base_k) (read_from F.first F.width number from.now))) list.old.numbers.now list.new.numbers.now list.new.count }
 {
-    let mut i = 0;
-    while i < number {
-        let sensor = tilts_at(grid, i);
-        count = push_candidate_seed(
-            seeds,
-            count,
-            CandidateSeed {
-                reference_k: base_k,
-                sensor,
-            },
-        );
-        i += 1;
+    for i in 0..number {
+        list.push(F::at(from, i).as_seed(base_k));
     }
-    count
 }
 
 // The decomposition's seeds, then the typed tilts with the base camera, merged. Says how many there are.
@@ -167,6 +151,9 @@ pub fn initial_seed_grid(
 {
     let mut grid = [0.0; 512];
     let number = seed_grid(x_seeds, y_seeds, max_abs_tilt, &mut grid);
-    let count = push_decomposition(seeds, decomposition);
-    push_grid(seeds, count, &grid, number, base_k)
+    let mut list = Entries::<CandidateSeed>::new(seeds);
+    let solved = decomposition.len() / 6;
+    push_entries::<CandidateSeed>(&mut list, decomposition, solved, base_k);
+    push_entries::<ScheimpflugParams>(&mut list, &grid, number, base_k);
+    list.count
 }

@@ -1,24 +1,73 @@
-// Seeds and tilts in a lent list of numbers, and merging: one that lies near a kept one is not kept.
+// Entries in a lent list of numbers, and merging: one that lies near a kept one is not kept.
 // Each function equals its rule, for the reply and every number of the list.
 
 #![tactic(auto)]
 
 pub mod checks;
 
-ghost use Rattle.std.specs.Prelude.{◌≡◌, ◌∷◌, [], ◌+◌, ◌*◌, ◌≤◌, length};
+ghost use Rattle.std.specs.Prelude.{◌≡◌, ◌∷◌, [], ◌+◌, ◌*◌, ◌≤◌, ◌<◌, length, ℕ, Bool, List, Float, drop};
+ghost use Rattle.std.proofs.Common.{lit<};
 ghost use Rattle.std.proofs.lemmas.List.Edits.{sets};
-ghost use Rattle.seed_rules.specs.Layout.{six, seed_at, seeds_of, Leaves, two, tilts_at, tilts_of};
-ghost use Rattle.seed_rules.specs.Merge.{keep, newest_near, push, merged_into};
+ghost use Rattle.camera_models.specs.declared.intrinsics.FxFyCxCy.{FxFyCxCy};
+ghost use Rattle.camera_tilt.specs.declared.sensor.ScheimpflugParams.{ScheimpflugParams};
+ghost use Rattle.seed_rules.specs.declared.CandidateSeed.{CandidateSeed};
+ghost use Rattle.seed_rules.specs.Layout.{six, seed_at, two, tilts_at, read_from, Leaves};
+ghost use Rattle.seed_rules.specs.LayoutLaws.{Layout, seeds_layout, tilts_layout};
+ghost use Rattle.seed_rules.specs.Merge.{newest_near, push, merged_into};
 ghost use Rattle.seed_rules.specs.Rules as rules;
-ghost use Rattle.seed_rules.specs.Rules.{tilt_near, in_bound, seeds_within};
+ghost use Rattle.seed_rules.specs.Rules.{tilt_near, seed_with, entries_within};
 
 use crate::checks::{in_bound, near, tilt_near};
 use camera_models::intrinsics::FxFyCxCy;
 use camera_tilt::sensor::ScheimpflugParams;
-use seed_rules::{CandidateSeed, Found};
+use seed_rules::CandidateSeed;
+use std::marker::PhantomData;
 
-// ---- a list of seeds at the front of a slice
+// What lies entry after entry at the front of a list of numbers: seeds, of six numbers each, or pairs of tilts, of two.
+pub trait Entry: Copy {
+    // What an entry has beside its tilts: a seed its camera.
+    type Beside: Copy;
 
+    // How many numbers an entry has, and which.
+    ghost width: { ℕ };
+
+    ghost numbers: { Self → List Float };
+
+    // The entry that a list begins with.
+    ghost first: { List Float → Self };
+
+    ghost near: { Self → Self → Bool };
+
+    // The entry that tilts make with what is beside them.
+    ghost tilted: { Self.Beside → ScheimpflugParams → Self };
+
+    // The entry as a seed; a pair of tilts gets the base camera.
+    ghost seeded: { FxFyCxCy → Self → CandidateSeed };
+
+    fn at(list: &[f64], i: usize) -> Self
+        requires { width * i + width ≤ length list.now }
+        ensures { result ≡ first (drop (width * i) list.now) };
+
+    fn put(self, list: &mut [f64], i: usize)
+        requires { width * i + width ≤ length list.old }
+        ensures { list.new ≡ sets list.old (width * i) (numbers self) };
+
+    fn is_near(self, other: Self) -> bool
+        ensures { result ≡ near self other };
+
+    fn with_tilts(beside: Self::Beside, tilts: ScheimpflugParams) -> Self
+        ensures { result ≡ tilted beside tilts };
+
+    fn as_seed(self, base_k: FxFyCxCy) -> CandidateSeed
+        ensures { result ≡ seeded base_k self };
+
+    // What is written is read back, and an entry has a number at least.
+    ghost lies: { Layout numbers first width };
+
+    ghost wide: { 0 < width };
+}
+
+// Kept: each number is read from its place in the list; through an array of the six each would be written twice.
 pub fn seed_at(seeds: &[f64], i: usize) -> CandidateSeed
     requires { 6 * i + 6 ≤ length seeds.now }
     ensures { result ≡ seed_at seeds.now i }
@@ -40,120 +89,155 @@ pub fn seed_at(seeds: &[f64], i: usize) -> CandidateSeed
     }
 }
 
-fn put_seed(seeds: &mut [f64], i: usize, seed: CandidateSeed)
-    requires { 6 * i + 6 ≤ length seeds.old }
-    ensures { seeds.new ≡ sets seeds.old (6 * i) (six seed) }
-{
-    let at = 6 * i;
-    seeds[at] = seed.reference_k.fx;
-    seeds[at + 1] = seed.reference_k.fy;
-    seeds[at + 2] = seed.reference_k.cx;
-    seeds[at + 3] = seed.reference_k.cy;
-    seeds[at + 4] = seed.sensor.tilt_x;
-    seeds[at + 5] = seed.sensor.tilt_y;
-}
+impl Entry for CandidateSeed {
+    type Beside = FxFyCxCy;
 
-// The newest of the kept seeds that is near this one: a decomposition's seeds lie close to their predecessors.
-fn find_near(seeds: &[f64], count: usize, seed: CandidateSeed) -> Found
-    requires { 6 * count ≤ length seeds.now }
-    ensures { result ≡ newest_near rules.near 0 (seeds_of count seeds.now) seed }
-{
-    let mut seeds_left = count;
-    while seeds_left > 0 {
-        let i = seeds_left - 1;
-        if near(seed_at(seeds, i), seed) {
-            return Found::At(i);
+    ghost width = { 6 };
+
+    ghost numbers = { six };
+
+    ghost first = { λ l. seed_at l 0 };
+
+    ghost near = { rules.near };
+
+    ghost tilted = { seed_with };
+
+    ghost seeded = { λ base s. s };
+
+    ghost lies = { seeds_layout };
+
+    ghost wide = { lit< tt };
+
+    fn at(seeds: &[f64], i: usize) -> CandidateSeed {
+        seed_at(seeds, i)
+    }
+
+    fn put(self, seeds: &mut [f64], i: usize) {
+        let numbers: [f64; 6] = self.into();
+        seeds[6 * i..6 * i + 6].copy_from_slice(&numbers);
+    }
+
+    fn is_near(self, other: CandidateSeed) -> bool {
+        near(self, other)
+    }
+
+    fn with_tilts(reference_k: FxFyCxCy, sensor: ScheimpflugParams) -> CandidateSeed {
+        CandidateSeed {
+            reference_k,
+            sensor,
         }
-        seeds_left -= 1;
     }
-    Found::Nothing
-}
 
-// Puts a seed behind the kept ones, unless one of them is near it, and says how many there are.
-pub fn push_candidate_seed(seeds: &mut [f64], count: usize, seed: CandidateSeed) -> usize
-    requires { 6 * count + 6 ≤ length seeds.old }
-    ensures { Leaves six 6 (push rules.near (seeds_of count seeds.old) seed) seeds.old seeds.new result }
-{
-    let Found::Nothing = find_near(seeds, count, seed) else {
-        return count;
-    };
-    put_seed(seeds, count, seed);
-    count + 1
-}
-
-// The same for tilts with a camera, dropped too where they lie beyond the bound.
-pub fn push_in_bound(
-    seeds: &mut [f64],
-    count: usize,
-    reference_k: FxFyCxCy,
-    sensor: ScheimpflugParams,
-    max_abs_tilt: f64,
-) -> usize
-    requires { 6 * count + 6 ≤ length seeds.old }
-    ensures { Leaves six 6 (merged_into rules.near (seeds_of count seeds.old) (seeds_within max_abs_tilt reference_k (sensor ∷ []))) seeds.old seeds.new result }
-{
-    if in_bound(max_abs_tilt, sensor) {
-        return push_candidate_seed(
-            seeds,
-            count,
-            CandidateSeed {
-                reference_k,
-                sensor,
-            },
-        );
-    }
-    count
-}
-
-// ---- a list of tilts, likewise
-
-pub fn tilts_at(grid: &[f64], i: usize) -> ScheimpflugParams
-    requires { 2 * i + 2 ≤ length grid.now }
-    ensures { result ≡ tilts_at grid.now i }
-{
-    let at = 2 * i;
-    ScheimpflugParams {
-        tilt_x: grid[at],
-        tilt_y: grid[at + 1],
+    fn as_seed(self, _base_k: FxFyCxCy) -> CandidateSeed {
+        self
     }
 }
 
-fn put_tilts(grid: &mut [f64], i: usize, t: ScheimpflugParams)
-    requires { 2 * i + 2 ≤ length grid.old }
-    ensures { grid.new ≡ sets grid.old (2 * i) (two t) }
-{
-    let at = 2 * i;
-    grid[at] = t.tilt_x;
-    grid[at + 1] = t.tilt_y;
-}
+impl Entry for ScheimpflugParams {
+    type Beside = ();
 
-// The newest of the kept tilts that are near these.
-fn find_tilt_near(grid: &[f64], count: usize, t: ScheimpflugParams) -> Found
-    requires { 2 * count ≤ length grid.now }
-    ensures { result ≡ newest_near tilt_near 0 (tilts_of count grid.now) t }
-{
-    let mut tilts_left = count;
-    while tilts_left > 0 {
-        let i = tilts_left - 1;
-        if tilt_near(tilts_at(grid, i), t) {
-            return Found::At(i);
+    ghost width = { 2 };
+
+    ghost numbers = { two };
+
+    ghost first = { λ l. tilts_at l 0 };
+
+    ghost near = { tilt_near };
+
+    ghost tilted = { λ nothing t. t };
+
+    ghost seeded = { seed_with };
+
+    ghost lies = { tilts_layout };
+
+    ghost wide = { lit< tt };
+
+    fn at(grid: &[f64], i: usize) -> ScheimpflugParams {
+        let at = 2 * i;
+        ScheimpflugParams {
+            tilt_x: grid[at],
+            tilt_y: grid[at + 1],
         }
-        tilts_left -= 1;
     }
-    Found::Nothing
+
+    fn put(self, grid: &mut [f64], i: usize) {
+        let at = 2 * i;
+        grid[at] = self.tilt_x;
+        grid[at + 1] = self.tilt_y;
+    }
+
+    fn is_near(self, other: ScheimpflugParams) -> bool {
+        tilt_near(self, other)
+    }
+
+    fn with_tilts(_beside: (), tilts: ScheimpflugParams) -> ScheimpflugParams {
+        tilts
+    }
+
+    fn as_seed(self, base_k: FxFyCxCy) -> CandidateSeed {
+        CandidateSeed::with_tilts(base_k, self)
+    }
 }
 
-// Puts tilts within the bound behind the kept ones, unless some of these are near.
-pub fn push_seed(grid: &mut [f64], count: usize, t: ScheimpflugParams, max_abs_tilt: f64) -> usize
-    requires { 2 * count + 2 ≤ length grid.old }
-    ensures { Leaves two 2 (merged_into tilt_near (tilts_of count grid.old) (keep (in_bound max_abs_tilt) (t ∷ []))) grid.old grid.new result }
-{
-    if !in_bound(max_abs_tilt, t) {
-        return count;
+// A list of entries at the front of lent numbers.
+// Kept: no heap: a list in lent memory is the numbers and how many entries they have.
+#[derive(Drop)]
+pub struct Entries<'a, E> {
+    pub numbers: &'a mut [f64],
+    pub count: usize,
+    of: PhantomData<E>,
+}
+
+impl<'a, E: Entry> Entries<'a, E> {
+    pub fn new(numbers: &'a mut [f64]) -> Entries<'a, E>
+        ensures same_reference { result.numbers.ghost_name ≡ numbers.entry.ghost_name }
+        ensures same_numbers { result.numbers.now ≡ numbers.old }
+        ensures none_kept { result.count ≡ 0 }
+    {
+        Entries {
+            numbers,
+            count: 0,
+            of: PhantomData,
+        }
     }
-    let Found::Nothing = find_tilt_near(grid, count, t) else {
-        return count;
-    };
-    put_tilts(grid, count, t);
-    count + 1
+
+    // The newest of the kept entries that is near this one: a decomposition's seeds lie close to their predecessors.
+    fn find_near(&self, entry: E) -> Option<usize>
+        requires { E.width * self.now.count ≤ length self.now.numbers.now }
+        ensures { result ≡ newest_near E.near 0 (read_from E.first E.width self.now.count self.now.numbers.now) entry }
+    {
+        for i in (0..self.count).rev() {
+            if E::at(self.numbers, i).is_near(entry) {
+                return Some(i);
+            }
+        }
+        None
+    }
+
+    // Kept: this contract and those that call it each say that reference and length stay: a ghost field with both would itself have to be said to stay.
+    // Puts an entry behind the kept ones, unless one of them is near it.
+    pub fn push(&mut self, entry: E)
+        requires { E.width * self.old.count + E.width ≤ length self.old.numbers.now }
+        ensures same_reference { self.new.numbers.ghost_name ≡ self.old.numbers.ghost_name }
+        ensures same_length { length self.new.numbers.now ≡ length self.old.numbers.now }
+        ensures pushed { Leaves E.numbers E.width (push E.near (read_from E.first E.width self.old.count self.old.numbers.now) entry) self.old.numbers.now self.new.numbers.now self.new.count }
+    {
+        if self.find_near(entry).is_some() {
+            return;
+        }
+        entry.put(self.numbers, self.count);
+        self.count += 1;
+    }
+
+    // The same for tilts, dropped too where they lie beyond the bound.
+    pub fn push_in_bound(&mut self, beside: E::Beside, tilts: ScheimpflugParams, max_abs_tilt: f64)
+        requires { E.width * self.old.count + E.width ≤ length self.old.numbers.now }
+        ensures same_reference { self.new.numbers.ghost_name ≡ self.old.numbers.ghost_name }
+        ensures same_length { length self.new.numbers.now ≡ length self.old.numbers.now }
+        ensures pushed { Leaves E.numbers E.width (merged_into E.near (read_from E.first E.width self.old.count self.old.numbers.now) (entries_within (E.tilted beside) max_abs_tilt (tilts ∷ []))) self.old.numbers.now self.new.numbers.now self.new.count }
+    {
+        if in_bound(max_abs_tilt, tilts) {
+            self.push(E::with_tilts(beside, tilts));
+        }
+    }
 }

@@ -1,7 +1,8 @@
 -- Laws of merging under any relation: lengths, what holds of the kept ones, what is near a dropped one, that no kept one is near an earlier one, and merging in parts. Assumes nothing.
 use Rattle.std.proofs.Math.Path.{◌≡◌, refl, sym, ap}
 use Rattle.std.proofs.Common.{◌∙◌, true≢false, add-zero}
-use Rattle.std.specs.Prelude.{Bool, false, ◌||◌, ◌⊎◌}
+use Rattle.std.specs.Prelude.{Bool, false, ◌||◌, ◌⊎◌, Option, Some, None, is_some}
+use Rattle.std.specs.Option.{option_or}
 use Rattle.std.proofs.Math.Bool.{true, cond}
 use mathlib.Core.List.Memᴰ
 use mathlib.Core.List.{List, [], ◌∷◌, ◌++◌, map, append_assoc, append-nil, map-append, Memᴰ}
@@ -12,15 +13,13 @@ use Rattle.std.proofs.Math.ListN.{length, length-append}
 use Rattle.common.specs.All.{all_append}
 use Rattle.common.specs.Each.{All}
 use Rattle.common.specs.Tests.{case}
-use Rattle.seed_rules.specs.declared.Found.{Found}
-use Rattle.seed_rules.specs.declared.Found.TheVariants.{At, Nothing}
-use Rattle.seed_rules.specs.Merge.{found_else, is_found, keep, has_near, newest_near, push, merged_into, merged}
+use Rattle.seed_rules.specs.Merge.{keep, has_near, newest_near, push, merged_into, merged}
 
-found_in : (r : Found) (c : Bool) (i : ℕ) → is_found (found_else r (cond c (At i) Nothing)) ≡ (c || is_found r)
-found_in (At j) true i = refl
-found_in (At j) false i = refl
-found_in Nothing true i = refl
-found_in Nothing false i = refl
+found_in : (r : Option ℕ) (c : Bool) (i : ℕ) → is_some (option_or r (cond c (Some i) None)) ≡ (c || is_some r)
+found_in (Some j) true i = refl
+found_in (Some j) false i = refl
+found_in None true i = refl
+found_in None false i = refl
 
 module _ {A : Type 0} where
   -- ---- those that pass a test
@@ -72,13 +71,13 @@ module _ {A : Type 0} where
 
   module _ (near : A → A → Bool) where
     -- ---- the near search: it finds one exactly where there is one
-    pub newest_found : (i : ℕ) (ks : List A) (s : A) → is_found (newest_near near i ks s) ≡ has_near near ks s
+    pub newest_found : (i : ℕ) (ks : List A) (s : A) → is_some (newest_near near i ks s) ≡ has_near near ks s
     unfolding newest_near has_near
     newest_found i [] s = refl
     newest_found i (k ∷ ks) s = found_in (newest_near near (suc i) ks s) (near k s) i ∙ ap (λ (b : Bool). near k s || b) (newest_found (suc i) ks s)
 
     -- which is all that merging asks: pushing by what the search says is pushing by the rule, so the same seeds are kept
-    pub same_kept : (ks : List A) (s : A) → cond (is_found (newest_near near 0 ks s)) ks (ks ++ (s ∷ [])) ≡ push near ks s
+    pub same_kept : (ks : List A) (s : A) → cond (is_some (newest_near near 0 ks s)) ks (ks ++ (s ∷ [])) ≡ push near ks s
     unfolding push
     same_kept ks s = rw (newest_found 0 ks s)
 
@@ -92,14 +91,14 @@ module _ {A : Type 0} where
       pub nearby : near named s ≡ true
       pub none_later : has_near near later s ≡ false
 
-    pub newest_named : (i j : ℕ) (ks : List A) (s : A) → newest_near near i ks s ≡ At j → Newest i ks s j
+    pub newest_named : (i j : ℕ) (ks : List A) (s : A) → newest_near near i ks s ≡ Some j → Newest i ks s j
     unfolding newest_near
     newest_named i j [] s h = let z : ◌≡◌ {A = ℕ} 0 1 = cc in absurd (omega arith)
     newest_named i j (k ∷ ks) s h = go (newest_near near (suc i) ks s) refl h (newest_named (suc i) j ks s)
       where
-        go : (r : Found) → newest_near near (suc i) ks s ≡ r → found_else r (cond (near k s) (At i) Nothing) ≡ At j
-            → (newest_near near (suc i) ks s ≡ At j → Newest (suc i) ks s j) → Newest i (k ∷ ks) s j
-        go (At m) e g behind =
+        go : (r : Option ℕ) → newest_near near (suc i) ks s ≡ r → option_or r (cond (near k s) (Some i) None) ≡ Some j
+            → (newest_near near (suc i) ks s ≡ Some j → Newest (suc i) ks s j) → Newest i (k ∷ ks) s j
+        go (Some m) e g behind =
             let n = behind (e ∙ g) in
             record {
               earlier = k ∷ n.earlier;
@@ -110,10 +109,10 @@ module _ {A : Type 0} where
               nearby = n.nearby;
               none_later = n.none_later;
             }
-        go Nothing e g behind =
+        go None e g behind =
             case (near k s)
             (λ c.
-            let f : At i ≡ At j = simp c at g in
+            let f : Some i ≡ Some j = simp c at g in
             let p : i ≡ j = cc in
             record {
               earlier = [];
@@ -122,15 +121,15 @@ module _ {A : Type 0} where
               split = refl;
               place = omega arith;
               nearby = c;
-              none_later = sym (newest_found (suc i) ks s) ∙ ap is_found e;
+              none_later = sym (newest_found (suc i) ks s) ∙ ap is_some e;
             })
-            (λ c. let f : Nothing ≡ At j = simp c at g in let z : ◌≡◌ {A = ℕ} 0 1 = cc in absurd (omega arith))
+            (λ c. let f : None ≡ Some j = simp c at g in let z : ◌≡◌ {A = ℕ} 0 1 = cc in absurd (omega arith))
 
     -- one more kept one is looked at first
     pub newest_snoc : (i : ℕ) (ks : List A) (k s : A)
-        → newest_near near i (ks ++ (k ∷ [])) s ≡ cond (near k s) (At (i + length ks)) (newest_near near i ks s)
+        → newest_near near i (ks ++ (k ∷ [])) s ≡ cond (near k s) (Some (i + length ks)) (newest_near near i ks s)
     unfolding newest_near
-    newest_snoc i [] k s = ap (λ (n : ℕ). cond (near k s) (At n) Nothing) (sym (add-zero i))
+    newest_snoc i [] k s = ap (λ (n : ℕ). cond (near k s) (Some n) None) (sym (add-zero i))
     newest_snoc i (l ∷ ks) k s =
         let h = newest_snoc (suc i) ks k s in
         let n : suc i + length ks ≡ i + suc (length ks) = omega arith in

@@ -9,13 +9,14 @@ use Rattle.camera_tilt.specs.declared.sensor.ScheimpflugParams.{ScheimpflugParam
 use Rattle.seed_rules.specs.declared.CandidateSeed.{CandidateSeed}
 use Rattle.seed_rules.specs.Merge.{keep}
 use Rattle.seed_rules.proofs.MergeLaws.{keep_append, keep_length, merged_length}
-use Rattle.seed_rules.specs.Rules.{tilt_near, near, in_bound, tilts, pairs, seed_with, seeds_within, seed_grid, initial_list, moved, next_list}
+use Rattle.seed_rules.specs.Rules.{tilt_near, near, in_bound, tilts, pairs, seed_with, entries_within, seeds_within, seed_grid, initial_list, moved, next_list}
 
-pub within_append : (max : Float) (k : FxFyCxCy) (ss ts : List ScheimpflugParams) → seeds_within max k (ss ++ ts) ≡ seeds_within max k ss ++ seeds_within max k ts
-within_append max k ss ts = ap (map (seed_with k)) (keep_append (in_bound max) ss ts) ∙ map-append (seed_with k) (keep (in_bound max) ss) (keep (in_bound max) ts)
+module _ {A : Type 0} (of : ScheimpflugParams → A) (max : Float) where
+  pub within_append : (ss ts : List ScheimpflugParams) → entries_within of max (ss ++ ts) ≡ entries_within of max ss ++ entries_within of max ts
+  within_append ss ts = ap (map of) (keep_append (in_bound max) ss ts) ∙ map-append of (keep (in_bound max) ss) (keep (in_bound max) ts)
 
-pub within_length : (max : Float) (k : FxFyCxCy) (ts : List ScheimpflugParams) → length (seeds_within max k ts) ≤ length ts
-within_length max k ts = omega (arith, length-map (keep (in_bound max) ts) (seed_with k), keep_length (in_bound max) ts)
+  pub within_length : (ts : List ScheimpflugParams) → length (entries_within of max ts) ≤ length ts
+  within_length ts = omega (arith, length-map (keep (in_bound max) ts) of, keep_length (in_bound max) ts)
 
 pub pairs_append : (xs zs ys : List Float) → pairs (xs ++ zs) ys ≡ pairs xs ys ++ pairs zs ys
 unfolding pairs
@@ -32,12 +33,34 @@ pairs_one : (x : Float) (ys : List Float) → pairs (x ∷ []) ys ≡ map (tilts
 unfolding pairs
 pairs_one x ys = append-nil (map (tilts x) ys)
 
--- ---- one more of the typed tilts
+-- ---- one more number of an axis, typed or an offset: f says which tilt it is
+along_more : {B : Type 0} (f : Float → B) (ds : List Float) (j : ℕ) → j < length ds → map f (take (suc j) ds) ≡ map f (take j ds) ++ (f (get_or ds j nan) ∷ [])
+along_more f ds j h = ap (map f) (take-suc ds j nan h) ∙ map-append f (take j ds) (get_or ds j nan ∷ [])
+
+module _ {A : Type 0} (of : ScheimpflugParams → A) (max : Float) (f : Float → Float) where
+  pub axis_row_more : (x : Float) (ds : List Float) (j : ℕ) → j < length ds
+      → entries_within of max (map (tilts x) (map f (take (suc j) ds)))
+      ≡ entries_within of max (map (tilts x) (map f (take j ds))) ++ entries_within of max (tilts x (f (get_or ds j nan)) ∷ [])
+  axis_row_more x ds j h =
+      ap (λ (zs : List Float). entries_within of max (map (tilts x) zs)) (along_more f ds j h)
+      ∙ ap (entries_within of max) (map-append (tilts x) (map f (take j ds)) (f (get_or ds j nan) ∷ []))
+      ∙ within_append of max (map (tilts x) (map f (take j ds))) (tilts x (f (get_or ds j nan)) ∷ [])
+
+  pub axis_grid_more : (ds ys : List Float) (i : ℕ) → i < length ds
+      → entries_within of max (pairs (map f (take (suc i) ds)) ys)
+      ≡ entries_within of max (pairs (map f (take i ds)) ys) ++ entries_within of max (map (tilts (f (get_or ds i nan))) ys)
+  axis_grid_more ds ys i h =
+      let x = f (get_or ds i nan) in
+      ap (λ (zs : List Float). entries_within of max (pairs zs ys)) (along_more f ds i h)
+      ∙ ap (entries_within of max) (pairs_append (map f (take i ds)) (x ∷ []) ys)
+      ∙ within_append of max (pairs (map f (take i ds)) ys) (pairs (x ∷ []) ys)
+      ∙ ap (λ (zs : List ScheimpflugParams). entries_within of max (pairs (map f (take i ds)) ys) ++ entries_within of max zs) (pairs_one x ys)
+
+-- ---- one more of the typed tilts, and one more of the offsets
 pub row_more : (max x : Float) (ys : List Float) (j : ℕ) → j < length ys
     → keep (in_bound max) (map (tilts x) (take (suc j) ys)) ≡ keep (in_bound max) (map (tilts x) (take j ys)) ++ keep (in_bound max) (tilts x (get_or ys j nan) ∷ [])
 row_more max x ys j h =
-    ap (λ (zs : List Float). keep (in_bound max) (map (tilts x) zs)) (take-suc ys j nan h)
-    ∙ ap (keep (in_bound max)) (map-append (tilts x) (take j ys) (get_or ys j nan ∷ []))
+    ap (keep (in_bound max)) (along_more (tilts x) ys j h)
     ∙ keep_append (in_bound max) (map (tilts x) (take j ys)) (tilts x (get_or ys j nan) ∷ [])
 
 pub grid_more : (max : Float) (xs ys : List Float) (i : ℕ) → i < length xs
@@ -49,28 +72,19 @@ grid_more max xs ys i h =
     ∙ keep_append (in_bound max) (pairs (take i xs) ys) (pairs (x ∷ []) ys)
     ∙ ap (λ (zs : List ScheimpflugParams). keep (in_bound max) (pairs (take i xs) ys) ++ keep (in_bound max) zs) (pairs_one x ys)
 
--- ---- one more of the offsets
 moved_more : (centre : Float) (ds : List Float) (j : ℕ) → j < length ds → moved centre (take (suc j) ds) ≡ moved centre (take j ds) ++ ((centre +₆₄ get_or ds j nan) ∷ [])
-moved_more centre ds j h = ap (moved centre) (take-suc ds j nan h) ∙ map-append (λ d. centre +₆₄ d) (take j ds) (get_or ds j nan ∷ [])
+moved_more centre ds j h = along_more (λ d. centre +₆₄ d) ds j h
 
 module _ (max : Float) (k : FxFyCxCy) where
   pub local_row_more : (x centre : Float) (ds : List Float) (j : ℕ) → j < length ds
       → seeds_within max k (map (tilts x) (moved centre (take (suc j) ds)))
       ≡ seeds_within max k (map (tilts x) (moved centre (take j ds))) ++ seeds_within max k (tilts x (centre +₆₄ get_or ds j nan) ∷ [])
-  local_row_more x centre ds j h =
-      ap (λ (zs : List Float). seeds_within max k (map (tilts x) zs)) (moved_more centre ds j h)
-      ∙ ap (seeds_within max k) (map-append (tilts x) (moved centre (take j ds)) ((centre +₆₄ get_or ds j nan) ∷ []))
-      ∙ within_append max k (map (tilts x) (moved centre (take j ds))) (tilts x (centre +₆₄ get_or ds j nan) ∷ [])
+  local_row_more x centre ds j h = axis_row_more (seed_with k) max (λ d. centre +₆₄ d) x ds j h
 
   pub local_grid_more : (centre : Float) (ds ys : List Float) (i : ℕ) → i < length ds
       → seeds_within max k (pairs (moved centre (take (suc i) ds)) ys)
       ≡ seeds_within max k (pairs (moved centre (take i ds)) ys) ++ seeds_within max k (map (tilts (centre +₆₄ get_or ds i nan)) ys)
-  local_grid_more centre ds ys i h =
-      let x = centre +₆₄ get_or ds i nan in
-      ap (λ (zs : List Float). seeds_within max k (pairs zs ys)) (moved_more centre ds i h)
-      ∙ ap (seeds_within max k) (pairs_append (moved centre (take i ds)) (x ∷ []) ys)
-      ∙ within_append max k (pairs (moved centre (take i ds)) ys) (pairs (x ∷ []) ys)
-      ∙ ap (λ (zs : List ScheimpflugParams). seeds_within max k (pairs (moved centre (take i ds)) ys) ++ seeds_within max k zs) (pairs_one x ys)
+  local_grid_more centre ds ys i h = axis_grid_more (seed_with k) max (λ d. centre +₆₄ d) ds ys i h
 
 -- ---- at most one seed for each pair
 pub grid_length : (xs ys : List Float) (max : Float) → length (seed_grid xs ys max) ≤ length xs * length ys
@@ -94,4 +108,4 @@ next_length dxs dys centre camera max =
     let ex : length xs ≡ length dxs = length-map dxs (λ d. centre.tilt_x +₆₄ d) in
     let ey : length ys ≡ length dys = length-map dys (λ d. centre.tilt_y +₆₄ d) in
     let e : length (pairs xs ys) ≡ length dxs * length dys = rw (ex, ey) at (pairs_length xs ys) in
-    omega (arith, merged_length near [] (seeds_within max camera (pairs xs ys)), within_length max camera (pairs xs ys))
+    omega (arith, merged_length near [] (seeds_within max camera (pairs xs ys)), within_length (seed_with camera) max (pairs xs ys))

@@ -1,27 +1,26 @@
 -- Steps of the loops, for records of any width and any relation of nearness: a search from the last record back, and a merge in parts on a lent list. Assumes nothing.
-use Rattle.std.specs.Prelude.{◌≡◌, refl, Bool, true, false, ◌&&◌, cond, List, [], ◌∷◌, ◌++◌, ℕ, suc, ◌+◌, ◌-◌, ◌*◌, ◌≤◌, ◌<◌, length, take, drop, Float}
+use Rattle.std.specs.Prelude.{◌≡◌, refl, Bool, true, false, ◌&&◌, cond, Some, None, is_some, List, [], ◌∷◌, ◌++◌, ℕ, suc, ◌+◌, ◌-◌, ◌*◌, ◌≤◌, ◌<◌, length, take, drop, Float}
 use Rattle.std.proofs.Math.Path.{sym}
 use Rattle.std.proofs.Common.{ap, ◌∙◌, true≢false, zero-add, arith, length-append, length-take-le}
 use Rattle.std.proofs.lemmas.List.Edits.{sets}
-use Rattle.seed_rules.specs.declared.Found.TheVariants.{At, Nothing}
 use Rattle.seed_rules.specs.Layout.{read_from, written_by, Leaves}
 use Rattle.seed_rules.specs.LayoutLaws.{Layout, read_length, read_written, written_own, written_over, stored}
-use Rattle.seed_rules.specs.Merge.{is_found, newest_near, push, merged_into}
+use Rattle.seed_rules.specs.Merge.{newest_near, push, merged_into}
 use Rattle.seed_rules.proofs.MergeLaws.{newest_snoc, same_kept, merged_append, merged_longer, merged_length}
 
 -- ---- the search, with the first `left` records still to be looked at
 module _ {A : Type 0} (near : A → A → Bool) (ks : List A) (left : ℕ) (s : A) where
-  pub found_none : left ≡ 0 → newest_near near 0 (take left ks) s ≡ Nothing
+  pub found_none : left ≡ 0 → newest_near near 0 (take left ks) s ≡ None
   unfolding newest_near
   found_none h = rw h
 
   module _ (k : A) (some : 0 < left) (last : take (suc (left - 1)) ks ≡ take (left - 1) ks ++ (k ∷ [])) where
-    looks : newest_near near 0 (take left ks) s ≡ cond (near k s) (At (0 + length (take (left - 1) ks))) (newest_near near 0 (take (left - 1) ks) s)
+    looks : newest_near near 0 (take left ks) s ≡ cond (near k s) (Some (0 + length (take (left - 1) ks))) (newest_near near 0 (take (left - 1) ks) s)
     looks =
         let e : left ≡ suc (left - 1) = omega arith in
         ap (λ (n : ℕ). newest_near near 0 (take n ks) s) e ∙ ap (λ (l : List A). newest_near near 0 l s) last ∙ newest_snoc near 0 (take (left - 1) ks) k s
 
-    pub found_here : left ≤ length ks → near k s ≡ true → newest_near near 0 (take left ks) s ≡ At (left - 1)
+    pub found_here : left ≤ length ks → near k s ≡ true → newest_near near 0 (take left ks) s ≡ Some (left - 1)
     found_here h t = looks ∙ simp (t, length-take-le (left - 1) ks (omega arith), zero-add (left - 1))
 
     pub found_before : near k s ≡ false → newest_near near 0 (take left ks) s ≡ newest_near near 0 (take (left - 1) ks) s
@@ -29,11 +28,11 @@ module _ {A : Type 0} (near : A → A → Bool) (ks : List A) (left : ℕ) (s : 
 
 -- ---- one record pushed, and the merge
 module _ {A : Type 0} {numbers : A → List Float} {first : List Float → A} {w : ℕ} (y : Layout numbers first w) (near : A → A → Bool) where
-  pub push_drops : (l : List Float) (n : ℕ) (s : A) → w * n ≤ length l → is_found (newest_near near 0 (read_from first w n l) s) ≡ true
+  pub push_drops : (l : List Float) (n : ℕ) (s : A) → w * n ≤ length l → is_some (newest_near near 0 (read_from first w n l) s) ≡ true
       → Leaves numbers w (push near (read_from first w n l) s) l l n
   push_drops l n s h e = rw (← same_kept near (read_from first w n l) s, e) (record { count_is = sym (read_length first w n l); list_is = sym (written_own y n l h) })
 
-  pub push_stores : (l m : List Float) (n : ℕ) (s : A) → w * n + w ≤ length l → is_found (newest_near near 0 (read_from first w n l) s) ≡ false → m ≡ sets l (w * n) (numbers s)
+  pub push_stores : (l m : List Float) (n : ℕ) (s : A) → w * n + w ≤ length l → is_some (newest_near near 0 (read_from first w n l) s) ≡ false → m ≡ sets l (w * n) (numbers s)
       → Leaves numbers w (push near (read_from first w n l) s) l m (n + 1)
   push_stores l m n s h e q =
       rw (← same_kept near (read_from first w n l) s, e) (record {

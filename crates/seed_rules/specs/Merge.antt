@@ -1,16 +1,6 @@
 -- Merging a list under a relation of nearness: a seed that lies near an earlier kept one is dropped, and which kept one is named. Definitions only.
-use Rattle.std.specs.Prelude.{ℕ, suc, Bool, true, false, ◌||◌, cond, List, [], ◌∷◌, ◌++◌}
-use Rattle.seed_rules.specs.declared.Found.{Found}
-use Rattle.seed_rules.specs.declared.Found.TheVariants.{At, Nothing}
-
--- what one search found, or else another; and whether it found any
-abbrev pub found_else : Found → Found → Found
-found_else (At i) f = At i
-found_else Nothing f = f
-
-abbrev pub is_found : Found → Bool
-is_found (At i) = true
-is_found Nothing = false
+use Rattle.std.specs.Prelude.{ℕ, suc, Bool, false, ◌||◌, cond, Option, Some, None, List, [], ◌∷◌, ◌++◌}
+use Rattle.std.specs.Option.{option_or}
 
 module _ {A : Type 0} where
   -- those of a list that pass a test, in their order
@@ -25,9 +15,9 @@ module _ {A : Type 0} where
     has_near (k ∷ ks) s = near k s || has_near ks s
 
     -- 02, E4: the place of the newest kept one that lies near s, places counted from i: one behind the first, or else the first
-    unfoldable pub newest_near : ℕ → List A → A → Found
-    newest_near i [] s = Nothing
-    newest_near i (k ∷ ks) s = found_else (newest_near (suc i) ks s) (cond (near k s) (At i) Nothing)
+    unfoldable pub newest_near : ℕ → List A → A → Option ℕ
+    newest_near i [] s = None
+    newest_near i (k ∷ ks) s = option_or (newest_near (suc i) ks s) (cond (near k s) (Some i) None)
 
     -- s is dropped where a kept one lies near it, and comes last otherwise
     unfoldable pub push : List A → A → List A

@@ -1,5 +1,5 @@
 -- 01's rules about seeds, on lists of values: nearness, the bound, round 0's list, a later round's list. Definitions only.
-use Rattle.std.specs.Prelude.{Bool, ◌&&◌, cond, List, [], ◌∷◌, ◌++◌, map, Float}
+use Rattle.std.specs.Prelude.{Bool, ◌&&◌, cond, Option, Some, None, List, [], ◌∷◌, ◌++◌, map, Float}
 use Rattle.std.specs.Float.Ieee.{neg, lt, le, eq}
 use Rattle.float.specs.Float.{abs_of}
 use Rattle.float.specs.Literals.{plus_zero, ten_to_minus9, ten_to_minus12}
@@ -52,9 +52,12 @@ pairs (x ∷ xs) ys = map (tilts x) ys ++ pairs xs ys
 abbrev pub seed_with : FxFyCxCy → ScheimpflugParams → CandidateSeed
 seed_with k t = record { reference_k = k; sensor = t }
 
--- tilts within the bound, as seeds with one camera
+-- tilts within the bound, each as an entry of a list; and as seeds with one camera
+abbrev pub entries_within : {A : Type 0} → (ScheimpflugParams → A) → Float → List ScheimpflugParams → List A
+entries_within of max ts = map of (keep (in_bound max) ts)
+
 abbrev pub seeds_within : Float → FxFyCxCy → List ScheimpflugParams → List CandidateSeed
-seeds_within max k ts = map (seed_with k) (keep (in_bound max) ts)
+seeds_within max k ts = entries_within (seed_with k) max ts
 
 -- ---- 01: round 0's grid. Typed tilts beyond the bound are skipped, and the rest merged by tilt alone.
 unfoldable pub seed_grid : List Float → List Float → Float → List ScheimpflugParams
@@ -71,6 +74,11 @@ offsets s = neg s ∷ plus_zero ∷ s ∷ []
 
 unfoldable pub y_offsets : Bool → Float → List Float
 y_offsets one_axis s = cond one_axis (plus_zero ∷ []) (offsets s)
+
+-- a tilt of an axis: a typed one, or the centre's with an offset added
+abbrev pub tilt_along : Option Float → Float → Float
+tilt_along None y = y
+tilt_along (Some centre) d = centre +₆₄ d
 
 abbrev pub moved : Float → List Float → List Float
 moved centre ds = map (λ d. centre +₆₄ d) ds

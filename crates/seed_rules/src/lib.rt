@@ -1,21 +1,28 @@
-// A seed, and what a search for a near one gives. The rules for lists of seeds, are in specs/, their laws in specs/ and proofs/.
+// A seed. The rules for lists of seeds are in specs/, their laws in specs/ and proofs/.
 
 #![tactic(auto)]
+
+ghost use Rattle.std.specs.Prelude.{◌≡◌};
+ghost use Rattle.seed_rules.specs.Layout.{six};
 
 use camera_models::intrinsics::FxFyCxCy;
 use camera_tilt::sensor::ScheimpflugParams;
 
 // Where a candidate starts: a camera, and the sensor's tilts.
 #[repr(C)]
-#[derive(Clone, Copy)]
+#[derive(Clone, Copy, Default)]
 pub struct CandidateSeed {
     pub reference_k: FxFyCxCy,
     pub sensor: ScheimpflugParams,
 }
 
-// A kept seed that is near the one in question, by its place, or none.
-#[derive(Clone, Copy)]
-pub enum Found {
-    At(usize),
-    Nothing,
+// The six numbers of a seed, in the order that a list of numbers has them.
+impl From<CandidateSeed> for [f64; 6] {
+    ghost from_gives = { λ seed numbers. numbers ≡ six seed };
+
+    fn from(seed: CandidateSeed) -> [f64; 6] {
+        let k = seed.reference_k;
+        let t = seed.sensor;
+        [k.fx, k.fy, k.cx, k.cy, t.tilt_x, t.tilt_y]
+    }
 }

@@ -1,5 +1,5 @@
 -- Exact cases of the closed form: a camera of whole numbers up to 256, times a power of two, comes back from its conic, and from the negated one. Assumes nothing.
-use Rattle.std.specs.Prelude.{◌≡◌, Bool, not, ℕ, ◌+◌, ◌*◌, ◌^◌, ◌≤◌, ◌<◌, T, Float}
+use Rattle.std.specs.Prelude.{◌≡◌, Bool, not, ℕ, ◌+◌, ◌*◌, ◌^◌, ◌≤◌, ◌<◌, T, Float, Result, Ok}
 use Rattle.std.proofs.Math.Path.{refl, ap}
 use Rattle.std.proofs.Common.{sym, ◌∙◌, subst, true≢false, add-zero, zero-add, zero-mul, mul-one, mul_assoc, mul_comm, add-mul, arith, pow-add, pow_pos}
 use Rattle.std.proofs.Math.Bool.{true, false}
@@ -16,8 +16,7 @@ use Rattle.root.specs.Root.{root}
 use Rattle.root.proofs.Nearest.{root_exact}
 use Rattle.camera_models.specs.declared.intrinsics.FxFyCxCy.{FxFyCxCy}
 use Rattle.zhang.specs.declared.Conic.{Conic}
-use Rattle.zhang.specs.declared.Estimated.{Estimated}
-use Rattle.zhang.specs.declared.Estimated.TheVariants.{Camera}
+use Rattle.common.specs.declared.Refusal.{Refusal}
 use Rattle.zhang.specs.Zhang.{least_definite, least_b11, denom, norm, v0, lambda, alpha, beta, gamma, u0, definite, from_homographies}
 
 -- ---- the root of a square
@@ -94,9 +93,9 @@ pub record Conic-of (p q x y k : ℕ) (sx sy s : Bool) (b : Conic) : Type 0 wher
   pub b33 : Num b.b33 s (x * x * (q * q) + y * y * (p * p) + p * p * (q * q)) (k + k)
 
 -- The reply is a camera whose four numbers equal those of f, as IEEE 754 compares: they are the same but for the sign of a zero.
-pub record Recovered (f : FxFyCxCy) (r : Estimated) : Type 0 where
+pub record Recovered (f : FxFyCxCy) (r : Result FxFyCxCy Refusal) : Type 0 where
   pub camera : FxFyCxCy
-  pub reply : r ≡ Camera camera
+  pub reply : r ≡ Ok camera
   pub fx : eq camera.fx f.fx ≡ true
   pub fy : eq camera.fy f.fy ≡ true
   pub cx : eq camera.cx f.cx ≡ true
@@ -250,7 +249,7 @@ module _ (p q x y k : ℕ) (sx sy s : Bool) (b : Conic) (c : Conic-of p q x y k 
   pos_times : (n z : ℕ) → 0 < n → 0 < n * 2 ^ z
   pos_times n z h = mul-pos h (pow_pos z)
 
-  replies : from_homographies b ≡ Camera (record { fx = alpha b; fy = beta b; cx = u0 b; cy = v0 b })
+  replies : from_homographies b ≡ Ok (record { fx = alpha b; fy = beta b; cx = u0 b; cy = v0 b })
   unfolding definite from_homographies
   replies =
       let P : 0 < p * p = mul-pos p-pos p-pos in

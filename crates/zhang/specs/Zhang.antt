@@ -1,6 +1,6 @@
 -- The camera of a conic, by the closed form of Zhang's paper (A flexible new technique for camera calibration, 2000, appendix B), each operation rounded.
 -- The names are the paper's: v0, λ, α, β, γ, u0. Definitions only.
-use Rattle.std.specs.Prelude.{Bool, not, ◌&&◌, cond, Float}
+use Rattle.std.specs.Prelude.{Bool, not, ◌&&◌, cond, Float, Result, Ok, Err}
 use Rattle.std.specs.Float.{binary64}
 use Rattle.std.specs.Float.Ieee.{neg, lt, le}
 use Rattle.float.specs.Binary64.{◌+₆₄◌, ◌-₆₄◌, ◌*₆₄◌, ◌/₆₄◌}
@@ -9,8 +9,8 @@ use Rattle.float.specs.Literals.{plus_zero, ten_to_minus6, ten_to_minus12}
 use Rattle.root.specs.Root.{root}
 use Rattle.camera_models.specs.declared.intrinsics.FxFyCxCy.{FxFyCxCy}
 use Rattle.zhang.specs.declared.Conic.{Conic}
-use Rattle.zhang.specs.declared.Estimated.{Estimated}
-use Rattle.zhang.specs.declared.Estimated.TheVariants.{Camera, Refused}
+use Rattle.common.specs.declared.Refusal.{Refusal}
+use Rattle.common.specs.declared.Refusal.TheVariants.{DegenerateViews}
 
 -- 1e-6
 abbrev pub least_definite : Float
@@ -59,7 +59,7 @@ camera_of b = record { fx = alpha b; fy = beta b; cx = u0 b; cy = v0 b }
 unfoldable pub definite : Conic → Bool
 definite b = lt plus_zero (norm b) && (lt least_definite (denom b /₆₄ norm b) && (not (le (abs_of b.b11) least_b11) && lt plus_zero (lambda b /₆₄ b.b11)))
 
--- Where the conic isn't definite no camera has it, and the number is 16. A camera that isn't finite is a reply like any other.
-unfoldable pub from_homographies : Conic → Estimated
+-- Where the conic isn't definite no camera has it, and it is refused. A camera that isn't finite is a reply like any other.
+unfoldable pub from_homographies : Conic → Result FxFyCxCy Refusal
 unfolding definite
-from_homographies b = cond (definite b) (Camera (camera_of b)) (Refused 16)
+from_homographies b = cond (definite b) (Ok (camera_of b)) (Err DegenerateViews)

@@ -8,10 +8,11 @@ ghost use Rattle.zhang.specs.Zhang as zhang;
 ghost use Rattle.zhang.specs.Zhang.{camera_of, from_homographies};
 
 use camera_models::intrinsics::FxFyCxCy;
+use common::Refusal;
 
 // The conic B = μ K⁻ᵀ K⁻¹, a symmetric matrix known up to its scale μ, in the order in which the linear solve gives its numbers.
 #[repr(C)]
-#[derive(Clone, Copy)]
+#[derive(Clone, Copy, Default)]
 pub struct Conic {
     pub b11: f64,
     pub b12: f64,
@@ -19,13 +20,6 @@ pub struct Conic {
     pub b13: f64,
     pub b23: f64,
     pub b33: f64,
-}
-
-#[derive(Clone, Copy)]
-pub enum Estimated {
-    Camera(FxFyCxCy),
-    // 16: no camera has this conic
-    Refused(u8),
 }
 
 // The camera of a definite conic. Its skew is found for the principal point, and dropped.
@@ -48,8 +42,9 @@ fn camera_of(b: Conic, denom: f64, v0: f64, lambda: f64) -> FxFyCxCy
     }
 }
 
-// The camera whose conic is b.
-pub fn from_homographies(b: Conic) -> Estimated
+// The camera whose conic is b, where there is one.
+#[tactic(auto, unfolding(crate::specs::Zhang::definite, crate::specs::Zhang::from_homographies))]
+pub fn from_homographies(b: Conic) -> Result<FxFyCxCy, Refusal>
     ensures { result ≡ from_homographies b }
 {
     let b11 = b.b11;
@@ -61,18 +56,18 @@ pub fn from_homographies(b: Conic) -> Estimated
     let denom = b11 * b22 - b12 * b12;
     let denom_norm = b11 * b11 + b22 * b22;
     if !(denom_norm > 0.0) {
-        return Estimated::Refused(16);
+        return Err(Refusal::DegenerateViews);
     }
     if !(denom / denom_norm > 1e-6) {
-        return Estimated::Refused(16);
+        return Err(Refusal::DegenerateViews);
     }
     if float::abs(b11) <= 1e-12 {
-        return Estimated::Refused(16);
+        return Err(Refusal::DegenerateViews);
     }
     let v0 = (b12 * b13 - b11 * b23) / denom;
     let lambda = b33 - (b13 * b13 + v0 * (b12 * b13 - b11 * b23)) / b11;
     if !(lambda / b11 > 0.0) {
-        return Estimated::Refused(16);
+        return Err(Refusal::DegenerateViews);
     }
-    Estimated::Camera(camera_of(b, denom, v0, lambda))
+    Ok(camera_of(b, denom, v0, lambda))
 }

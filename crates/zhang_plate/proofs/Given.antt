@@ -1,6 +1,6 @@
--- 02, E12: each camera whose four numbers share a power of two gets six numbers from which the closed form gives the four back; every other one gets 34.
+-- 02, E12: each camera whose four numbers share a power of two gets six numbers from which the closed form gives the four back; every other one is refused.
 -- The six are computed exactly, and zhang's `recovered` does the rest. Assumes nothing.
-use Rattle.std.proofs.Common.{◌≡◌, ℕ, ◌+◌, ◌*◌, ◌^◌, ◌≤◌, Bool, true, false, not, pos, sym, refl, add-zero, mul-le-mul, zero-add, mul-one, arith, Float}
+use Rattle.std.proofs.Common.{◌≡◌, ℕ, ◌+◌, ◌*◌, ◌^◌, ◌≤◌, Bool, true, false, not, pos, sym, refl, add-zero, mul-le-mul, zero-add, mul-one, arith, Float, Ok, Err}
 use Rattle.std.specs.Float.{binary64}
 use Rattle.std.specs.Float.Ieee.{unlike, of_bits, of_int, neg}
 use mathlib.Core.Option.{Option, none, some}
@@ -11,7 +11,7 @@ use Rattle.float.specs.Whole.{Num, held, round_is, neg_is, num_mul, num_div, num
 use Rattle.camera_models.specs.declared.intrinsics.FxFyCxCy.{FxFyCxCy}
 use Rattle.zhang.proofs.Exact.{signed, Conic-of, Recovered, recovered}
 use Rattle.zhang.specs.Zhang.{from_homographies}
-use Rattle.zhang_plate.specs.declared.Plate.TheVariants.{Numbers, Refused}
+use Rattle.common.specs.declared.Refusal.TheVariants.{NoPlate}
 use Rattle.zhang_plate.specs.Plate.{unit_from, conic_with, plate_of}
 use Rattle.zhang_plate.specs.Theorem.{Units, PlateRight}
 use Rattle.zhang_plate.proofs.Units.{units, shares}
@@ -101,11 +101,11 @@ module _ (k : ℕ) (f : FxFyCxCy) (few : k ≤ 8) (a : Units k f) where
       f a.fx_is a.fy_is a.cx_is a.cy_is
 
 -- ---- the whole
-pub numbers_of : (f : FxFyCxCy) (u : ℕ) → unit_from 9 1 f ≡ some u → plate_of f ≡ Numbers (conic_with (of_int binary64 (pos u)) f)
+pub numbers_of : (f : FxFyCxCy) (u : ℕ) → unit_from 9 1 f ≡ some u → plate_of f ≡ Ok (conic_with (of_int binary64 (pos u)) f)
 unfolding plate_of
 numbers_of f u h = simp (plate_of, h)
 
-pub refused_of : (f : FxFyCxCy) → unit_from 9 1 f ≡ none → plate_of f ≡ Refused 34
+pub refused_of : (f : FxFyCxCy) → unit_from 9 1 f ≡ none → plate_of f ≡ Err NoPlate
 unfolding plate_of
 refused_of f h = simp (plate_of, h)
 

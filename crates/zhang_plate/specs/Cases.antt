@@ -1,5 +1,5 @@
 -- A table of cameras with what they get and what the closed form makes of it, proved by computing. Assumes nothing.
-use Rattle.std.specs.Prelude.{◌≡◌, List, [], ◌∷◌, ℤ, pos, negsuc, refl, Float}
+use Rattle.std.specs.Prelude.{◌≡◌, List, [], ◌∷◌, ℤ, pos, negsuc, refl, Float, Ok, Err}
 use Rattle.std.specs.Float.{binary64}
 use Rattle.std.specs.Float.Ieee.{is_nan, of_bits, of_int, neg, add, sub, mul, div, lt, le}
 use Rattle.common.specs.Each.{All}
@@ -7,9 +7,8 @@ use Rattle.float.specs.Float.{abs_of}
 use Rattle.root.specs.Root.{root}
 use Rattle.camera_models.specs.declared.intrinsics.FxFyCxCy.{FxFyCxCy}
 use Rattle.zhang.specs.declared.Conic.{Conic}
-use Rattle.zhang.specs.declared.Estimated.TheVariants.{Camera}
+use Rattle.common.specs.declared.Refusal.TheVariants.{NoPlate}
 use Rattle.zhang.specs.Zhang.{definite, from_homographies}
-use Rattle.zhang_plate.specs.declared.Plate.TheVariants.{Numbers, Refused}
 use Rattle.zhang_plate.specs.Plate.{times_unit, shared_unit, unit_from, conic_with, plate_of}
 
 pub data Case : Type 0 where
@@ -18,8 +17,8 @@ pub data Case : Type 0 where
   refused : FxFyCxCy → Case
 
 abbrev pub Holds : Case → Type 0
-Holds (given f b g) = (plate_of f ≡ Numbers b) × (from_homographies b ≡ Camera g)
-Holds (refused f) = plate_of f ≡ Refused 34
+Holds (given f b g) = (plate_of f ≡ Ok b) × (from_homographies b ≡ Ok g)
+Holds (refused f) = plate_of f ≡ Err NoPlate
 
 -- ---- whole numbers, and the value that bits stand for
 abbrev pub whole : ℤ → Float

@@ -1,5 +1,5 @@
--- 02, E12: the six numbers of a camera that service chooses, or 34. Definitions only; specs/Theorem.antt says what they are good for.
-use Rattle.std.specs.Prelude.{ℕ, zero, suc, ◌*◌, ◌/◌, ◌%◌, Bool, true, false, ◌&&◌, pos, ◌==◌, nat_le, Float}
+-- 02, E12: the six numbers of a camera that service chooses, or a refusal. Definitions only; specs/Theorem.antt says what they are good for.
+use Rattle.std.specs.Prelude.{ℕ, zero, suc, ◌*◌, ◌/◌, ◌%◌, Bool, true, false, ◌&&◌, pos, ◌==◌, nat_le, Float, Result, Ok, Err}
 use Rattle.std.proofs.Math.Option.{Option, none, some}
 use Rattle.std.specs.Float.{nan, inf, fin, binary64}
 use Rattle.std.specs.Float.Ieee.{up, down, of_int, neg, lt}
@@ -7,8 +7,8 @@ use Rattle.float.specs.Binary64.{◌+₆₄◌, ◌*₆₄◌, ◌/₆₄◌}
 use Rattle.float.specs.Literals.{plus_zero}
 use Rattle.camera_models.specs.declared.intrinsics.FxFyCxCy.{FxFyCxCy}
 use Rattle.zhang.specs.declared.Conic.{Conic}
-use Rattle.zhang_plate.specs.declared.Plate.{Plate}
-use Rattle.zhang_plate.specs.declared.Plate.TheVariants.{Numbers, Refused}
+use Rattle.common.specs.declared.Refusal.{Refusal}
+use Rattle.common.specs.declared.Refusal.TheVariants.{NoPlate}
 
 -- ±(m up e / down e) is a whole number of units u, at most 256 of them
 unfoldable pub times_unit : ℕ → Float → Bool
@@ -39,6 +39,6 @@ conic_with u k =
       b33 = k.cx *₆₄ k.cx *₆₄ (q *₆₄ q) +₆₄ k.cy *₆₄ k.cy *₆₄ (p *₆₄ p) +₆₄ k.fx *₆₄ k.fx *₆₄ (q *₆₄ q);
     }
 
--- by the lowest of 1, 2, 4 .. 256 that the four share, and 34 where there is none
-unfoldable pub plate_of : FxFyCxCy → Plate
-plate_of k = elim (unit_from 9 1 k) [ none ↦ Refused 34 | some u ↦ Numbers (conic_with (of_int binary64 (pos u)) k) ]
+-- by the lowest of 1, 2, 4 .. 256 that the four share, and a refusal where there is none
+unfoldable pub plate_of : FxFyCxCy → Result Conic Refusal
+plate_of k = elim (unit_from 9 1 k) [ none ↦ Err NoPlate | some u ↦ Ok (conic_with (of_int binary64 (pos u)) k) ]

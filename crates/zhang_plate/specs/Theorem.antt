@@ -1,11 +1,11 @@
 -- 02, E12: what a plate with a known answer is. `PlateRight` is proved in proofs/Given.antt, as `plate_right`. Definitions only.
-use Rattle.std.specs.Prelude.{◌≡◌, ℕ, ◌≤◌, Bool, false}
+use Rattle.std.specs.Prelude.{◌≡◌, ℕ, ◌≤◌, Bool, false, Ok, Err}
 use Rattle.float.specs.Whole.{Num}
 use Rattle.camera_models.specs.declared.intrinsics.FxFyCxCy.{FxFyCxCy}
 use Rattle.zhang.specs.declared.Conic.{Conic}
 use Rattle.zhang.proofs.Exact.{Recovered}
 use Rattle.zhang.specs.Zhang.{from_homographies}
-use Rattle.zhang_plate.specs.declared.Plate.TheVariants.{Numbers, Refused}
+use Rattle.common.specs.declared.Refusal.TheVariants.{NoPlate}
 use Rattle.zhang_plate.specs.Plate.{plate_of}
 
 -- The four numbers of a camera are whole numbers of 2 ^ k: p and q, 1 to 256, for the focal lengths, ±x and ±y, up to 256, for the centre.
@@ -32,7 +32,7 @@ pub record Shared (f : FxFyCxCy) : Type 0 where
   pub power : k ≤ 8
   pub units : Units k f
 
--- Each such camera gets six numbers from which the closed form gives the four back, a zero with either sign (`Recovered`); every other one gets 34.
+-- Each such camera gets six numbers from which the closed form gives the four back, a zero with either sign (`Recovered`); every other one is refused.
 pub record PlateRight : Type 0 where
-  pub gives : (f : FxFyCxCy) → Shared f → (b : Conic) × (plate_of f ≡ Numbers b) × Recovered f (from_homographies b)
-  pub refuses : (f : FxFyCxCy) → (Shared f → ⊥) → plate_of f ≡ Refused 34
+  pub gives : (f : FxFyCxCy) → Shared f → (b : Conic) × (plate_of f ≡ Ok b) × Recovered f (from_homographies b)
+  pub refuses : (f : FxFyCxCy) → (Shared f → ⊥) → plate_of f ≡ Err NoPlate

@@ -1,4 +1,4 @@
-// A plate with a known answer: the six numbers of a conic from which the closed form gives a chosen camera back, or 34.
+// A plate with a known answer: the six numbers of a conic from which the closed form gives a chosen camera back, or a refusal.
 // Each function equals its definition, for every input; specs/Theorem.antt has that the camera comes back.
 
 #![tactic(auto)]
@@ -7,14 +7,8 @@ ghost use Rattle.std.specs.Prelude.{◌≡◌, ◌≤◌};
 ghost use Rattle.zhang_plate.specs.Plate.{times_unit, shared_unit, conic_with, plate_of};
 
 use camera_models::intrinsics::FxFyCxCy;
+use common::Refusal;
 use zhang::Conic;
-
-#[derive(Clone, Copy)]
-pub enum Plate {
-    Numbers(Conic),
-    // 34: no shared power of two puts the four numbers in their ranges
-    Refused(u8),
-}
 
 // Whether x is a whole number of units, at most 256 of them, of either sign.
 fn times_unit(x: f64, unit: u64) -> bool
@@ -34,6 +28,7 @@ fn times_unit(x: f64, unit: u64) -> bool
 }
 
 // Whether the four are whole numbers of units, in their ranges.
+#[tactic(auto, unfolding(crate::specs::Plate::shared_unit))]
 fn shared_unit(k: FxFyCxCy, unit: u64) -> bool
     requires { (1 ≤ unit) × (unit ≤ 256) }
     ensures { result ≡ shared_unit unit k }
@@ -51,6 +46,7 @@ fn shared_unit(k: FxFyCxCy, unit: u64) -> bool
 }
 
 // The six numbers, each operation exact where the four are whole numbers of units.
+#[tactic(auto, unfolding(crate::specs::Plate::conic_with))]
 fn conic_with(k: FxFyCxCy, unit: f64) -> Conic
     ensures { result ≡ conic_with unit k }
 {
@@ -71,17 +67,14 @@ fn conic_with(k: FxFyCxCy, unit: f64) -> Conic
 }
 
 // The six numbers of a camera, by the lowest power of two that its four share.
-pub fn known_plate(k: FxFyCxCy) -> Plate
+pub fn known_plate(k: FxFyCxCy) -> Result<Conic, Refusal>
     ensures { result ≡ plate_of k }
 {
-    let mut unit: u64 = 1;
-    let mut power: u64 = 0;
-    while power < 9 {
+    for power in 0..9u64 {
+        let unit = 1u64 << power;
         if shared_unit(k, unit) {
-            return Plate::Numbers(conic_with(k, unit as f64));
+            return Ok(conic_with(k, unit as f64));
         }
-        unit = unit * 2;
-        power += 1;
     }
-    Plate::Refused(34)
+    Err(Refusal::NoPlate)
 }

@@ -1,9 +1,14 @@
--- `float::is_finite` meets its contract: a number lies strictly between the infinities, and nothing else does. Assumes nothing.
-use Rattle.float.specs.Finite.{below_infinity, above_infinity}
+-- `float::is_finite` meets its contract: the library's says the same. Assumes nothing.
+use Rattle.std.proofs.Common.{◌≡◌, refl, ◌∙◌, Float}
+use Rattle.std.specs.Float.{nan, inf, fin, float_is_finite}
+use Rattle.float.specs.Float.{is_finite}
 use Rattle.float.proofs.is_finite.Goals as goal
 
-pub returns-then-infinity-x : goal.returns-then-infinity-x
-returns-then-infinity-x c = below_infinity c.args.x c.if-infinity-x.true
+same : (x : Float) → float_is_finite x ≡ is_finite x
+unfolding float_is_finite is_finite
+same nan = refl
+same (inf s) = refl
+same (fin s m e) = refl
 
-pub returns-else-infinity-x : goal.returns-else-infinity-x
-returns-else-infinity-x c = above_infinity c.args.x c.if-infinity-x.false
+pub returns : goal.returns
+returns c = c.is_finite.ensures.value ∙ same c.args.x

@@ -1,15 +1,15 @@
--- `float::to_bits` meets its contract: the bits, of a NaN the one pattern. Assumes nothing.
-use Rattle.std.proofs.Common.{sym, ◌∙◌, subst, Bool, not, T}
+-- `float::to_bits` meets its contract: the library's gives any NaN the same one pattern. Assumes nothing.
+use Rattle.std.proofs.Common.{◌≡◌, refl, ◌∙◌, Float}
+use Rattle.std.specs.Float.{nan, inf, fin, binary64}
+use Rattle.std.specs.Float.Ieee.{to_bits, is_nan}
 use Rattle.float.specs.Float.{bits_of}
 use Rattle.float.proofs.to_bits.Goals as goal
 
-pub returns-then-is_nan : goal.returns-then-is_nan
-unfolding bits_of
-returns-then-is_nan c = simp (sym c.is_nan.ensures ∙ c.if-is_nan.true)
-
-pub float_to_bits-result : goal.float_to_bits-result
-float_to_bits-result c = subst (λ (t : Bool). T (not t)) (sym c.if-is_nan.false ∙ c.is_nan.ensures) tt
+same : (x : Float) → to_bits binary64 x ≡ bits_of x
+unfolding to_bits is_nan bits_of
+same nan = refl
+same (inf s) = refl
+same (fin s m e) = refl
 
 pub returns : goal.returns
-unfolding bits_of
-returns c = simp (sym c.is_nan.ensures ∙ c.if-is_nan.false)
+returns c = c.f64_to_bits_with_nan.ensures ∙ same c.args.x

@@ -1,10 +1,9 @@
--- `float_series::beyond` meets its contract: beyond 0.5 in size is below -0.5 or above 0.5, and only NaN differs from itself. Assumes nothing.
+-- `float_series::beyond` meets its contract: beyond 0.5 in size is below -0.5 or above 0.5. Assumes nothing.
 use Rattle.std.proofs.Common.{◌≡◌, refl, true, false, ◌||◌, Float}
 use Rattle.std.specs.Float.{nan, inf, fin}
 use Rattle.std.specs.Float.Ieee.{of_bits, lt, neg, is_nan}
 use mathlib.Core.Bool.{or-false}
 use Rattle.float.specs.Float.{abs_of}
-use Rattle.float.specs.Order.{ne_self}
 use Rattle.float.specs.Literals.{half₆₄}
 use Rattle.float_series.specs.Answer.{beyond_half}
 use Rattle.float_series.proofs.beyond.Goals as goal
@@ -18,4 +17,4 @@ outside (fin true m e) = or-false _
 outside (fin false m e) = refl
 
 pub returns : goal.returns
-returns c = rw (ne_self c.args.x) (outside c.args.x)
+returns c = rw c.is_nan.ensures (outside c.args.x)

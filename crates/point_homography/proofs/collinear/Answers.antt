@@ -1,11 +1,7 @@
 -- `point_homography::collinear` meets its contract: its tests are the definition's. Assumes nothing.
-use Rattle.std.proofs.Common.{lt-ltb, le-ltb, sym, ◌∙◌, length}
+use Rattle.std.proofs.Common.{le-ltb, sym, ◌∙◌, length}
 use Rattle.point_homography.specs.Line.{along, collinear_of}
 use Rattle.point_homography.proofs.collinear.Goals as goal
-
-pub returns-then-points-lt6 : goal.returns-then-points-lt6
-unfolding collinear_of
-returns-then-points-lt6 c = simp (lt-ltb (length c.args.points.now) 6 c.if-points-lt6.true)
 
 pub returns-in_default : goal.returns-in_default
 unfolding along collinear_of
@@ -19,7 +15,7 @@ returns c =
     let s = c.args.points.now in
     simp (
       le-ltb (length s) 6 c.if-points-lt6.false,
-      rw c.point_at-p0.ensures at (sym c.first_distinct.ensures ∙ c.in-Point.is),
+      rw c.point_at-p0.ensures at (sym c.first_distinct.ensures ∙ c.in-Some.is),
       c.any_off_line.ensures,
       c.point_at-p0.ensures,
     )

@@ -1,28 +1,28 @@
--- `point_homography::first_distinct` meets its contract. Assumes nothing.
-use Rattle.std.proofs.Common.{rules, refl, sym, ◌∙◌}
-use Rattle.point_homography.specs.declared.Distinct.TheVariants.{Point, Nothing}
+-- `point_homography::first_distinct` meets its contract: the search among the chunks is that among the points. Assumes nothing.
+use Rattle.std.proofs.Common.{rules, tests, ◌≡◌, sym, ap, ◌∙◌, ◌-◌, arith, length, drop, length-drop}
+use lib.Seq.{take_all}
+use Rattle.std.specs.Slice.Iter.{chunks_exact_rest}
+use Rattle.std.proofs.lemmas.Iterator.{YieldsList-from_map}
+use Rattle.std.proofs.lemmas.Iterator.Consumers.{YieldsList-at}
+use Rattle.std.proofs.lemmas.Iterator.Adapters.{option_map_id}
+use Rattle.std.proofs.lemmas.List.{map-id}
+use Rattle.std.specs.List.{find}
+use Rattle.std.proofs.lemmas.Iterator.Search.{find_from_yields_List}
+use Rattle.camera_models.specs.declared.math.Pt2.{Pt2}
+use Rattle.point_normalise.specs.Points.{points_of}
+use Rattle.point_normalise.specs.Chunks.{points_by_chunks, find_is}
 use Rattle.point_homography.specs.Line.{far_from}
-use Rattle.point_normalise.specs.Walk.{find_here, find_next, find_end}
 use Rattle.point_homography.proofs.first_distinct.Goals as goal
-
-pub loop-i-init : goal.loop-i-init
-loop-i-init c = (search rules, refl)
-
-pub returns-then-distance : goal.returns-then-distance
-returns-then-distance c =
-    let a = c.args in
-    let p = c.point_at-p.ensures in
-    rw p (sym (find_here (far_from a.p0) Point Nothing a.points.now c.loop-i.i (search rules) (rw (c.distance.ensures, p) at c.if-distance.true)) ∙ c.loop-i.invariant.1)
-
-pub loop-i-preserved : goal.loop-i-preserved
-loop-i-preserved c =
-    let a = c.args in
-    let p = c.point_at-p.ensures in (
-      search rules,
-      sym (find_next (far_from a.p0) Point Nothing a.points.now c.loop-i.i (search rules) (rw (c.distance.ensures, p) at c.if-distance.false)) ∙ c.loop-i.invariant.1,
-    )
 
 pub returns : goal.returns
 returns c =
-    let a = c.args in
-    sym (find_end (far_from a.p0) Point Nothing a.points.now c.loop-i.i (search rules)) ∙ c.loop-i.invariant.1
+    let l = c.args.points.now in
+    let s = drop 2 l in
+    let test = far_from c.args.p0 in
+    let rest : chunks_exact_rest c.chunks_exact.result ≡ s = c.chunks_exact.ensures.rest ∙ take_all (length l - 2) s (omega (arith, length-drop 2 l)) in
+    let found =
+    find_from_yields_List test _ _ c.find.result c.find.ensures.ran
+    (YieldsList-from_map _ (λ (p : Pt2). p) (YieldsList-at c.map.ensures.source (points_by_chunks s rest c.chunks_exact.ensures.size)) c.map.ensures.closure (λ x r q k. search (rules, tests)))
+    (λ x b q k. search (rules, tests))
+    in
+    sym (option_map_id c.find.result) ∙ found ∙ ap (find test) (map-id (points_of s)) ∙ find_is test s

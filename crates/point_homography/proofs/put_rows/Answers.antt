@@ -1,28 +1,44 @@
 -- `point_homography::put_rows` meets its contract. Assumes nothing.
-use Rattle.std.proofs.Common.{rules, ◌≡◌, refl, sym, ap, ◌∙◌, ◌*◌, length}
+use Rattle.std.proofs.Common.{◌≡◌, sym, ap, ◌∙◌, ◌*◌, ◌<◌, inl, inr, arith, length, length-append}
 use lib.Seq.{sets, length-sets}
 use Rattle.point_normalise.specs.Points.{point_at}
-use Rattle.point_homography.specs.Rows.{pair_rows, moved_rows}
-use Rattle.point_normalise.specs.Walk.{pair_end}
-use Rattle.point_homography.specs.RowsLaws.{rows_next}
+use Rattle.point_normalise.specs.Walk.{no_pair}
+use Rattle.point_homography.specs.Rows.{pair_rows, moved_rows, design_rows}
+use Rattle.point_homography.specs.RowsLaws.{rows_chunk}
 use Rattle.point_homography.proofs.put_rows.Goals as goal
-
-pub loop-i-init : goal.loop-i-init
-loop-i-init c = (search rules, refl, refl)
 
 pub loop-i-preserved : goal.loop-i-preserved
 loop-i-preserved c =
     let b = c.args in
-    let i = c.loop-i.i in
-    let r = moved_rows b.ts b.td (point_at b.src.now i) (point_at b.dst.now i) in
-    let n : pair_rows c.moved-p.result c.moved-q.result ≡ r = rw (c.moved-p.ensures, c.point_at.ensures, c.moved-q.ensures, c.point_at-in-loop-i.ensures) in
-    let e = c.put_pair.ensures ∙ ap (sets c.loop-i.a (9 * i)) n in (
-      search rules,
-      ap length e ∙ length-sets c.loop-i.a (9 * i) r ∙ c.loop-i.invariant.1,
-      rw e (rows_next b.ts b.td b.src.now b.dst.now c.loop-i.a i (search rules) (search rules) ∙ c.loop-i.invariant.2),
+    let a = c.loop-i.a in
+    let n = c.loop-i.i-iterator.count in
+    let k = c.loop-i.invariant in
+    let h = c.in-Some.ensures.steps in
+    let p = c.in-Some.xy.now in
+    let q = c.in-Some.uv.now in
+    let s = c.next.new.self.iter.a.rest.now in
+    let d = c.next.new.self.iter.b.rest.now in
+    let two_p : length p ≡ 2 = h.0.0.1.1 ∙ k.0 in
+    let two_q : length q ≡ 2 = h.0.1.1.1 ∙ k.1 in
+    let r = moved_rows b.ts b.td (point_at p 0) (point_at q 0) in
+    let here : pair_rows c.moved-p.result c.moved-q.result ≡ r = rw (c.moved-p.ensures, c.point_at.ensures, c.moved-q.ensures, c.point_at-in-loop-i.ensures) in
+    let e : c.put_pair.new.a ≡ sets a (18 * n) r = c.put_pair.ensures ∙ rw (h.1) (ap (sets a (18 * n)) here) in (
+      h.0.0.0 ∙ k.0,
+      h.0.1.0 ∙ k.1,
+      omega (arith, k.2, h.2, ap length h.0.0.1.0, length-append p s, two_p),
+      omega (arith, k.3, ap length h.0.0.1.0, length-append p s, two_p, ap length h.0.1.1.0, length-append q d, two_q),
+      ap length e ∙ length-sets a (18 * n) r ∙ k.4,
+      rw (e, h.2)
+          (rows_chunk b.ts b.td a n p s q d two_p two_q
+          ∙ (λ i. sets a (18 * n) (design_rows b.ts b.td (sym h.0.0.1.0 i) (sym h.0.1.1.0 i)))
+          ∙ k.5),
     )
 
 pub returns : goal.returns
 returns c =
     let b = c.args in
-    ap (sets c.loop-i.a (9 * c.loop-i.i)) (sym (pair_end (moved_rows b.ts b.td) b.src.now b.dst.now c.loop-i.i (search rules))) ∙ c.loop-i.invariant.2
+    let it = c.loop-i.i-iterator in
+    let k = c.loop-i.invariant in
+    let short : length it.iter.a.rest.now < 2 =
+    elim c.in-None.ensures.steps.0 [ inl u ↦ omega (arith, u.1.1.0, k.0) | inr u ↦ omega (arith, u.1.1.0, k.1, k.3) ] in
+    ap (sets c.loop-i.a (18 * it.count)) (sym (no_pair (moved_rows b.ts b.td) it.iter.a.rest.now it.iter.b.rest.now (omega arith))) ∙ k.5

@@ -11,9 +11,6 @@ made c =
     let b = c.requires.0 in
     answer s.significand s.half c.nearest_root-q.result b.least b.most (omega arith) b.half_most c.nearest_root-q.ensures
 
-pub overflow_add-result : goal.overflow_add-result
-overflow_add-result c = omega (arith, (made c).0)
-
 pub float_from_bits-result : goal.float_from_bits-result
 float_from_bits-result c = no_nan _ (made c).0
 

@@ -19,7 +19,7 @@ floor_none l to = let e : to - to ≡ 0 = omega arith in rw e
 
 pub loop-i-init : goal.loop-i-init
 unfolding floor_of seeds_from
-loop-i-init c = (search rules, search rules, sym (floor_none c.args.list.now c.args.to))
+loop-i-init c = (search rules, sym (floor_none c.args.list.now c.args.to))
 
 pub loop-i-preserved : goal.loop-i-preserved
 loop-i-preserved c =
@@ -29,11 +29,11 @@ loop-i-preserved c =
     let seed = c.seed_at-seed.ensures in
     let penalty : c.counted_penalty.result ≡ counted_penalty (seed_at l (i - 1)).sensor =
     c.counted_penalty.ensures ∙ ap (λ (s : CandidateSeed). counted_penalty s.sensor) seed in
-    (search rules, search rules, c.min-floor.ensures ∙ rw (penalty, c.loop-i.invariant.2) (floor_more l i to (search rules) c.loop-i.invariant.1))
+    (search rules, c.min-floor.ensures ∙ rw (penalty, c.loop-i.invariant.1) (floor_more l i to (search rules) (search rules)))
 
 pub returns : goal.returns
 returns c =
     let l = c.args.list.now in
     let to = c.args.to in
     let e : c.loop-i.i ≡ c.args.from = search rules in
-    c.loop-i.invariant.2 ∙ ap (λ (k : ℕ). floor_of (seeds_between l k to)) e
+    c.loop-i.invariant.1 ∙ ap (λ (k : ℕ). floor_of (seeds_between l k to)) e

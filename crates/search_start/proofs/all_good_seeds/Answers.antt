@@ -1,36 +1,16 @@
 -- `search_start::all_good_seeds` meets its contract. Assumes nothing.
-use Rattle.std.proofs.Common.{◌≡◌, refl, sym, ap, ◌∙◌, true, false, suc, ◌/◌, div-mul-le_self, add-one, arith, rules, length, drop}
-use Rattle.common.specs.All.{every_here, every_next, every_end}
-use Rattle.seed_rules.specs.Layout.{seed_at, seeds_of}
-use Rattle.seed_rules.specs.LayoutLaws.{read_length, seeds_drop}
+use Rattle.std.proofs.Common.{rules, ap, ◌∙◌}
+use borrow.Author.Tests.{tests}
+use Rattle.std.proofs.lemmas.Iterator.Search.{all_from_yields_List}
+use Rattle.common.specs.Each.{every}
+use Rattle.seed_rules.specs.Layout.{all_seeds}
 use Rattle.search_start.specs.Start.{good_seed}
+use Rattle.search_start.proofs.Seeds.{list_all_every, seeds_yielded}
 use Rattle.search_start.proofs.all_good_seeds.Goals as goal
-
-pub loop-i-init : goal.loop-i-init
-loop-i-init c =
-    let h = div-mul-le_self (length c.args.decomposition.now) 6 in
-    (search rules, (omega arith, refl))
-
-pub returns-then-not-is_good_seed : goal.returns-then-not-is_good_seed
-returns-then-not-is_good_seed c =
-    let l = c.args.decomposition.now in
-    let p = good_seed c.args.max_abs_tilt in
-    let n = length l / 6 in
-    let i = c.loop-i.i in
-    let t : p (seed_at l i) ≡ false = sym (ap p c.seed_at.ensures) ∙ sym c.is_good_seed.ensures ∙ c.if-not-is_good_seed.true in
-    sym (every_here p (seeds_of n l) i (seed_at l i) (drop (suc i) (seeds_of n l)) (seeds_drop n i l (search rules)) t) ∙ c.loop-i.invariant.1.1
-
-pub loop-i-preserved : goal.loop-i-preserved
-loop-i-preserved c =
-    let l = c.args.decomposition.now in
-    let p = good_seed c.args.max_abs_tilt in
-    let n = length l / 6 in
-    let i = c.loop-i.i in
-    let t : p (seed_at l i) ≡ true = sym (ap p c.seed_at.ensures) ∙ sym c.is_good_seed.ensures ∙ c.if-not-is_good_seed.false in
-    (search rules, (search rules, rw (add-one i) (sym (every_next p (seeds_of n l) i (seed_at l i) (drop (suc i) (seeds_of n l)) (seeds_drop n i l (search rules)) t) ∙ c.loop-i.invariant.1.1)))
 
 pub returns : goal.returns
 returns c =
-    let l = c.args.decomposition.now in
-    let n = length l / 6 in
-    sym (every_end (good_seed c.args.max_abs_tilt) (seeds_of n l) c.loop-i.i (rw read_length (search rules))) ∙ c.loop-i.invariant.1.1
+    let p = good_seed c.args.max_abs_tilt in
+    all_from_yields_List p _ _ _ c.all.ensures.ran (seeds_yielded c.chunks_exact.ensures.size) (λ x b q k. search (rules, tests))
+    ∙ list_all_every p _
+    ∙ ap (λ l. every p (all_seeds l)) c.chunks_exact.ensures.rest

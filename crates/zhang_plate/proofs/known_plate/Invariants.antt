@@ -1,10 +1,7 @@
 -- `zhang_plate::known_plate`: the loop's invariant: the lowest unit of those that are left, from here on, is the lowest of all.
-use Rattle.std.proofs.Common.{◌≡◌, ◌-◌, ◌^◌, ◌≤◌}
+use Rattle.std.proofs.Common.{◌≡◌, ◌-◌, ◌^◌}
 use Rattle.zhang_plate.specs.Plate.{unit_from}
 use Rattle.zhang_plate.proofs.known_plate.Given as goal
 
 abbrev pub invariant-loop-power : goal.invariant-loop-power
-invariant-loop-power l = (l.power ≤ 9) × (l.unit ≡ 2 ^ l.power) × (unit_from (9 - l.power) l.unit l.k ≡ unit_from 9 1 l.k)
-
-abbrev pub decreases-loop-power : goal.decreases-loop-power
-decreases-loop-power l = 9 - l.power
+invariant-loop-power l = unit_from (9 - l.power) (2 ^ l.power) l.k ≡ unit_from 9 1 l.k

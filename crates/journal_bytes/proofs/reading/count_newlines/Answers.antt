@@ -1,10 +1,12 @@
--- `journal_bytes::reading::count_newlines` meets its contract: those counted and those left are all. Assumes nothing.
-use Rattle.std.proofs.Common.{arith, rules}
-use Rattle.journal_bytes.proofs.Bytes.{newline_here, newline_not, newlines_all}
+-- `journal_bytes::reading::count_newlines` meets its contract: as many bytes pass as the definition counts. Assumes nothing.
+use Rattle.std.proofs.Common.{◌≡◌, eqb, sym, ◌∙◌, rules}
+use Rattle.std.specs.List.{count_by}
+use Rattle.std.proofs.lemmas.List.Sums.{count_by-le-length}
+use Rattle.journal_bytes.proofs.Bytes.{newlines_counted}
 use Rattle.journal_bytes.proofs.reading.count_newlines.Goals as goal
 
-pub loop-i-preserved : goal.loop-i-preserved
-loop-i-preserved c = grind (arith, newline_here, newline_not)
-
 pub returns : goal.returns
-returns c = let l = c.loop-i in (newlines_all c.args.s.now l.i l.n (search rules) l.invariant.2, search rules)
+returns c =
+    let s = c.args.s.now in
+    let e : c.count.result ≡ count_by (λ b. eqb b 10) s = search rules in
+    (e ∙ sym (newlines_counted s), rw e (count_by-le-length (λ b. eqb b 10) s))

@@ -1,5 +1,5 @@
 -- `journal_bytes::reading::number_at` meets its contract: the number so far is that of the bytes passed. Assumes nothing.
-use Rattle.std.proofs.Common.{ℕ, ◌≡◌, refl, ap, ◌∙◌, arith, drop, rules}
+use Rattle.std.proofs.Common.{ℕ, ◌≡◌, refl, ap, ◌∙◌, arith, rules}
 use Rattle.journal_line.specs.Reading.{number_at}
 use Rattle.journal_line.proofs.DigitLaws.{digit_below}
 use Rattle.journal_bytes.proofs.Bytes.{number_room, number_turn}
@@ -7,16 +7,16 @@ use Rattle.journal_bytes.proofs.reading.number_at.Goals as goal
 
 pub loop-i-init : goal.loop-i-init
 unfolding number_at
-loop-i-init c = (search rules, refl)
+loop-i-init c = refl
 
 pub overflow_mul-n : goal.overflow_mul-n
-overflow_mul-n c = let a = c.args in let l = c.loop-i in record { fits = omega (arith, number_room a.base l.i a.w (drop a.at a.s.now) l.n 0 (search rules) (search rules) (search rules) l.invariant.1 (search rules)) }
+overflow_mul-n c = let a = c.args in let l = c.loop-i in record { fits = omega (arith, number_room a.base l.i a.w a.s.now l.n 0 (search rules) (search rules) (search rules) l.invariant (search rules)) }
 
 pub overflow_add-n : goal.overflow_add-n
-overflow_add-n c = let a = c.args in let l = c.loop-i in record { fits = number_room a.base l.i a.w (drop a.at a.s.now) l.n c.digit_of.result (search rules) (search rules) (search rules) l.invariant.1 (rw c.digit_of.ensures (digit_below c.byte_at.result)) }
+overflow_add-n c = let a = c.args in let l = c.loop-i in record { fits = number_room a.base l.i a.w a.s.now l.n c.digit_of.result (search rules) (search rules) (search rules) l.invariant (rw c.digit_of.ensures (digit_below c.byte_at.result)) }
 
 pub loop-i-preserved : goal.loop-i-preserved
-loop-i-preserved c = let a = c.args in let l = c.loop-i in (search rules, number_turn a.base l.i a.at a.s.now l.n c.digit_of.result c.byte_at.result l.invariant.1 c.byte_at.ensures c.digit_of.ensures)
+loop-i-preserved c = let a = c.args in let l = c.loop-i in number_turn a.base l.i a.s.now l.n c.digit_of.result c.byte_at.result l.invariant c.byte_at.ensures c.digit_of.ensures
 
 pub returns : goal.returns
-returns c = let a = c.args in let l = c.loop-i in let e : l.i ≡ a.w = search rules in l.invariant.1 ∙ ap (λ (k : ℕ). number_at a.base k (drop a.at a.s.now)) e
+returns c = let a = c.args in let l = c.loop-i in let e : l.i ≡ a.w = search rules in l.invariant ∙ ap (λ (k : ℕ). number_at a.base k a.s.now) e

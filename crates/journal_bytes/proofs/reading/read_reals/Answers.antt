@@ -1,17 +1,18 @@
 -- `journal_bytes::reading::read_reals` meets its contract: the first i are read, and the rest, from here, is the whole. Assumes nothing.
-use Rattle.std.proofs.Common.{refl, add-zero, arith, length, length-set, rules}
+use Rattle.journal_line.specs.Reading.{real_at}
+use Rattle.std.proofs.Common.{ap, ◌∙◌, length, rules}
 use native.Mathlib.Nat.{sub-zero}
 use Rattle.journal_bytes.proofs.Bytes.{reals_next, reals_all}
 use Rattle.journal_bytes.proofs.reading.read_reals.Goals as goal
 
-pub loop-i-init : goal.loop-i-init
-loop-i-init c = (search rules, refl, simp (sub-zero, add-zero))
+pub loop-x-init : goal.loop-x-init
+loop-x-init c = simp sub-zero
 
-pub loop-i-preserved : goal.loop-i-preserved
-loop-i-preserved c =
-    let l = c.loop-i in
-    let a = c.args in
-    (simp length-set (omega arith), simp length-set l.invariant.1, reals_next l.into _ a.s.now a.at l.i (length a.into.now) c.real_at.result (search rules) l.invariant.1 c.real_at.ensures l.invariant.2)
+pub loop-x-preserved : goal.loop-x-preserved
+loop-x-preserved c =
+    let l = c.loop-x in
+    let e = c.real_at.ensures ∙ ap real_at c.after.ensures in
+    rw c.after-rest.ensures (reals_next l.into _ l.rest.now l.x-index (length c.args.into.now) c.real_at.result (search rules) l.auto.into e l.invariant)
 
 pub returns : goal.returns
-returns c = let l = c.loop-i in reals_all l.into _ _ 0 l.i (length c.args.into.now) (search rules) l.invariant.1 l.invariant.2
+returns c = let l = c.loop-x in reals_all l.into _ _ 0 l.x-index (length c.args.into.now) (search rules) l.auto.into l.invariant

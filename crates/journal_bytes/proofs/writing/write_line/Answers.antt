@@ -46,7 +46,7 @@ returns c =
     let w = c.is_writable in
     let a = c.args in
     let s = line_stored a.line a.out.now _ _ _ (test a.line a.out.now w.result false w.ensures c.if-out-is_writable.false)
-    c.put_head-at.result c.put_outcome.result c.six_numbers-numbers.result
-    c.put_head-at.ensures.0 c.six_numbers-numbers.ensures c.put_head-at.ensures.1 c.put_reals.ensures
+    c.put_head-at.result c.put_outcome.result c.into-numbers.result
+    c.put_head-at.ensures.0 c.into-numbers.ensures c.put_head-at.ensures.1 c.put_reals.ensures
     c.put_outcome.ensures.0 c.put_outcome.ensures.1 in
     record { reply = s.0; written = s.1; fits = line_fits a.line _ c.well_formed.0 }

@@ -1,6 +1,5 @@
 -- `journal_replay::walk::walk` meets its contract. Assumes nothing.
 use Rattle.std.proofs.Common.{refl, sym, ◌∙◌, arith}
-use borrow.Author.Tests.{not-true, not-false}
 use Rattle.journal_replay.specs.declared.Stop.TheVariants.{AllTaken, NotOfForm, NotTheRun}
 use Rattle.journal_replay.specs.WalkLaws.{walk_starts, walk_ends, walk_refused, walk_stops, walk_turns, line_within, list_stays, walk_given}
 use Rattle.journal_replay.proofs.walk.walk.Goals as goal
@@ -8,51 +7,35 @@ use Rattle.journal_replay.proofs.walk.walk.Goals as goal
 pub loop-line-init : goal.loop-line-init
 loop-line-init c = (walk_starts _ _ _, (omega arith, (omega arith, (refl, omega arith))))
 
-pub shape_of-list-then-not-taken : goal.shape_of-list-then-not-taken
-shape_of-list-then-not-taken c = c.take_line-taken.auto.list ∙ c.loop-line.invariant.1.1.1.0
-
-pub returns-then-not-taken : goal.returns-then-not-taken
-returns-then-not-taken c =
-    let l = c.loop-line in
-    let h = sym c.read_line-read.ensures ∙ c.in-Got.is in
-    let out = sym c.take_line-taken.ensures.ok_value.0 ∙ not-true _ c.if-not-taken.true in
-    let g = walk_given _ l.run l.list l.lines l.at NotTheRun (sym l.invariant.0 ∙ walk_stops l.run l.list l.lines _ _ l.at _ _ h out) in
-    record { walked = g.0; written = c.take_line-taken.ensures.list_after ∙ list_stays l.run l.list _ out ∙ g.1; within = (l.invariant.1.0, l.invariant.1.1.0) }
-
-pub overflow_add-lines : goal.overflow_add-lines
-overflow_add-lines c =
-    let l = c.loop-line in
-    let w = line_within l.run l.list l.lines 0 _ l.at _ _ (sym c.read_line-read.ensures ∙ c.in-Got.is) in
-    omega (arith, l.invariant.1.0, w.0, w.1, l.invariant.1.1.1.1)
-
 pub loop-line-smaller : goal.loop-line-smaller
 loop-line-smaller c =
     let l = c.loop-line in
-    let w = line_within l.run l.list l.lines 0 _ l.at _ _ (sym c.read_line-read.ensures ∙ c.in-Got.is) in
+    let w = line_within l.run l.list l.lines 0 _ l.at _ _ (sym c.read_line.ensures ∙ c.in-Got.is) in
     omega (arith, w.0, w.1)
 
 pub loop-line-preserved : goal.loop-line-preserved
 loop-line-preserved c =
     let l = c.loop-line in
-    let h = sym c.read_line-read.ensures ∙ c.in-Got.is in
+    let h = sym c.read_line.ensures ∙ c.in-Got.is in
     let w = line_within l.run l.list l.lines 0 _ l.at _ _ h in
-    let ok = sym c.take_line-taken.ensures.ok_value.0 ∙ not-false _ c.if-not-taken.false in
-    (walk_turns l.run _ l.list _ l.lines _ l.at _ _ h ok c.take_line-taken.ensures.ok_value.1 c.take_line-taken.ensures.list_after (omega (arith, l.invariant.1.0, w.0, w.1)) ∙ l.invariant.0, (omega (arith, l.invariant.1.0, w.0), (w.1, (c.take_line-taken.auto.list ∙ l.invariant.1.1.1.0, l.invariant.1.1.1.1))))
+    let ok = sym c.take_line.ensures.value ∙ c.in-Some.is in
+    (walk_turns l.run _ l.list _ l.lines _ l.at _ _ h ok c.take_line.ensures.list_after (omega (arith, l.invariant.1.0, w.0, w.1)) ∙ l.invariant.0, (omega (arith, l.invariant.1.0, w.0), (w.1, (c.take_line.auto.list ∙ l.invariant.1.1.1.0, l.invariant.1.1.1.1))))
 
-pub shape_of-list-in-Refused : goal.shape_of-list-in-Refused
-shape_of-list-in-Refused c = c.loop-line.invariant.1.1.1.0
-
-pub returns-in-Refused : goal.returns-in-Refused
-returns-in-Refused c =
+pub returns-in_default : goal.returns-in_default
+returns-in_default c =
     let l = c.loop-line in
-    let g = walk_given _ l.run l.list l.lines l.at NotOfForm (sym l.invariant.0 ∙ walk_refused l.run l.list l.lines _ _ l.at _ _ (sym c.read_line-read.ensures ∙ c.in-Refused.is)) in
-    record { walked = g.0; written = g.1; within = (l.invariant.1.0, l.invariant.1.1.0) }
+    let out = sym c.take_line.ensures.value ∙ c.in_default.is in
+    let g = walk_given _ l.run l.list l.lines l.at NotTheRun (sym l.invariant.0 ∙ walk_stops l.run l.list l.lines _ _ l.at _ _ (sym c.read_line.ensures ∙ c.in-Got.is) out) in
+    record { walked = g.0; written = c.take_line.ensures.list_after ∙ list_stays l.run l.list _ out ∙ g.1; within = (l.invariant.1.0, l.invariant.1.1.0) }
 
-pub shape_of-list-in-End : goal.shape_of-list-in-End
-shape_of-list-in-End c = c.loop-line.invariant.1.1.1.0
+pub returns-in-NotOfForm : goal.returns-in-NotOfForm
+returns-in-NotOfForm c =
+    let l = c.loop-line in
+    let g = walk_given _ l.run l.list l.lines l.at NotOfForm (sym l.invariant.0 ∙ walk_refused l.run l.list l.lines _ _ l.at _ (sym c.read_line.ensures ∙ c.in-NotOfForm.is)) in
+    record { walked = g.0; written = g.1; within = (l.invariant.1.0, l.invariant.1.1.0) }
 
 pub returns-in-End : goal.returns-in-End
 returns-in-End c =
     let l = c.loop-line in
-    let g = walk_given _ l.run l.list l.lines l.at AllTaken (sym l.invariant.0 ∙ walk_ends l.run l.list l.lines _ _ l.at (sym c.read_line-read.ensures ∙ c.in-End.is)) in
+    let g = walk_given _ l.run l.list l.lines l.at AllTaken (sym l.invariant.0 ∙ walk_ends l.run l.list l.lines _ _ l.at (sym c.read_line.ensures ∙ c.in-End.is)) in
     record { walked = g.0; written = g.1; within = (l.invariant.1.0, l.invariant.1.1.0) }

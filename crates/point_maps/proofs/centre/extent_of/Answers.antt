@@ -1,15 +1,17 @@
--- `point_maps::centre::extent_of` meets its contract. Assumes nothing.
-use Rattle.std.proofs.Common.{rules, refl, sym, ◌∙◌}
+-- `point_maps::centre::extent_of` meets its contract: the fold over the chunks is that over the points. Assumes nothing.
+use Rattle.std.proofs.Common.{rules, tests, ◌∙◌}
+use Rattle.std.specs.Float.Ieee.{neg}
+use Rattle.std.proofs.lemmas.Iterator.Consumers.{fold_from_yields_List}
+use Rattle.float.specs.Literals.{infinity}
+use Rattle.point_normalise.specs.Chunks.{points_by_chunks, fold_is}
 use Rattle.point_maps.specs.Centre.{widen, extent_of}
-use Rattle.point_normalise.specs.Walk.{fold_next, fold_end}
+use Rattle.point_maps.specs.declared.centre.Extent.{Extent}
 use Rattle.point_maps.proofs.centre.extent_of.Goals as goal
 
-pub loop-i-init : goal.loop-i-init
-unfolding extent_of
-loop-i-init c = (search rules, refl)
-
-pub loop-i-preserved : goal.loop-i-preserved
-loop-i-preserved c = (search rules, rw (c.widened-e.ensures, c.point_at.ensures) (sym (fold_next widen c.loop-i.e c.args.pixels.now c.loop-i.i (search rules)) ∙ c.loop-i.invariant.1))
-
 pub returns : goal.returns
-returns c = sym (fold_end widen c.loop-i.e c.args.pixels.now c.loop-i.i (search rules)) ∙ c.loop-i.invariant.1
+unfolding extent_of
+returns c =
+    let s = c.args.pixels.now in
+    let e : Extent = record { min_x = infinity; min_y = infinity; max_x = neg infinity; max_y = neg infinity } in
+    let each = points_by_chunks s c.chunks_exact.ensures.rest c.chunks_exact.ensures.size in
+    fold_from_yields_List _ widen e c.fold.result c.fold.ensures.ran each (λ a x b q k. search (rules, tests)) ∙ fold_is widen e s

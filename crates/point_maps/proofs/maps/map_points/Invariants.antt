@@ -1,11 +1,15 @@
--- `point_maps::maps::map_points`: the loop's invariant: the destination is `front` of the numbers passed, which are whole points.
-use Rattle.std.proofs.Common.{◌≡◌, ◌-◌, ◌%◌, ◌≤◌, length}
-use Rattle.point_maps.specs.Maps.{mapped_point}
-use Rattle.point_maps.proofs.Written.{front}
+-- `point_maps::maps::map_points`: the loop's invariant: what is yet to be written, written from here, gives what the whole gives.
+use Rattle.std.proofs.Common.{◌≡◌, ◌+◌, ◌*◌, length}
+use lib.Seq.{sets}
+use Rattle.camera_models.specs.declared.math.Pt2.{Pt2}
+use Rattle.point_maps.specs.Maps.{map_points}
 use Rattle.point_maps.proofs.maps.map_points.Given as goal
 
 abbrev pub invariant-loop-i : goal.invariant-loop-i
-invariant-loop-i l = (l.i % 2 ≡ 0) × ((l.i ≤ length l.points) × ((length l.to ≡ length l.initial.to) × (l.to ≡ front (mapped_point l.k l.lens l.h_inv) l.points l.i l.initial.to)))
-
-abbrev pub decreases-loop-i : goal.decreases-loop-i
-decreases-loop-i l = length l.points - l.i
+invariant-loop-i g l =
+    let left = l.i-iterator.iter.rest.now in
+    let at = 2 * l.i-iterator.count in
+    (l.i-iterator.iter.size ≡ 2)
+    × (at + length left ≡ length l.points)
+    × (length l.to ≡ length l.initial.to)
+    × ((f : Pt2 → Pt2) → ((p q : Pt2) → goal.F-post g l.map p q → q ≡ f p) → sets l.to at (map_points f left) ≡ sets l.initial.to 0 (map_points f l.points))

@@ -1,22 +1,16 @@
--- `point_normalise::linalg::centroid` meets its contract. Assumes nothing.
-use Rattle.std.proofs.Common.{rules, refl, sym, ◌∙◌}
+-- `point_normalise::linalg::centroid` meets its contract: the fold over the chunks is that over the points. Assumes nothing.
+use Rattle.std.proofs.Common.{rules, tests, ◌∙◌}
+use Rattle.std.proofs.lemmas.Iterator.Consumers.{fold_from_yields_List}
+use Rattle.float.specs.Literals.{plus_zero}
+use Rattle.camera_models.specs.declared.math.Pt2.{Pt2}
 use Rattle.point_normalise.specs.Linalg.{add_point, centroid_of}
-use Rattle.point_normalise.specs.Walk.{fold_next, fold_end, count_fits}
+use Rattle.point_normalise.specs.Chunks.{points_by_chunks, fold_is}
 use Rattle.point_normalise.proofs.linalg.centroid.Goals as goal
-
-pub loop-i-init : goal.loop-i-init
-loop-i-init c = (search rules, refl)
-
-pub loop-i-preserved : goal.loop-i-preserved
-loop-i-preserved c = (
-  search rules,
-  rw c.point_at-p.ensures
-      (sym (fold_next add_point (record { x = c.loop-i.cx; y = c.loop-i.cy }) c.args.points.now c.loop-i.i (search rules)) ∙ c.loop-i.invariant.1),
-)
-
-pub int_to_float-n : goal.int_to_float-n
-int_to_float-n c = count_fits c.args.points.now (search rules)
 
 pub returns : goal.returns
 unfolding centroid_of
-returns c = rw (sym c.loop-i.invariant.1 ∙ fold_end add_point (record { x = c.loop-i.cx; y = c.loop-i.cy }) c.args.points.now c.loop-i.i (search rules))
+returns c =
+    let s = c.args.points.now in
+    let a : Pt2 = record { x = plus_zero; y = plus_zero } in
+    let each = points_by_chunks s c.chunks_exact.ensures.rest c.chunks_exact.ensures.size in
+    rw (fold_from_yields_List _ add_point a c.fold-sum.result c.fold-sum.ensures.ran each (λ a x b q k. search (rules, tests)) ∙ fold_is add_point a s, c.nearest_usize_to_f64-n.ensures)

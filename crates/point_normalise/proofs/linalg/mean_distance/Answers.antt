@@ -1,22 +1,15 @@
--- `point_normalise::linalg::mean_distance` meets its contract. Assumes nothing.
-use Rattle.std.proofs.Common.{rules, refl, sym, ◌∙◌}
+-- `point_normalise::linalg::mean_distance` meets its contract: the fold over the chunks is that over the points. Assumes nothing.
+use Rattle.std.proofs.Common.{rules, tests, ◌∙◌}
+use Rattle.std.proofs.lemmas.Iterator.Consumers.{fold_from_yields_List}
+use Rattle.float.specs.Literals.{plus_zero}
 use Rattle.point_normalise.specs.Linalg.{add_distance, mean_distance}
-use Rattle.point_normalise.specs.Walk.{fold_next, fold_end, count_fits}
+use Rattle.point_normalise.specs.Chunks.{points_by_chunks, fold_is}
 use Rattle.point_normalise.proofs.linalg.mean_distance.Goals as goal
-
-pub loop-i-init : goal.loop-i-init
-loop-i-init c = (search rules, refl)
-
-pub loop-i-preserved : goal.loop-i-preserved
-loop-i-preserved c =
-    let a = c.args in
-    (search rules, rw (c.distance-mean_dist.ensures, c.point_at.ensures) (sym (fold_next (add_distance a.c) c.loop-i.mean_dist a.points.now c.loop-i.i (search rules)) ∙ c.loop-i.invariant.1))
-
-pub int_to_float-n : goal.int_to_float-n
-int_to_float-n c = count_fits c.args.points.now (search rules)
 
 pub returns : goal.returns
 unfolding mean_distance
 returns c =
-    let a = c.args in
-    rw (sym c.loop-i.invariant.1 ∙ fold_end (add_distance a.c) c.loop-i.mean_dist a.points.now c.loop-i.i (search rules))
+    let s = c.args.points.now in
+    let f = add_distance c.args.c in
+    let each = points_by_chunks s c.chunks_exact.ensures.rest c.chunks_exact.ensures.size in
+    rw (fold_from_yields_List _ f plus_zero c.fold-sum.result c.fold-sum.ensures.ran each (λ a x b q k. search (rules, tests)) ∙ fold_is f plus_zero s, c.nearest_usize_to_f64-n.ensures)

@@ -1,34 +1,39 @@
 -- `point_normalise::linalg::write_moved` meets its contract. Assumes nothing.
-use Rattle.std.proofs.Common.{rules, ◌≡◌, refl, sym, ap, ◌∙◌, ◌+◌, ◌*◌, ◌/◌, arith, length, drop, length-set, lt-length-set}
+use Rattle.std.proofs.Common.{List, ◌≡◌, refl, sym, ap, ◌∙◌, ◌+◌, ◌*◌, ◌/◌, arith, length, length-set, length-append, Float}
 use lib.Seq.{sets}
 use Rattle.point_normalise.specs.Points.{point_at}
 use Rattle.point_normalise.specs.Linalg.{move_by, move_xy, move_points}
-use Rattle.point_normalise.specs.Walk.{each_next, each_end, each_length, sets_two, sets_front}
+use Rattle.point_normalise.specs.Walk.{each_chunk, each_none, each_length, sets_two, sets_front}
 use Rattle.point_normalise.proofs.linalg.write_moved.Goals as goal
-
-pub loop-i-init : goal.loop-i-init
-loop-i-init c = (search rules, refl, refl)
-
-pub bounds-dst-i-in-loop-i : goal.bounds-dst-i-in-loop-i
-bounds-dst-i-in-loop-i c = lt-length-set c.loop-i.dst c.loop-i.i c.moved-p.result.x (search rules)
 
 pub loop-i-preserved : goal.loop-i-preserved
 loop-i-preserved c =
-    let a = c.args in
-    let i = c.loop-i.i in (
-      search rules,
-      simp length-set c.loop-i.invariant.1,
-      rw (c.moved-p.ensures, c.point_at.ensures)
-          (sets_two c.loop-i.dst i (move_by a.t (point_at a.points.now i)).x (move_by a.t (point_at a.points.now i)).y (move_points a.t (drop (i + 2) a.points.now))
-          ∙ ap (sets c.loop-i.dst i) (sym (each_next (move_xy a.t) a.points.now i (search rules)))
-          ∙ c.loop-i.invariant.2),
+    let t = c.args.t in
+    let v = c.in-Some.xy.now in
+    let left = c.next.new.self.iter.rest.now in
+    let at = 2 * c.loop-i.i-iterator.count in
+    let h = c.in-Some.ensures.steps in
+    let k = c.loop-i.invariant in
+    let two : length v ≡ 2 = h.0.1.1 ∙ k.0 in
+    let e : 2 * (c.loop-i.i-iterator.count + 1) ≡ at + 2 = omega arith in
+    let p = move_by t (point_at v 0) in (
+      h.0.0 ∙ k.0,
+      omega (arith, k.1, h.2, ap length h.0.1.0, length-append v left, two),
+      simp length-set k.2,
+      rw (c.moved-p.ensures, c.point_at.ensures, h.1, h.2, e)
+          (sets_two c.loop-i.dst at p.x p.y (move_points t left)
+          ∙ ap (sets c.loop-i.dst at) (sym (each_chunk (move_xy t) v left two))
+          ∙ ap (λ (s : List Float). sets c.loop-i.dst at (move_points t s)) (sym h.0.1.0)
+          ∙ k.3),
     )
 
 pub returns : goal.returns
 returns c =
     let a = c.args in
+    let it = c.loop-i.i-iterator in
+    let k = c.loop-i.invariant in
     let w = move_points a.t a.points.now in
     let n : length w ≡ length a.points.now / 2 * 2 = each_length (move_xy a.t) 2 (λ p. refl) a.points.now in
-    ap (sets c.loop-i.dst c.loop-i.i) (sym (each_end (move_xy a.t) a.points.now c.loop-i.i (search rules)))
-    ∙ c.loop-i.invariant.2
+    ap (sets c.loop-i.dst (2 * it.count)) (sym (each_none (move_xy a.t) it.iter.rest.now (omega (arith, k.0, c.in-None.ensures.steps.0.1.0))))
+    ∙ k.3
     ∙ sets_front a.dst.now w (omega arith)

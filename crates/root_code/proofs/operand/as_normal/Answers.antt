@@ -17,11 +17,6 @@ sum_is c =
     let m = c.args.b % 2 ^ 52 + 2 ^ 52 in
     ap (λ (x : ℕ). m + x) c.if_odd.ensures ∙ twice m ((c.args.b / 2 ^ 52 + 1073) % 2) (omega arith)
 
-pub overflow_add-result : goal.overflow_add-result
-overflow_add-result c =
-    let b = c.args.b in
-    omega (arith, sum_is c, shift_hi (b % 2 ^ 52 + 2 ^ 52) (b / 2 ^ 52 + 1073) (omega arith) (omega arith))
-
 pub returns : goal.returns
 returns c =
     let b = c.args.b in

@@ -3,7 +3,7 @@ use Rattle.std.proofs.Common.{◌≡◌, true, T, sym, ap, ◌∙◌, subst, ari
 use Rattle.std.specs.Float.{binary64}
 use Rattle.std.specs.Float.Ieee.{fits, of_bits, to_bits}
 use lib.Ieee.Bits.{of_bits-to_bits, to_bits-lt}
-use Rattle.float.specs.Nan.{not_nan}
+use Rattle.float.specs.Order.{ne_self}
 use Rattle.root.specs.Root.{root}
 use Rattle.root_code.proofs.Patterns.{at_nan, at_zero, at_minus_zero, root_top, root_neg}
 use Rattle.root_code.proofs.operand.decompose.Goals as goal
@@ -15,11 +15,8 @@ held x e = subst T (sym e) tt
 back : (x : Float) → fits binary64 x ≡ true → of_bits binary64 (to_bits binary64 x) ≡ x
 back x e = of_bits-to_bits binary64 x (held x e)
 
-pub returns-then-x : goal.returns-then-x
-returns-then-x c = c.no_root.ensures ∙ sym (at_nan c.args.x c.if-x.true)
-
-pub float_to_bits-b : goal.float_to_bits-b
-float_to_bits-b c = not_nan c.args.x c.if-x.false
+pub returns-then-is_nan : goal.returns-then-is_nan
+returns-then-is_nan c = c.no_root.ensures ∙ sym (at_nan c.args.x (ne_self c.args.x ∙ sym c.is_nan.ensures.value ∙ c.if-is_nan.true))
 
 pub returns-then-b-eq0 : goal.returns-then-b-eq0
 returns-then-b-eq0 c = at_zero c.args.x (back c.args.x c.well_formed.0.1) c.if-b-eq0.true

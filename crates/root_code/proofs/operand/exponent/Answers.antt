@@ -12,9 +12,6 @@ difference c = ap (λ (z : ℤ). z -ℤ pos 1127) (to_z_pos w64 {n = c.args.plac
 fit : (c : goal.Start) → SFits w64 (to_z w64 c.args.place -ℤ pos 1127)
 fit c = rw (difference c) (record { sfits = mag_difference c.args.place 1127 (2 ^ 63) (omega arith) (omega arith) })
 
-pub overflow_sub-result : goal.overflow_sub-result
-overflow_sub-result c = fit c
-
 pub returns : goal.returns
 returns c =
     ap shifted (to_z-of_z (fit c) ∙ difference c) ∙ shifted_difference c.args.place 1127 (omega arith) ∙ rest c.args.place

@@ -7,9 +7,6 @@ use Rattle.root_code.proofs.Exponents.{read}
 use Rattle.root_code.proofs.Patterns.{root_mid}
 use Rattle.root_code.proofs.operand.normal.Goals as goal
 
-pub with_even_exponent-requires : goal.with_even_exponent-requires
-with_even_exponent-requires c = rw (read c.exponent.result _ c.exponent.type_inv c.exponent.ensures) (omega arith, omega arith, omega arith, omega arith)
-
 pub returns : goal.returns
 returns c =
     let b = c.args.b in

@@ -15,15 +15,6 @@ digit c = lz_in c.args.b c.requires.0 c.requires.1
 pub overflow_sub-z : goal.overflow_sub-z
 overflow_sub-z c = omega (arith, digit c)
 
-pub overflow_cast-z : goal.overflow_cast-z
-overflow_cast-z c = omega (arith, digit c)
-
-pub overflow_shl-b : goal.overflow_shl-b
-overflow_shl-b c = omega (arith, digit c)
-
-pub overflow_sub-z-2 : goal.overflow_sub-z-2
-overflow_sub-z-2 c = omega (arith, digit c)
-
 pub with_even_exponent-requires : goal.with_even_exponent-requires
 with_even_exponent-requires c =
     let b = c.args.b in

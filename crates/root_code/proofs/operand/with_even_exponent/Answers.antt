@@ -4,9 +4,6 @@ use Rattle.root_code.specs.Exponent.{shifted}
 use Rattle.root_code.proofs.Exponents.{shift_exact, shift_lo, shift_hi, halved}
 use Rattle.root_code.proofs.operand.with_even_exponent.Goals as goal
 
-pub natural_exponent-g-requires : goal.natural_exponent-g-requires
-natural_exponent-g-requires c = rw (to_z-of_z c.ranges.e) (omega arith, omega arith)
-
 pub returns : goal.returns
 returns c =
     let m = c.args.m in

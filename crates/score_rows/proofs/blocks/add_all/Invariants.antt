@@ -1,10 +1,7 @@
--- `score_rows::blocks::add_all`: the loop's invariant: the sum and count have the first j rows of the block. The measure is what is left of the block.
-use Rattle.std.proofs.Common.{◌≡◌, ◌-◌, ◌≤◌}
+-- `score_rows::blocks::add_all`: the loop's invariant: the sum and count have the first j rows of the block.
+use Rattle.std.proofs.Common.{◌≡◌}
 use Rattle.score_rows.specs.Steps.{add_all}
 use Rattle.score_rows.proofs.blocks.add_all.Given as goal
 
 abbrev pub invariant-loop-j : goal.invariant-loop-j
-invariant-loop-j l = (l.j ≤ l.n) × (l.sum ≡ add_all l.initial.sum l.bits l.j)
-
-abbrev pub decreases-loop-j : goal.decreases-loop-j
-decreases-loop-j l = l.n - l.j
+invariant-loop-j l = l.sum ≡ add_all l.initial.sum l.bits l.j

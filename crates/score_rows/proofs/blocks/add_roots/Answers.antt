@@ -4,12 +4,9 @@ use Rattle.score_rows.proofs.Steps.{all_bits}
 use Rattle.score_rows.proofs.blocks.add_roots.Goals as goal
 
 pub add_all-requires : goal.add_all-requires
-add_all-requires c = (omega arith, λ j h. c.requires.2 j h)
+add_all-requires c = (omega arith, λ j h. c.requires j h)
 
-pub returns-then-in_front-n : goal.returns-then-in_front-n
-returns-then-in_front-n c =
+pub returns-then-in_front-block : goal.returns-then-in_front-block
+returns-then-in_front-block c =
     let a = c.args in
-    c.add_all.ensures ∙ all_bits a.total a.flags.now a.bits.now a.i a.n (sym c.in_front.ensures ∙ c.if-in_front-n.true)
-
-pub add_some-requires : goal.add_some-requires
-add_some-requires c = (omega arith, omega arith, λ j h. c.requires.2 j h)
+    c.add_all.ensures ∙ all_bits a.total a.block.rows.flags.now a.bits.now a.block.i a.block.n (sym c.in_front.ensures ∙ c.if-in_front-block.true)

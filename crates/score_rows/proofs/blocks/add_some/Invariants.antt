@@ -1,10 +1,7 @@
--- `score_rows::blocks::add_some`: the loop's invariant: the sum and count have the first j rows of the block. The measure is what is left of the block.
-use Rattle.std.proofs.Common.{◌≡◌, ◌-◌, ◌≤◌}
+-- `score_rows::blocks::add_some`: the loop's invariant: the sum and count have the first j rows of the block.
+use Rattle.std.proofs.Common.{◌≡◌}
 use Rattle.score_rows.specs.Steps.{add_bits}
 use Rattle.score_rows.proofs.blocks.add_some.Given as goal
 
 abbrev pub invariant-loop-j : goal.invariant-loop-j
-invariant-loop-j l = (l.j ≤ l.n) × (l.sum ≡ add_bits l.initial.sum l.flags l.bits l.i l.j)
-
-abbrev pub decreases-loop-j : goal.decreases-loop-j
-decreases-loop-j l = l.n - l.j
+invariant-loop-j l = l.sum ≡ add_bits l.initial.sum l.block.rows.flags.now l.bits l.block.i l.j

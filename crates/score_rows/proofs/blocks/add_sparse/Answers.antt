@@ -6,4 +6,5 @@ use Rattle.score_rows.proofs.blocks.add_sparse.Goals as goal
 pub returns-then-in_front-eq0 : goal.returns-then-in_front-eq0
 returns-then-in_front-eq0 c =
     let a = c.args in
-    none_counted a.total a.camera a.h a.rows.now a.flags.now a.i a.n (sym c.in_front.ensures ∙ c.if-in_front-eq0.true)
+    let b = a.block in
+    none_counted a.total a.by.camera a.by.h b.rows.numbers.now b.rows.flags.now b.i b.n (sym c.in_front.ensures ∙ c.if-in_front-eq0.true)

@@ -1,5 +1,5 @@
 -- `score_rows::blocks::in_front` meets its contract. Assumes nothing.
-use Rattle.std.proofs.Common.{◌≡◌, ℕ, ◌+◌, ◌^◌, ◌<◌, ◌≤◌, get_or, refl, ap, ◌∙◌, add-one, arith}
+use Rattle.std.proofs.Common.{ℕ, ◌+◌, ◌^◌, ◌<◌, ◌≤◌, get_or, refl, add-one, arith}
 use Rattle.score_rows.specs.Steps.{in_front}
 use Rattle.score_rows.proofs.Steps.{one_at_most, front_at_most}
 use Rattle.score_rows.proofs.blocks.in_front.Goals as goal
@@ -9,25 +9,18 @@ few count one j h k l = omega arith
 
 pub loop-j-init : goal.loop-j-init
 unfolding in_front
-loop-j-init c = (omega arith, refl)
+loop-j-init c = refl
 
 pub overflow_add-count : goal.overflow_add-count
 overflow_add-count c =
     let l = c.loop-j in
     let a = c.args in
-    let k = front_at_most a.flags.now a.i l.j in
-    let m = one_at_most (get_or a.flags.now (a.i + l.j) 0) in
-    record { fits = few l.count c.one_in_front-count.result l.j (rw l.invariant.1 k) (rw c.one_in_front-count.ensures m) (omega arith) }
+    let k = front_at_most a.block.rows.flags.now a.block.i l.j in
+    let m = one_at_most (get_or a.block.rows.flags.now (a.block.i + l.j) 0) in
+    record { fits = few l.count c.one_in_front-count.result l.j (rw l.invariant k) (rw c.one_in_front-count.ensures m) (omega arith) }
 
 pub loop-j-preserved : goal.loop-j-preserved
 unfolding in_front
 loop-j-preserved c =
     let l = c.loop-j in
-    (omega arith, rw (add-one l.j, c.one_in_front-count.ensures, l.invariant.1))
-
-pub returns : goal.returns
-returns c =
-    let l = c.loop-j in
-    let a = c.args in
-    let e : l.j ≡ a.n = omega arith in
-    l.invariant.1 ∙ ap (in_front a.flags.now a.i) e
+    rw (add-one l.j, c.one_in_front-count.ensures, l.invariant)

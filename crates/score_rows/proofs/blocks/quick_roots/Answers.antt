@@ -1,5 +1,5 @@
 -- `score_rows::blocks::quick_roots` meets its contract. Assumes nothing.
-use Rattle.std.proofs.Common.{◌^◌, get_or, ◌∙◌, arith, length-set}
+use Rattle.std.proofs.Common.{◌^◌, get_or, arith}
 use Rattle.std.specs.Float.{nan}
 use lib.Bits.{bit_or}
 use Rattle.root_code.specs.Or.{both_below}
@@ -8,19 +8,16 @@ use Rattle.score_rows.proofs.Filled.{one_more}
 use Rattle.score_rows.proofs.blocks.quick_roots.Goals as goal
 
 pub loop-j-init : goal.loop-j-init
-loop-j-init c = (omega arith, c.requires.0, λ j h. absurd (omega (arith, h)))
+loop-j-init c = λ j h. absurd (omega (arith, h))
 
 pub loop-j-preserved : goal.loop-j-preserved
 loop-j-preserved c =
     let l = c.loop-j in
     let a = c.args in
     let q = c.quick_sqrt-q in
-    let both = both_below l.wrong q.result.wrong (2 ^ 37) in (
-      omega arith,
-      length-set l.bits l.j q.result.bits ∙ l.invariant.1,
-      one_more l.bits 0 l.j q.result.bits (λ k b. Quick b (bit_or l.wrong q.result.wrong) (get_or a.squares.now k nan)) (omega (arith, l.invariant.1))
-          (λ k h z. l.invariant.2 k h (both z).0) (λ z. q.ensures (both z).1),
-    )
+    let both = both_below l.wrong q.result.wrong (2 ^ 37) in
+    one_more l.bits 0 l.j q.result.bits (λ k b. Quick b (bit_or l.wrong q.result.wrong) (get_or a.squares.now k nan)) (omega arith)
+    (λ k h z. l.invariant k h (both z).0) (λ z. q.ensures (both z).1)
 
 pub returns : goal.returns
-returns c = (c.loop-j.invariant.1, λ j h. c.loop-j.invariant.2 j (omega (arith, h)))
+returns c = λ j h. c.loop-j.invariant j (omega (arith, h))

@@ -6,16 +6,16 @@ use Rattle.score_rows.specs.Steps.{square_at}
 use Rattle.score_rows.proofs.blocks.square_errors.Goals as goal
 
 pub loop-j-init : goal.loop-j-init
-loop-j-init c = (omega arith, c.requires.0, λ j h. absurd (omega (arith, h)))
+loop-j-init c = (c.told-squares, λ j h. absurd (omega (arith, h)))
 
 pub loop-j-preserved : goal.loop-j-preserved
 loop-j-preserved c =
     let l = c.loop-j in
-    let a = c.args in (
-      omega arith,
-      length-set l.squares l.j c.square_at.result ∙ l.invariant.1,
-      one_more l.squares nan l.j c.square_at.result (λ k x. x ≡ square_at a.camera a.h a.rows.now (a.i + k)) (omega (arith, l.invariant.1)) l.invariant.2 c.square_at.ensures,
+    let a = c.args in
+    let long = l.invariant.0 in (
+      length-set l.squares l.j c.square_at.result ∙ long,
+      one_more l.squares nan l.j c.square_at.result (λ k x. x ≡ square_at a.by.camera a.by.h a.block.rows.numbers.now (a.block.i + k)) (omega arith) l.invariant.1 c.square_at.ensures,
     )
 
 pub returns : goal.returns
-returns c = (c.loop-j.invariant.1, λ j h. c.loop-j.invariant.2 j (omega (arith, h)))
+returns c = λ j h. c.loop-j.invariant.1 j (omega (arith, h))

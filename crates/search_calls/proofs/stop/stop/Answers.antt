@@ -1,14 +1,13 @@
 -- `search_calls::stop::stop` meets its contract, by the four ways that the call goes. Assumes nothing.
-use Rattle.std.proofs.Common.{arith, refl, sym, ap, ◌∙◌}
+use Rattle.std.proofs.Common.{arith, refl, sym, ap, ◌∙◌, Ok}
 use Rattle.search_record.specs.Laws.{bounds}
-use Rattle.search_calls.specs.declared.stop.Stopped.TheVariants.{Standing}
 use Rattle.search_calls.specs.Stop.{nothing_left}
 use Rattle.search_calls.proofs.StopLaws.{stop_unsound, stop_short, stop_none, stop_some}
 use Rattle.search_calls.proofs.stop.stop.Goals as goal
 
 pub returns-then-not-is_sound : goal.returns-then-not-is_sound
 returns-then-not-is_sound c =
-    ap Standing (c.nothing_left.ensures ∙ ap nothing_left c.no_best.ensures)
+    ap Ok (c.nothing_left.ensures ∙ ap nothing_left c.no_best.ensures)
     ∙ sym (stop_unsound _ _ (sym c.is_sound.ensures ∙ c.if-not-is_sound.true))
 
 pub returns-then-list-run : goal.returns-then-list-run
@@ -16,7 +15,7 @@ returns-then-list-run c = sym (stop_short _ _ (sym c.is_sound.ensures ∙ c.if-n
 
 pub returns-then-run : goal.returns-then-run
 returns-then-run c =
-    ap Standing (c.nothing_left-then-run.ensures ∙ ap nothing_left c.best_so_far-best.ensures)
+    ap Ok (c.nothing_left-then-run.ensures ∙ ap nothing_left c.best_so_far-best.ensures)
     ∙ sym (stop_none _ _ (sym c.is_sound.ensures ∙ c.if-not-is_sound.false) c.if-list-run.false c.if-run.true)
 
 pub floor_left-requires : goal.floor_left-requires
@@ -26,5 +25,5 @@ floor_left-requires c =
 
 pub returns : goal.returns
 returns c =
-    ap Standing (c.with_floor.ensures ∙ rw (c.best_so_far-best.ensures, c.floor_left.ensures) refl)
+    ap Ok (c.with_floor.ensures ∙ rw (c.best_so_far-best.ensures, c.floor_left.ensures) refl)
     ∙ sym (stop_some _ _ (sym c.is_sound.ensures ∙ c.if-not-is_sound.false) c.if-list-run.false c.if-run.false)

@@ -1,5 +1,0 @@
--- `capi_records::record::place_record` meets its contract, by that of `flag`. Assumes nothing.
-use Rattle.capi_records.proofs.record.place_record.Goals as goal
-
-pub returns : goal.returns
-returns c = rw c.flag.ensures

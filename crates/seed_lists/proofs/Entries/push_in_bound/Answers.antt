@@ -1,0 +1,18 @@
+-- `seed_lists::Entries::push_in_bound` meets its contract: tilts within the bound are pushed, any other are dropped. Assumes nothing.
+use Rattle.std.proofs.Common.{sym, ◌∙◌, rules}
+use Rattle.seed_rules.specs.Merge.{keep, merged_into}
+use Rattle.seed_rules.proofs.Steps.{merging_start}
+use Rattle.seed_lists.proofs.Entries.push_in_bound.Goals as goal
+
+pub returns-then-in_bound-clause-pushed : goal.returns-then-in_bound-clause-pushed
+unfolding keep merged_into
+returns-then-in_bound-clause-pushed g c =
+    let e = sym c.in_bound.ensures ∙ c.if-in_bound.true in
+    simp (e, ← c.with_tilts.ensures) c.push.ensures.pushed
+
+pub returns-else-in_bound-clause-pushed : goal.returns-else-in_bound-clause-pushed
+unfolding keep
+returns-else-in_bound-clause-pushed g c =
+    let a = c.args in
+    let e = sym c.in_bound.ensures ∙ c.if-in_bound.false in
+    simp e (merging_start g.met.E.Entry.lies g.E.Entry.near a.self.now.numbers.now a.self.now.count (search rules)).leaves
