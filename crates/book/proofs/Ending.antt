@@ -10,6 +10,7 @@ use Rattle.seed_rules.proofs.AnyOffsets.{most_nine, round_few}
 use Rattle.score_outcome.specs.declared.Finding.{Finding}
 use Rattle.score_outcome.specs.Reasons.{Outcome}
 use Rattle.score_outcome.specs.Evaluation.{outcome_of, finding_refusal}
+use Rattle.score_best.specs.Best.{or_best}
 use Rattle.score_best.specs.declared.Candidate.{Candidate}
 use Rattle.journal_line.proofs.CountLaws.{total_with}
 use Rattle.journal_line.specs.Outcome.{recorded_as}
@@ -176,7 +177,7 @@ open_rounds r n = (refl, refl)
 close_more : (k : ℕ) → Closes k → Closes (suc k)
 unfolding ans.close_round
 close_more k ih i r l f e =
-    let b = ans.or_best r.round_best r.run_best in
+    let b = or_best r.round_best r.run_best in
     case b.found
     (λ t. case_list (ans.next_seeds r b.candidate)
     (λ q. simp (ans.close_round, t, q) (skip_follows i r _ (omega arith) (ih i (round_opened r 0) l (skip_full i r (omega arith) f) (rw ((open_rounds r 0).0, (open_rounds r 0).1) (omega arith)))))

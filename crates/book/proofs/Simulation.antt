@@ -18,7 +18,7 @@ use Rattle.score_outcome.specs.declared.SkipReason.TheVariants.{HostFailed, BadC
 use Rattle.score_outcome.specs.Evaluation.{finding_refusal}
 use Rattle.score_best.specs.declared.Candidate.{Candidate}
 use Rattle.score_best.specs.declared.Best.{Best}
-use Rattle.score_best.specs.Best.{Chosen, nothing, chosen, best_of, first_unbeaten, no_best, held, candidate_of}
+use Rattle.score_best.specs.Best.{Chosen, nothing, chosen, best_of, first_unbeaten, no_best, held, or_best, candidate_of}
 use Rattle.score_best.proofs.Order.{best_snoc}
 use Rattle.search_record.specs.declared.run.Run.{Run}
 use Rattle.journal_line.specs.declared.Counts.{Counts}
@@ -276,12 +276,12 @@ open_run b ss w = opened_with_lem (run_of b) (length ss) (step_of (suc b.round) 
     rest : (b : Book) (ss : List CandidateSeed) → opened_with (run_of b) (length ss) (step_of (suc b.round) b.inputs.step) rec.nobody ≡ run_of (with_round b ss)
     rest b ss = unfold run_of with_round round_best_of run_best_of best_of first_unbeaten scored_of in simp (append-nil, add-one)
 
-held_else : (a c : Chosen) → ans.or_best (held a) (held c) ≡ held (or_else a c)
+held_else : (a c : Chosen) → or_best (held a) (held c) ≡ held (or_else a c)
 unfolding no_best
 held_else nothing c = refl
 held_else (chosen w) c = refl
 
-pub run_else : (b : Book) → ans.or_best (run_of b).round_best (run_of b).run_best ≡ held (or_else (round_best_of b) (run_best_of b))
+pub run_else : (b : Book) → or_best (run_of b).round_best (run_of b).run_best ≡ held (or_else (round_best_of b) (run_best_of b))
 run_else b = rw (run_round_best b, run_run_best b) (held_else (round_best_of b) (run_best_of b))
 
 open_ends : (b : Book) (l : List Float) (s : CandidateSeed) (ss : List CandidateSeed) → b.waits ≡ false → There b l → 54 ≤ demand b.inputs → length (s ∷ ss) ≤ 9

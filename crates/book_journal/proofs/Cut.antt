@@ -18,7 +18,7 @@ use Rattle.journal_replay.specs.declared.Stop.TheVariants.{AllTaken, NotOfForm, 
 use Rattle.journal_replay.specs.declared.EndedBy.TheVariants as by
 use Rattle.journal_replay.specs.declared.Report.{Report}
 use Rattle.journal_replay.specs.Walk.{stop_at}
-use Rattle.journal_replay.specs.Resume.{is_cut_line, stopped_by, ended_by_of}
+use Rattle.journal_replay.specs.Resume.{is_cut_line, ended_by_of}
 use Rattle.book.specs.Book.{Inputs, Entry, Book, entries, first_list, opened, book_enter, line_of}
 use Rattle.book.specs.Conditions.{NoneHolds, conditions}
 use Rattle.book.proofs.Cases.{case_result}
@@ -37,29 +37,13 @@ use Rattle.book_journal.proofs.Front.{all_take, front_bytes, front_reads, front_
 use Rattle.book_journal.proofs.Buffer.{walked_buffer}
 
 -- ---- what ended it, by cases
-nothing_of : (x : Bool) (s : Stop) → cond x by.MissingNewline (stopped_by s) ≡ by.Nothing → s ≡ AllTaken
-nothing_of true s e = let z : ◌≡◌ {A = ℕ} 0 1 = cc in absurd (omega arith)
-nothing_of false AllTaken e = refl
-nothing_of false NotOfForm e = let z : ◌≡◌ {A = ℕ} 0 1 = cc in absurd (omega arith)
-nothing_of false NotTheRun e = let z : ◌≡◌ {A = ℕ} 0 1 = cc in absurd (omega arith)
-
-newline_of : (x : Bool) (s : Stop) → cond x by.MissingNewline (stopped_by s) ≡ by.MissingNewline → x ≡ true
+newline_of : (x : Bool) (s : Stop) → cond x by.MissingNewline (by.Stopped s) ≡ by.MissingNewline → x ≡ true
 newline_of true s e = refl
-newline_of false AllTaken e = let z : ◌≡◌ {A = ℕ} 0 1 = cc in absurd (omega arith)
-newline_of false NotOfForm e = let z : ◌≡◌ {A = ℕ} 0 1 = cc in absurd (omega arith)
-newline_of false NotTheRun e = let z : ◌≡◌ {A = ℕ} 0 1 = cc in absurd (omega arith)
+newline_of false s e = let z : ◌≡◌ {A = ℕ} 0 1 = cc in absurd (omega arith)
 
-form_of : (x : Bool) (s : Stop) → cond x by.MissingNewline (stopped_by s) ≡ by.NotOfForm → (x ≡ false) × (s ≡ NotOfForm)
-form_of true s e = let z : ◌≡◌ {A = ℕ} 0 1 = cc in absurd (omega arith)
-form_of false AllTaken e = let z : ◌≡◌ {A = ℕ} 0 1 = cc in absurd (omega arith)
-form_of false NotOfForm e = (refl, refl)
-form_of false NotTheRun e = let z : ◌≡◌ {A = ℕ} 0 1 = cc in absurd (omega arith)
-
-run_of : (x : Bool) (s : Stop) → cond x by.MissingNewline (stopped_by s) ≡ by.NotTheRun → s ≡ NotTheRun
-run_of true s e = let z : ◌≡◌ {A = ℕ} 0 1 = cc in absurd (omega arith)
-run_of false AllTaken e = let z : ◌≡◌ {A = ℕ} 0 1 = cc in absurd (omega arith)
-run_of false NotOfForm e = let z : ◌≡◌ {A = ℕ} 0 1 = cc in absurd (omega arith)
-run_of false NotTheRun e = refl
+stop_of : (x : Bool) (s t : Stop) → cond x by.MissingNewline (by.Stopped s) ≡ by.Stopped t → (x ≡ false) × (s ≡ t)
+stop_of true s t e = let z : ◌≡◌ {A = ℕ} 0 1 = cc in absurd (omega arith)
+stop_of false s t e = (refl, cc)
 
 -- ---- bytes with and without a newline
 cut_line_is : (s : List ℕ) → is_cut_line s ≡ true → (s ≡ [] → ⊥) × (newlines s ≡ 0)
@@ -170,10 +154,10 @@ module _ (i : Inputs) (l : List Float) (bs : List ℕ) where
           kept_journal = kept_journal;
           is_longest = (front_alone i l bs).is_longest;
           adds_up = adds_up;
-          nothing_left = λ e. nothing_behind (nothing_of x s e);
+          nothing_left = λ e. nothing_behind (stop_of x s AllTaken e).1;
           newline_missing = λ e. cut_line_is (rest_of bs walk) (newline_of x s e);
-          not_of_form = λ e. let p = form_of x s e in let q = no_line_behind p.1 in (some_newline (rest_of bs walk) q.0 p.0, q.1);
-          not_the_run = λ e. other_line_behind (run_of x s e);
+          not_of_form = λ e. let p = stop_of x s NotOfForm e in let q = no_line_behind p.1 in (some_newline (rest_of bs walk) q.0 p.0, q.1);
+          not_the_run = λ e. other_line_behind (stop_of x s NotTheRun e).1;
         }
 
 -- ---- the reply
@@ -288,7 +272,7 @@ module _ (i : Inputs) (b : Book) (s : Sound i b) (l : List Float) (at : ℕ) whe
       entered_entries : (es : List Entry) → Trail (opened i) es (entered_in (opened i) es) → entries (entered_in (opened i) es) ≡ es
       entered_entries es t = unfold opened in trail_entries (opened i) (entered_in (opened i) es) es t
 
-  cut_nothing : cut.part ≡ [] → (report_on front (walked i l front)).ended_by ≡ by.Nothing
+  cut_nothing : cut.part ≡ [] → (report_on front (walked i l front)).ended_by ≡ by.Stopped AllTaken
   unfolding report_on ended_by_of
   cut_nothing e = rw (cut_rest ∙ e, ap (λ (z : Walked). z.stop) cut_walked ∙ cut_ended e)
 

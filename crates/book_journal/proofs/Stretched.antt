@@ -2,8 +2,8 @@
 use Rattle.std.proofs.Common.{◌≡◌, refl, sym, ap, ◌∙◌, List, [], ◌∷◌, ◌++◌, map, Ok, Err}
 use mathlib.Core.List.{flat_map}
 use Rattle.common.specs.Each.{All}
+use Rattle.common.specs.Results.{same_Ok}
 use Rattle.score_outcome.specs.declared.Scoring.{Scoring}
-use Rattle.score_outcome.proofs.Outcomes.{scored_same}
 use Rattle.score_best.specs.declared.Candidate.{Candidate}
 use Rattle.score_best.specs.Best.{Chosen, best_of, candidate_of}
 use Rattle.score_best.specs.Winners.{winner_of, joined}
@@ -81,7 +81,7 @@ scored_lines i (e ∷ es) p =
     let back = comes_back i e.seed.sensor e.outcome p.0.stands in
     case_result e.outcome
     (λ g q.
-    let b : scoring_in (fields_of g) ≡ g = scored_same (scoring_in (fields_of g)) g (rw q at back) in
+    let b : scoring_in (fields_of g) ≡ g = same_Ok (scoring_in (fields_of g)) g (rw q at back) in
     simp (scored_in, scored_of, q)
     (ap (λ (x : Scoring). candidate_of e.number e.seed.sensor x ∷ scored_in (map line_of es)) b ∙ ap (λ (z : List Candidate). candidate_of e.number e.seed.sensor g ∷ z) ih))
     (λ reason q. simp (scored_in, scored_of, q) ih)

@@ -5,7 +5,7 @@ use Rattle.journal_line.specs.declared.Line.{Line}
 use Rattle.journal_line.specs.Line.{line_bytes, LineFits, Writable, journal_bytes}
 use Rattle.journal_line.specs.Reading.{newlines}
 use Rattle.journal_line.proofs.Fronts.{NoLine}
-use Rattle.journal_replay.specs.declared.Stop.TheVariants.{AllTaken}
+use Rattle.journal_replay.specs.declared.Stop.TheVariants.{AllTaken, NotOfForm, NotTheRun}
 use Rattle.journal_replay.specs.declared.EndedBy.TheVariants as by
 use Rattle.journal_replay.specs.declared.Report.{Report}
 use Rattle.journal_replay.specs.Resume.{ended_by_of}
@@ -60,10 +60,10 @@ pub record GivesBack (i : Inputs) (l : List Float) (bs : List ℕ) (b : Book) (m
   -- together they are the whole file
   pub adds_up : r.kept + r.dropped ≡ length bs
   -- each ending says what stands behind the kept bytes: nothing; no newline; a newline, but no line of the form; a line that can't follow
-  pub nothing_left : r.ended_by ≡ by.Nothing → drop r.kept bs ≡ []
+  pub nothing_left : r.ended_by ≡ by.Stopped AllTaken → drop r.kept bs ≡ []
   pub newline_missing : r.ended_by ≡ by.MissingNewline → (drop r.kept bs ≡ [] → ⊥) × (newlines (drop r.kept bs) ≡ 0)
-  pub not_of_form : r.ended_by ≡ by.NotOfForm → (1 ≤ newlines (drop r.kept bs)) × NoLine (drop r.kept bs)
-  pub not_the_run : r.ended_by ≡ by.NotTheRun → (n : Line) × (tail : List ℕ) × LineFits n × Writable n × (drop r.kept bs ≡ line_bytes n ++ tail) × (follows b n ≡ false)
+  pub not_of_form : r.ended_by ≡ by.Stopped NotOfForm → (1 ≤ newlines (drop r.kept bs)) × NoLine (drop r.kept bs)
+  pub not_the_run : r.ended_by ≡ by.Stopped NotTheRun → (n : Line) × (tail : List ℕ) × LineFits n × Writable n × (drop r.kept bs ≡ line_bytes n ++ tail) × (follows b n ≡ false)
 
 -- ---- A run's journal that ends after any of its bytes: every whole line before that place is kept, and nothing else.
 module _ (i : Inputs) (h : History i) (at : ℕ) where
@@ -84,7 +84,7 @@ module _ (i : Inputs) (h : History i) (at : ℕ) where
     pub kept_lines : (report l).lines ≡ lines
     pub kept_bytes_lem : (report l).kept ≡ length (journal_bytes (take lines (lines_of (book_at h))))
     pub dropped_part : (report l).dropped ≡ length part
-    pub by_nothing : part ≡ [] → (report l).ended_by ≡ by.Nothing
+    pub by_nothing : part ≡ [] → (report l).ended_by ≡ by.Stopped AllTaken
     pub by_newline : (part ≡ [] → ⊥) → (report l).ended_by ≡ by.MissingNewline
     -- the book is that of as many answers
     pub book_is : (walked i l cut_journal).book ≡ entered_in (opened i) (take lines (entries (book_at h)))

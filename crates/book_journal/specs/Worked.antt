@@ -20,6 +20,7 @@ use Rattle.journal_line.specs.Line.{digit_byte, digits, decimal_width, decimal, 
 use Rattle.journal_line.specs.Reading.{digit_of, number_at, decimal_width_at, real_at, reals, reason_of, outcome_at, from_round, from_seed, unchecked_line, begins, of_form, newlines, read_line, goes_on, read_all}
 use Rattle.journal_replay.specs.declared.Standing.TheVariants.{Winner, Unfinished}
 use Rattle.journal_replay.specs.declared.ReplayRefusal.TheVariants.{Refused, At}
+use Rattle.journal_replay.specs.declared.Stop.TheVariants as stop
 use Rattle.journal_replay.specs.declared.EndedBy.TheVariants as by
 use Rattle.journal_replay.specs.declared.Report.{Report}
 use Rattle.journal_replay.specs.Stand.{same_real, same_reals, is_mean, can_be_scored}
@@ -131,15 +132,15 @@ report_of bs = report_on bs (walked given buffer bs)
 
 pub record Reports : Type 0 where
   -- the journal as it is, and cut behind its first line, of 124 bytes
-  pub all_kept : report_of whole ≡ record { lines = 2; kept = 368; dropped = 0; ended_by = by.Nothing }
-  pub after_newline : report_of (take 124 whole) ≡ record { lines = 1; kept = 124; dropped = 0; ended_by = by.Nothing }
+  pub all_kept : report_of whole ≡ record { lines = 2; kept = 368; dropped = 0; ended_by = by.Stopped stop.AllTaken }
+  pub after_newline : report_of (take 124 whole) ≡ record { lines = 1; kept = 124; dropped = 0; ended_by = by.Stopped stop.AllTaken }
   -- without its last byte, and without the last but one as well
   pub cut_line : report_of (take 367 whole) ≡ record { lines = 1; kept = 124; dropped = 243; ended_by = by.MissingNewline }
   pub cut_line_again : report_of (take 366 whole) ≡ record { lines = 1; kept = 124; dropped = 242; ended_by = by.MissingNewline }
   -- behind the end: a part of a line, a line, other bytes with a newline
   pub part_behind : report_of (whole ++ 48 ∷ []) ≡ record { lines = 2; kept = 368; dropped = 1; ended_by = by.MissingNewline }
-  pub line_behind : report_of (journal_bytes (first ∷ second ∷ first ∷ [])) ≡ record { lines = 2; kept = 368; dropped = 124; ended_by = by.NotTheRun }
-  pub bytes_behind : report_of (120 ∷ 10 ∷ 48 ∷ 44 ∷ 48 ∷ []) ≡ record { lines = 0; kept = 0; dropped = 5; ended_by = by.NotOfForm }
+  pub line_behind : report_of (journal_bytes (first ∷ second ∷ first ∷ [])) ≡ record { lines = 2; kept = 368; dropped = 124; ended_by = by.Stopped stop.NotTheRun }
+  pub bytes_behind : report_of (120 ∷ 10 ∷ 48 ∷ 44 ∷ 48 ∷ []) ≡ record { lines = 0; kept = 0; dropped = 5; ended_by = by.Stopped stop.NotOfForm }
 
 pub reports : Reports
 unfolding report_on ended_by_of walked walk_from buffer_after follows is_mean can_be_scored same_real same_reals opened first_list book_enter close_round with_entry with_round with_end digit_byte digits decimal_width decimal bits_of real reason_letter outcome_fields rest_of_line line_bytes recordable writable journal_bytes digit_of number_at decimal_width_at real_at reals reason_of outcome_at from_round from_seed unchecked_line begins of_form newlines read_line goes_on read_all keep has_near push merged_into closer tilt_near camera_near near within in_bound pairs seed_grid initial_list laid read_from finite_intrinsics finite_distortion valid_camera distortion_penalty tilt_penalty centre_penalty score_of abs_of is_finite min_of max_of to_bits add sub mul div neg lt le eq is_nan of_bits of_fields of_int sum round units odd size span climb

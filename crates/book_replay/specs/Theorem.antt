@@ -14,6 +14,7 @@ use Rattle.journal_replay.specs.declared.Standing.{Standing}
 use Rattle.journal_replay.specs.declared.Standing.TheVariants.{Winner, Unfinished}
 use Rattle.journal_replay.specs.declared.ReplayRefusal.{ReplayRefusal}
 use Rattle.journal_replay.specs.declared.ReplayRefusal.TheVariants.{Refused}
+use Rattle.journal_replay.specs.declared.Stop.TheVariants.{AllTaken}
 use Rattle.journal_replay.specs.declared.EndedBy.TheVariants as by
 use Rattle.journal_replay.specs.declared.Report.{Report}
 use Rattle.journal_replay.specs.Replay.{replay_from}
@@ -62,7 +63,7 @@ pub record ResumedRun (i : Inputs) (l : List Float) (bs : List ℕ) (r : Run) (q
 
 -- all is kept: n lines, which are the bytes j
 abbrev pub all_kept : ℕ → List ℕ → Report
-all_kept n j = record { lines = n; kept = length j; dropped = 0; ended_by = by.Nothing }
+all_kept n j = record { lines = n; kept = length j; dropped = 0; ended_by = by.Stopped AllTaken }
 
 -- ---- a history of the plain book, however it was opened and whatever the calls: its journal gives back the record of the run, no seed waiting; cut after any byte,
 -- the record that goes with the book of the kept lines (`CutAt.book_is`, `GoesOn.stands_there`)
@@ -133,7 +134,7 @@ module _ (i : Inputs) (l : List Float) (r : Run) (m : List Float) (held : List �
     pub no_newline : newlines part ≡ 0
     pub after_newline : (s : List ℕ) → take at file ≡ s ++ 10 ∷ [] → part ≡ []
     pub dropped_part : says.dropped ≡ length part
-    pub by_nothing : part ≡ [] → says.ended_by ≡ by.Nothing
+    pub by_nothing : part ≡ [] → says.ended_by ≡ by.Stopped AllTaken
     pub by_newline : (part ≡ [] → ⊥) → says.ended_by ≡ by.MissingNewline
     -- and the run is what it was there, if the cut fell behind the lines that it was opened with
     pub goes_back : r.place.number ≤ run.place.number → GoesBack run list

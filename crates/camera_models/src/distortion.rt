@@ -42,10 +42,13 @@ struct Terms {
     y_tan: f64,
 }
 
+// Kept: functions and no methods, here and below: the published Rust has functions by the names `brown_conrady_terms` and
+// `radial_tangential_jacobian`, and a method only moves the lens: `b.distort(p)` for `distort(b, p)`, which goes with `pixel_to_sensor(k, p)`.
+#[tactic(auto, unfolding(crate::specs::Distortion::radial_factor, crate::specs::Distortion::tangential_x, crate::specs::Distortion::tangential_y))]
 fn brown_conrady_terms(b: BrownConrady5, p: Pt2) -> Terms
     ensures { result ≡ terms b p }
 {
-    let r2 = p.x * p.x + p.y * p.y;
+    let r2 = p.squared_norm();
     let r4 = r2 * r2;
     let r6 = r4 * r2;
     Terms {
@@ -55,6 +58,7 @@ fn brown_conrady_terms(b: BrownConrady5, p: Pt2) -> Terms
     }
 }
 
+#[tactic(auto, unfolding(crate::specs::Distortion::distorted))]
 pub fn distort(b: BrownConrady5, n_undist: Pt2) -> Pt2
     ensures { result ≡ distorted b n_undist }
 {
@@ -77,10 +81,11 @@ fn radial_tangential_jacobian(b: BrownConrady5, p: Pt2, radial: f64, d_radial: f
     }
 }
 
+#[tactic(auto, unfolding(crate::specs::Distortion::jacobian_radial, crate::specs::Distortion::radial_derivative, crate::specs::Distortion::jacobian_at))]
 fn jacobian_at(b: BrownConrady5, p: Pt2) -> Jacobian
     ensures { result ≡ jacobian_at b p }
 {
-    let r2 = p.x * p.x + p.y * p.y;
+    let r2 = p.squared_norm();
     let r4 = r2 * r2;
     let radial = 1.0 + b.k1 * r2 + b.k2 * r4 + b.k3 * r4 * r2;
     let d_radial = b.k1 + 2.0 * b.k2 * r2 + 3.0 * b.k3 * r4;

@@ -1,7 +1,19 @@
+ghost use Rattle.std.specs.Prelude.{◌≡◌};
+ghost use Rattle.camera_models.specs.Distortion.{squared_norm};
+
 // A point of the plane, as the models take and return it.
 #[repr(C)]
 #[derive(Clone, Copy, Default)]
 pub struct Pt2 {
     pub x: f64,
     pub y: f64,
+}
+
+impl Pt2 {
+    // The squared distance from the origin.
+    pub fn squared_norm(self) -> f64
+        ensures { result ≡ squared_norm self }
+    {
+        self.x * self.x + self.y * self.y
+    }
 }

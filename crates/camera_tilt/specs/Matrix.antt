@@ -19,9 +19,13 @@ row_of f = map f (0 ∷ 1 ∷ 2 ∷ [])
 abbrev pub matrix_of : (ℕ → ℕ → Float) → Matrix
 matrix_of f = map (λ i. row_of (f i)) (0 ∷ 1 ∷ 2 ∷ [])
 
--- row i of a times column j of b, summed from the lowest index
+-- a row times column j of b, summed from the lowest index
+abbrev pub row_product : List Float → Matrix → ℕ → Float
+row_product row b j = get_or row 0 nan *₆₄ at b 0 j +₆₄ get_or row 1 nan *₆₄ at b 1 j +₆₄ get_or row 2 nan *₆₄ at b 2 j
+
+-- row i of a times column j of b
 abbrev pub product_entry : Matrix → Matrix → ℕ → ℕ → Float
-product_entry a b i j = at a i 0 *₆₄ at b 0 j +₆₄ at a i 1 *₆₄ at b 1 j +₆₄ at a i 2 *₆₄ at b 2 j
+product_entry a b i j = row_product (get_or a i []) b j
 
 unfoldable pub product_of : Matrix → Matrix → Matrix
 product_of a b = matrix_of (product_entry a b)

@@ -1,5 +1,6 @@
 -- The tilted sensor: OpenCV's homography of two tilts, its verdict, and a point under a homography and under an inverse. Definitions only.
-use Rattle.std.specs.Prelude.{ℕ, Bool, cond, [], ◌∷◌, Float, Result, Ok, Err, ⊤}
+use Rattle.std.specs.Prelude.{ℕ, Bool, cond, List, [], ◌∷◌, get_or, Float, Result, Ok, Err, ⊤}
+use Rattle.std.specs.Float.{nan}
 use Rattle.std.specs.Float.Ieee.{neg, lt, eq}
 use Rattle.float.specs.Float.{abs_of}
 use Rattle.float.specs.Literals.{plus_zero, one₆₄}
@@ -7,6 +8,7 @@ use Rattle.float.specs.Binary64.{◌+₆₄◌, ◌*₆₄◌, ◌/₆₄◌}
 use Rattle.camera_models.specs.Constants.{tiny}
 use Rattle.camera_tilt.specs.Matrix.{Matrix, at, product_of, determinant_of, inverse_of}
 use Rattle.camera_models.specs.declared.math.Pt2.{Pt2}
+use Rattle.camera_tilt.specs.declared.sensor.TiltTrig.{TiltTrig}
 use Rattle.common.specs.Checks.{◌when◌, first_refusal}
 use Rattle.common.specs.declared.Refusal.{Refusal}
 use Rattle.common.specs.declared.Refusal.TheVariants.{SingularTilt}
@@ -22,8 +24,8 @@ rot_y s c = (c ∷ plus_zero ∷ neg s ∷ []) ∷ (plus_zero ∷ one₆₄ ∷ 
 abbrev pub proj_z : Matrix → Matrix
 proj_z r = (at r 2 2 ∷ plus_zero ∷ neg (at r 0 2) ∷ []) ∷ (plus_zero ∷ at r 2 2 ∷ neg (at r 1 2) ∷ []) ∷ (plus_zero ∷ plus_zero ∷ one₆₄ ∷ []) ∷ []
 
-unfoldable pub tilt_projection_matrix : Float → Float → Float → Float → Matrix
-tilt_projection_matrix sinX cosX sinY cosY = let r = product_of (rot_y sinY cosY) (rot_x sinX cosX) in product_of (proj_z r) r
+unfoldable pub tilt_projection_matrix : TiltTrig → Matrix
+tilt_projection_matrix t = let r = product_of (rot_y t.sin_y t.cos_y) (rot_x t.sin_x t.cos_x) in product_of (proj_z r) r
 
 -- the determinant equals 0, of either sign
 abbrev pub is_singular : Matrix → Bool
@@ -36,9 +38,12 @@ tilt_verdict h = first_refusal ((SingularTilt when is_singular h) ∷ [])
 abbrev pub checked_inverse : Matrix → Result Matrix Refusal
 checked_inverse h = elim (tilt_verdict h) [ Ok _ ↦ Ok (inverse_of h) | Err r ↦ Err r ]
 
--- coordinate i of the matrix times (x, y, 1)
+-- a row times (x, y, 1), and coordinate i of the matrix times it
+abbrev pub row_at : List Float → Pt2 → Float
+row_at row p = get_or row 0 nan *₆₄ p.x +₆₄ get_or row 1 nan *₆₄ p.y +₆₄ get_or row 2 nan *₆₄ one₆₄
+
 abbrev pub homogeneous : Matrix → Pt2 → ℕ → Float
-homogeneous h p i = at h i 0 *₆₄ p.x +₆₄ at h i 1 *₆₄ p.y +₆₄ at h i 2 *₆₄ one₆₄
+homogeneous h p i = row_at (get_or h i []) p
 
 -- what the first two coordinates are divided by: forward z only above 1e-12, and for the inverse z whose magnitude is above it
 unfoldable pub forward_depth : Float → Float

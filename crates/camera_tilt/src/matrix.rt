@@ -1,11 +1,11 @@
 // Matrices of three rows and columns: product, determinant, cofactor inverse.
 // Each function equals its formula, rounded operation by operation, for every input.
-// Kept: the three entries of a row, and the three rows, are written out: a closure over the index would have to say again that the index is below 3.
-// Kept: an index is a plain number below 3: as a type of its own it would be made from a literal at each call, and taken apart at each read.
+// Kept: the three entries of a row, and the inverse's three rows, are written out: a closure over the index would have to say again that it is below 3.
+// Kept: the index of a column or a cofactor is a plain number below 3: as a type of its own it would be made from a literal at each call, and taken apart at each read.
 
 ghost use Rattle.std.specs.Prelude.{◌≡◌, ◌<◌};
 ghost use Rattle.float.specs.Binary64.{◌*₆₄◌};
-ghost use Rattle.camera_tilt.specs.Matrix.{at, product_entry, product_of, first_other, second_other, determinant2_of, minor_of, cofactor_of, determinant_of, inverse_entry, inverse_of, row_of};
+ghost use Rattle.camera_tilt.specs.Matrix.{at, row_product, product_of, first_other, second_other, determinant2_of, minor_of, cofactor_of, determinant_of, inverse_entry, inverse_of, row_of};
 
 // The entry at row i and column j.
 pub fn entry(m: [[f64; 3]; 3], i: usize, j: usize) -> f64
@@ -15,34 +15,35 @@ pub fn entry(m: [[f64; 3]; 3], i: usize, j: usize) -> f64
     m[i][j]
 }
 
-fn product_entry(a: [[f64; 3]; 3], b: [[f64; 3]; 3], i: usize, j: usize) -> f64
-    requires { (i < 3) × (j < 3) }
-    ensures { result ≡ product_entry a b i j }
+// A row times column j of b.
+fn product_entry(row: [f64; 3], b: [[f64; 3]; 3], j: usize) -> f64
+    requires { j < 3 }
+    ensures { result ≡ row_product row b j }
 {
-    entry(a, i, 0) * entry(b, 0, j)
-        + entry(a, i, 1) * entry(b, 1, j)
-        + entry(a, i, 2) * entry(b, 2, j)
+    row[0] * entry(b, 0, j) + row[1] * entry(b, 1, j) + row[2] * entry(b, 2, j)
 }
 
-fn product_row(a: [[f64; 3]; 3], b: [[f64; 3]; 3], i: usize) -> [f64; 3]
-    requires { i < 3 }
-    ensures { result ≡ row_of (product_entry a b i) }
+fn product_row(row: [f64; 3], b: [[f64; 3]; 3]) -> [f64; 3]
+    ensures { result ≡ row_of (row_product row b) }
 {
     [
-        product_entry(a, b, i, 0),
-        product_entry(a, b, i, 1),
-        product_entry(a, b, i, 2),
+        product_entry(row, b, 0),
+        product_entry(row, b, 1),
+        product_entry(row, b, 2),
     ]
 }
 
+// Kept: the three rows are written out: `map` over them was tried, and the proof didn't close: what its closure ensures holds of rows of
+// length 3, and no lemma says that the array's rows have it.
 #[tactic(auto, unfolding(crate::specs::Matrix::product_of))]
 pub fn product(a: [[f64; 3]; 3], b: [[f64; 3]; 3]) -> [[f64; 3]; 3]
     ensures { result ≡ product_of a b }
 {
+    let [top, middle, bottom] = a;
     [
-        product_row(a, b, 0),
-        product_row(a, b, 1),
-        product_row(a, b, 2),
+        product_row(top, b),
+        product_row(middle, b),
+        product_row(bottom, b),
     ]
 }
 

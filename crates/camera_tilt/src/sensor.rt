@@ -1,11 +1,11 @@
 // The tilted (Scheimpflug) sensor: its homography, whether it has an inverse, and a point under each.
 // Each function equals its formula, rounded operation by operation, for every input.
 
-ghost use Rattle.std.specs.Prelude.{◌≡◌, ◌<◌, Float};
+ghost use Rattle.std.specs.Prelude.{◌≡◌, Float};
 ghost use Rattle.camera_tilt.specs.Matrix.{product_of};
-ghost use Rattle.camera_tilt.specs.Sensor.{rot_x, rot_y, proj_z, tilt_projection_matrix, is_singular, tilt_verdict, checked_inverse, homogeneous, forward_depth, inverse_depth, divided_by, apply_homography, apply_homography_inverse};
+ghost use Rattle.camera_tilt.specs.Sensor.{rot_x, rot_y, proj_z, tilt_projection_matrix, is_singular, tilt_verdict, checked_inverse, row_at, homogeneous, forward_depth, inverse_depth, divided_by, apply_homography, apply_homography_inverse};
 
-use crate::matrix::{determinant, entry, inverse, product};
+use crate::matrix::{determinant, inverse, product};
 use camera_models::math::Pt2;
 use common::Refusal;
 
@@ -44,18 +44,14 @@ fn rotation(trig: TiltTrig) -> [[f64; 3]; 3]
 fn plane_projection(r: [[f64; 3]; 3]) -> [[f64; 3]; 3]
     ensures { result ≡ proj_z r }
 {
-    let z = entry(r, 2, 2);
-    [
-        [z, 0.0, -entry(r, 0, 2)],
-        [0.0, z, -entry(r, 1, 2)],
-        [0.0, 0.0, 1.0],
-    ]
+    let [[_, _, x], [_, _, y], [_, _, z]] = r;
+    [[z, 0.0, -x], [0.0, z, -y], [0.0, 0.0, 1.0]]
 }
 
 // OpenCV's homography of a tilted sensor.
 #[tactic(auto, unfolding(crate::specs::Sensor::tilt_projection_matrix))]
 pub fn tilt_projection_matrix(trig: TiltTrig) -> [[f64; 3]; 3]
-    ensures { result ≡ tilt_projection_matrix trig.sin_x trig.cos_x trig.sin_y trig.cos_y }
+    ensures { result ≡ tilt_projection_matrix trig }
 {
     let r = rotation(trig);
     product(plane_projection(r), r)
@@ -85,19 +81,17 @@ pub fn checked_inverse(h: [[f64; 3]; 3]) -> Result<[[f64; 3]; 3], Refusal>
     Ok(inverse(h))
 }
 
-// Kept: the index is a plain number below 3: as a type of its own it would be made from a literal at each call, and taken apart at each read.
-fn homogeneous_entry(h: [[f64; 3]; 3], p: Pt2, i: usize) -> f64
-    requires { i < 3 }
-    ensures { result ≡ homogeneous h p i }
+// A row times (x, y, 1).
+fn row_at(row: [f64; 3], p: Pt2) -> f64
+    ensures { result ≡ row_at row p }
 {
-    entry(h, i, 0) * p.x + entry(h, i, 1) * p.y + entry(h, i, 2) * 1.0
+    row[0] * p.x + row[1] * p.y + row[2] * 1.0
 }
 
-#[tactic(auto, unfolding(crate::specs::Sensor::forward_depth))]
 fn forward_depth(z: f64) -> f64
     ensures { result ≡ forward_depth z }
 {
-    if z > 1e-12 { z } else { 1e-12 }
+    float::max(1e-12, z)
 }
 
 #[tactic(auto, unfolding(crate::specs::Sensor::inverse_depth))]
@@ -112,10 +106,11 @@ fn divided<F: Fn(f64) -> f64>(h: [[f64; 3]; 3], p: Pt2, depth: F) -> Pt2
     requires { F.IsAlwaysCallable depth }
     ensures { (d : Float) × F.post depth (homogeneous h p 2) d × (result ≡ divided_by d h p) }
 {
-    let d = depth(homogeneous_entry(h, p, 2));
+    let [top, middle, bottom] = h;
+    let d = depth(row_at(bottom, p));
     Pt2 {
-        x: homogeneous_entry(h, p, 0) / d,
-        y: homogeneous_entry(h, p, 1) / d,
+        x: row_at(top, p) / d,
+        y: row_at(middle, p) / d,
     }
 }
 

@@ -91,7 +91,7 @@ sine_known s m e h = record { near = exact s m e; some = down_pos e; small = rw 
 cosine_known : (m : ℕ) (e : ℤ) → 256 * (m * up e) ≤ 257 * down e → Known 0 1028 (fin false m e) (value false m e)
 cosine_known m e h = record { near = exact false m e; some = down_pos e; small = omega arith }
 
-in_range : {sx cx sy cy : Float} → SineCosine sx cx → SineCosine sy cy → lt half₆₄ (determinant_of (tilt_projection_matrix sx cx sy cy)) ≡ true
+in_range : {sx cx sy cy : Float} → SineCosine sx cx → SineCosine sy cy → lt half₆₄ (determinant_of (tilt_projection_matrix (record { sin_x = sx; cos_x = cx; sin_y = sy; cos_y = cy }))) ≡ true
 unfolding tilt_projection_matrix
 in_range (ranged {s = r} {m = d} {n = c} {e = x} {d = w} k) (ranged {s = s} {m = b} {n = a} {e = v} {d = u} t) =
     let p = projected (rotation (sine_known r d x k.sine_small) (cosine_known c w k.cosine_small) (sine_known s b v t.sine_small) (cosine_known a u t.cosine_small)) in
@@ -100,8 +100,8 @@ in_range (ranged {s = r} {m = d} {n = c} {e = x} {d = w} k) (ranged {s = s} {m =
 
 -- ---- two tilts
 module _ (x y : Float) (g : beyond_half x ≡ false) (h : beyond_half y ≡ false) where
-  pub above_half : lt half₆₄ (determinant_of (tilt_projection_matrix (series_of sines x) (series_of cosines x) (series_of sines y) (series_of cosines y))) ≡ true
+  pub above_half : lt half₆₄ (determinant_of (tilt_projection_matrix (record { sin_x = series_of sines x; cos_x = series_of cosines x; sin_y = series_of sines y; cos_y = series_of cosines y }))) ≡ true
   above_half = in_range (sine_cosine x g) (sine_cosine y h)
 
-  pub never_singular : tilt_verdict (tilt_projection_matrix (series_of sines x) (series_of cosines x) (series_of sines y) (series_of cosines y)) ≡ Ok tt
+  pub never_singular : tilt_verdict (tilt_projection_matrix (record { sin_x = series_of sines x; cos_x = series_of cosines x; sin_y = series_of sines y; cos_y = series_of cosines y })) ≡ Ok tt
   never_singular = rw (not_zero _ above_half)

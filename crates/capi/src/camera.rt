@@ -59,7 +59,7 @@ pub extern "C" fn jc_sensor_to_pixel(k: FxFyCxCy, sensor: Pt2) -> Pt2
 
 #[unsafe(no_mangle)]
 pub extern "C" fn jc_tilt_projection_matrix(trig: TiltTrig) -> Matrix3
-    ensures { result ≡ flat_matrix (tilt_projection_matrix trig.sin_x trig.cos_x trig.sin_y trig.cos_y) }
+    ensures { result ≡ flat_matrix (tilt_projection_matrix trig) }
 {
     sensor::tilt_projection_matrix(trig).into()
 }

@@ -12,6 +12,7 @@ ghost use Rattle.capi_records.specs.Lists.{refusal_number, flat_normalized, flat
 use camera_models::intrinsics::FxFyCxCy;
 use camera_tilt::sensor::TiltTrig;
 use capi_records::lists::{CenterReply, LineReply, NormalizeReply, refusal_number};
+use point_homography::Pairs;
 use point_maps::{centre, maps};
 use score_camera::pinhole::PinholeCamera;
 
@@ -24,8 +25,8 @@ pub extern "C" fn jc_untilt_points(
     points: &[f64],
     to: &mut [f64],
 ) -> u8
-    ensures number { result ≡ refusal_number (map_reply (tilt_projection_matrix trig.sin_x trig.cos_x trig.sin_y trig.cos_y) points.now to.old) }
-    ensures destination { to.new ≡ map_destination k (λ p. p) (tilt_projection_matrix trig.sin_x trig.cos_x trig.sin_y trig.cos_y) points.now to.old }
+    ensures number { result ≡ refusal_number (map_reply (tilt_projection_matrix trig) points.now to.old) }
+    ensures destination { to.new ≡ map_destination k (λ p. p) (tilt_projection_matrix trig) points.now to.old }
 {
     refusal_number(maps::untilt_points(k, trig, points, to))
 }
@@ -40,8 +41,8 @@ pub extern "C" fn jc_ideal_points(
     points: &[f64],
     to: &mut [f64],
 ) -> u8
-    ensures number { result ≡ refusal_number (map_reply (tilt_projection_matrix trig.sin_x trig.cos_x trig.sin_y trig.cos_y) points.now to.old) }
-    ensures destination { to.new ≡ map_destination camera.k (undistorted camera.dist iters) (tilt_projection_matrix trig.sin_x trig.cos_x trig.sin_y trig.cos_y) points.now to.old }
+    ensures number { result ≡ refusal_number (map_reply (tilt_projection_matrix trig) points.now to.old) }
+    ensures destination { to.new ≡ map_destination camera.k (undistorted camera.dist iters) (tilt_projection_matrix trig) points.now to.old }
 {
     refusal_number(maps::ideal_points(camera.k, camera.dist, iters, trig, points, to))
 }
@@ -69,7 +70,11 @@ pub extern "C" fn jc_design_rows(source: &[f64], destination: &[f64], to: &mut [
     ensures number { result ≡ refusal_number (rows_reply source.now destination.now (length to.old)) }
     ensures written { to.new ≡ rows_into source.now destination.now to.old }
 {
-    refusal_number(point_homography::design_rows(source, destination, to))
+    let pairs = Pairs {
+        src: source,
+        dst: destination,
+    };
+    refusal_number(point_homography::design_rows(pairs, to))
 }
 
 #[unsafe(no_mangle)]

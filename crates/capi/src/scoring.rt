@@ -51,7 +51,7 @@ pub extern "C" fn jc_mean_reproj_error(
     rows: &[f64],
     flags: &[u8],
 ) -> f64
-    ensures { result ≡ mean_of (error_sum camera (tilt_projection_matrix trig.sin_x trig.cos_x trig.sin_y trig.cos_y) (rows_of rows.now flags.now)) }
+    ensures { result ≡ mean_of (error_sum camera (tilt_projection_matrix trig) (rows_of rows.now flags.now)) }
 {
     score_rows::mean_of_rows(camera, trig, rows, flags)
 }

@@ -232,10 +232,10 @@ exported_replays i o l bs e =
 
 -- ---- a run given back, and its report
 ended_read : (x : EndedBy) → read_ended (ended_number x) ≡ x
-ended_read by.Nothing = refl
 ended_read by.MissingNewline = refl
-ended_read by.NotOfForm = refl
-ended_read by.NotTheRun = refl
+ended_read (by.Stopped stop.AllTaken) = refl
+ended_read (by.Stopped stop.NotOfForm) = refl
+ended_read (by.Stopped stop.NotTheRun) = refl
 
 report_read : (r : Run) (q : Report) → read_report (flat_resumed (Ok (record { run = r; report = q }))) ≡ q
 report_read r q = rw (ended_read q.ended_by) refl

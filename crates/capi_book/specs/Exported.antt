@@ -22,6 +22,7 @@ use Rattle.journal_replay.specs.declared.ReplayRefusal.{ReplayRefusal}
 use Rattle.journal_replay.specs.declared.ReplayRefusal.TheVariants.{Refused, At}
 use Rattle.journal_replay.specs.declared.EndedBy.{EndedBy}
 use Rattle.journal_replay.specs.declared.EndedBy.TheVariants as by
+use Rattle.journal_replay.specs.declared.Stop.TheVariants as stop
 use Rattle.journal_replay.specs.declared.Report.{Report}
 use Rattle.journal_replay.specs.declared.Resumed.{Resumed}
 use Rattle.capi_records.specs.declared.record.LastRecord.{LastRecord}
@@ -121,7 +122,7 @@ read_replay f = replay_unless (refusal_with f.number) f
 
 -- of jc_resume's (02, E13): the run and the report
 abbrev pub read_ended : ℕ → EndedBy
-read_ended n = cond (eqb n 0) by.Nothing (cond (eqb n 1) by.MissingNewline (cond (eqb n 29) by.NotOfForm by.NotTheRun))
+read_ended n = cond (eqb n 1) by.MissingNewline (by.Stopped (cond (eqb n 0) stop.AllTaken (cond (eqb n 29) stop.NotOfForm stop.NotTheRun)))
 
 abbrev pub read_report : ResumeFlat → Report
 read_report f = record { lines = f.lines; kept = f.kept; dropped = f.dropped; ended_by = read_ended f.ended_by }

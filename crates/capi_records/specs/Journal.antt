@@ -1,15 +1,16 @@
 -- A line of the journal as a flat record, the way back, and the replies of its writer and its reader. What a skipped line or a refusal leaves out is 0.
 -- Definitions only.
-use Rattle.std.specs.Prelude.{ℕ, cond, List, eqb, Result, Ok, Err}
+use Rattle.std.specs.Prelude.{ℕ, List, Result, Ok, Err}
 use Rattle.common.specs.declared.Refusal.{Refusal}
 use Rattle.common.specs.declared.Refusal.TheVariants as refusal
 use Rattle.common.specs.Number.{number_of}
-use Rattle.score_outcome.specs.Reasons.{reason_number, reason_numbered}
+use Rattle.score_outcome.specs.Reasons.{reason_number}
 use Rattle.float.specs.Literals.{plus_zero}
 use Rattle.camera_models.specs.declared.intrinsics.FxFyCxCy.{FxFyCxCy}
 use Rattle.seed_rules.specs.declared.CandidateSeed.{CandidateSeed}
 use Rattle.journal_line.specs.declared.Line.{Line}
-use Rattle.journal_line.specs.Outcome.{Recorded}
+use Rattle.journal_line.specs.declared.ScoredFields.{ScoredFields}
+use Rattle.journal_line.specs.Outcome.{Recorded, recorded_with}
 use Rattle.journal_line.specs.Writing.{write_reply, write_into}
 use Rattle.journal_line.specs.declared.Read.{Read}
 use Rattle.journal_line.specs.declared.Read.TheVariants as read
@@ -18,11 +19,11 @@ use Rattle.capi_records.specs.declared.journal.WriteReply.{WriteReply}
 use Rattle.capi_records.specs.declared.journal.ReadReply.{ReadReply}
 
 -- ---- a line: skipped is 0 for S, and else the reason; with a number that is no reason's it is a line that can't be written
+abbrev pub fields_in : LineRecord → ScoredFields
+fields_in l = record { score = l.score; mean = l.mean; k = l.k; p1 = l.p1; p2 = l.p2 }
+
 abbrev pub recorded_from : LineRecord → Result Recorded Refusal
-recorded_from l =
-    cond (eqb l.skipped 0)
-    (Ok (Ok (record { score = l.score; mean = l.mean; k = l.k; p1 = l.p1; p2 = l.p2 })))
-    (elim (reason_numbered l.skipped) [ Ok reason ↦ Ok (Err reason) | Err e ↦ Err e ])
+recorded_from l = recorded_with l.skipped (fields_in l)
 
 abbrev pub line_from : LineRecord → Result Line Refusal
 line_from l = elim (recorded_from l) [

@@ -1,5 +1,5 @@
 -- The replies of the operations on lists as flat records: a refusal's number, and zeros for what it leaves out. Definitions only.
-use Rattle.std.specs.Prelude.{ℕ, Bool, Result, Ok, Err, ⊤}
+use Rattle.std.specs.Prelude.{ℕ, Bool, Result, Ok, Err}
 use Rattle.common.specs.declared.Refusal.{Refusal}
 use Rattle.common.specs.Number.{number_of}
 use Rattle.camera_models.specs.declared.math.Pt2.{Pt2}
@@ -11,7 +11,7 @@ use Rattle.capi_records.specs.declared.lists.LineReply.{LineReply}
 use Rattle.capi_records.specs.declared.lists.CenterReply.{CenterReply}
 
 -- 01, 'Point maps' and 'Rows': 0 where nothing is refused
-abbrev pub refusal_number : Result ⊤ Refusal → ℕ
+abbrev pub refusal_number : {T : Type 0} → Result T Refusal → ℕ
 refusal_number (Ok _) = 0
 refusal_number (Err r) = number_of r
 

@@ -16,7 +16,7 @@ use Rattle.capi_records.specs.declared.record.WaitingRecord.{WaitingRecord}
 use Rattle.capi_records.specs.declared.record.BestRecord.{BestRecord}
 use Rattle.capi_records.specs.declared.record.LastRecord.{LastRecord}
 use Rattle.capi_records.specs.declared.record.RunRecord.{RunRecord}
-use Rattle.capi_records.specs.Journal.{no_line}
+use Rattle.capi_records.specs.Journal.{fields_in, no_line}
 
 abbrev pub flag_of : Bool → ℕ
 flag_of b = cond b 1 0
@@ -57,7 +57,7 @@ last_from l =
       round = m.round;
       seed = m.seed;
       skipped = m.skipped;
-      scored = record { score = m.score; mean = m.mean; k = m.k; p1 = m.p1; p2 = m.p2 };
+      scored = fields_in m;
     }
 
 abbrev pub flat_last : LastAnswer → LastRecord

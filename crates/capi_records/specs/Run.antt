@@ -10,13 +10,12 @@ use Rattle.score_camera.specs.declared.pinhole.PinholeCamera.{PinholeCamera}
 use Rattle.score_outcome.specs.declared.Finding.{Finding}
 use Rattle.score_outcome.specs.declared.Finding.TheVariants.{Failed, Solved}
 use Rattle.score_best.specs.Best.{no_best}
+use Rattle.search_record.specs.declared.run.Reply.{Reply}
 use Rattle.search_record.specs.declared.run.Run.{Run}
 use Rattle.search_calls.specs.declared.next.Handed.{Handed}
 use Rattle.search_calls.specs.declared.next.Handed.TheVariants as handed
-use Rattle.search_calls.specs.declared.next.NextReply.{NextReply}
 use Rattle.search_answer.specs.declared.Answered.{Answered}
 use Rattle.search_answer.specs.declared.Answered.TheVariants as answered
-use Rattle.search_answer.specs.declared.AnswerReply.{AnswerReply}
 use Rattle.search_calls.specs.declared.stop.Outlook.{Outlook}
 use Rattle.capi_records.specs.Record.{flag_of, flat_run, no_run}
 use Rattle.capi_records.specs.declared.run.StartFlat.{StartFlat}
@@ -38,7 +37,7 @@ flat_handed (Ok (handed.Candidate i)) r = record { number = 0; over = 0; candida
 flat_handed (Ok handed.Over) r = record { number = 0; over = 1; candidate = 0; run = flat_run r }
 flat_handed (Err e) r = record { number = number_of e; over = 0; candidate = 0; run = flat_run r }
 
-abbrev pub flat_next : NextReply → NextFlat
+abbrev pub flat_next : Reply Handed → NextFlat
 flat_next n = flat_handed n.reply n.run
 
 -- 01, 'Answer'
@@ -47,7 +46,7 @@ flat_answered (Ok (answered.Scored s)) r = record { number = 0; skipped = 0; sco
 flat_answered (Ok (answered.Skipped reason)) r = record { number = 0; skipped = reason_number reason; score = plus_zero; run = flat_run r }
 flat_answered (Err e) r = record { number = number_of e; skipped = 0; score = plus_zero; run = flat_run r }
 
-abbrev pub flat_answer : AnswerReply → AnswerFlat
+abbrev pub flat_answer : Reply Answered → AnswerFlat
 flat_answer a = flat_answered a.reply a.run
 
 -- 01, 'Result'

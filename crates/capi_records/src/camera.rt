@@ -3,6 +3,7 @@
 ghost use Rattle.std.specs.Prelude.{◌≡◌};
 ghost use Rattle.capi_records.specs.Camera.{flat_sum, matrix_of, flat_matrix, flat_inverse, flat_estimate};
 
+use crate::lists::refusal_number;
 use camera_models::intrinsics::FxFyCxCy;
 use common::Refusal;
 
@@ -49,12 +50,9 @@ impl From<Result<f64, Refusal>> for SumReply {
     ghost from_gives = { λ sum reply. reply ≡ flat_sum sum };
 
     fn from(sum: Result<f64, Refusal>) -> SumReply {
-        match sum {
-            Ok(value) => SumReply { number: 0, value },
-            Err(refusal) => SumReply {
-                number: refusal.into(),
-                value: 0.0,
-            },
+        SumReply {
+            number: refusal_number(sum),
+            value: sum.unwrap_or_default(),
         }
     }
 }
@@ -94,15 +92,9 @@ impl From<Result<[[f64; 3]; 3], Refusal>> for InverseReply {
     ghost from_gives = { λ inverse reply. reply ≡ flat_inverse inverse };
 
     fn from(inverse: Result<[[f64; 3]; 3], Refusal>) -> InverseReply {
-        match inverse {
-            Ok(rows) => InverseReply {
-                number: 0,
-                inverse: rows.into(),
-            },
-            Err(refusal) => InverseReply {
-                number: refusal.into(),
-                inverse: Matrix3::default(),
-            },
+        InverseReply {
+            number: refusal_number(inverse),
+            inverse: inverse.unwrap_or_default().into(),
         }
     }
 }
@@ -111,12 +103,9 @@ impl From<Result<FxFyCxCy, Refusal>> for CameraReply {
     ghost from_gives = { λ estimated reply. reply ≡ flat_estimate estimated };
 
     fn from(estimated: Result<FxFyCxCy, Refusal>) -> CameraReply {
-        match estimated {
-            Ok(camera) => CameraReply { number: 0, camera },
-            Err(refusal) => CameraReply {
-                number: refusal.into(),
-                camera: FxFyCxCy::default(),
-            },
+        CameraReply {
+            number: refusal_number(estimated),
+            camera: estimated.unwrap_or_default(),
         }
     }
 }

@@ -1,12 +1,13 @@
 // A line of the journal, and the replies of its writer and its reader.
 // Kept: the C interface names the structs of this file, field by field.
 ghost use Rattle.std.specs.Prelude.{◌≡◌};
-ghost use Rattle.capi_records.specs.Journal.{recorded_from, line_from, flat_line, flat_written, flat_read};
+ghost use Rattle.capi_records.specs.Journal.{fields_in, line_from, flat_line, flat_written, flat_read};
 
+use crate::lists::refusal_number;
 use camera_models::intrinsics::FxFyCxCy;
 use common::Refusal;
-use journal_line::{Line, Read, Recorded, ScoredFields};
-use score_outcome::SkipReason;
+use journal_line::outcome::recorded_with;
+use journal_line::{Line, Read, ScoredFields};
 use seed_rules::CandidateSeed;
 
 // A line's fields. Scored where skipped is 0; else skipped is the reason, and score and all behind it have no meaning.
@@ -43,30 +44,29 @@ pub struct ReadReply {
     pub next: usize,
 }
 
-// What C's line records. A reason that is none of the four is refused, as a line that the journal can't hold.
-fn recorded_in(flat: LineRecord) -> Result<Recorded, Refusal>
-    ensures { result ≡ recorded_from flat }
-{
-    if flat.skipped != 0 {
-        let reason = SkipReason::try_from(flat.skipped)?;
-        return Ok(Err(reason));
+// What a scored line records; a skipped line's numbers have no meaning.
+impl From<LineRecord> for ScoredFields {
+    ghost from_gives = { λ flat fields. fields ≡ fields_in flat };
+
+    fn from(flat: LineRecord) -> ScoredFields {
+        ScoredFields {
+            score: flat.score,
+            mean: flat.mean,
+            k: flat.k,
+            p1: flat.p1,
+            p2: flat.p2,
+        }
     }
-    Ok(Ok(ScoredFields {
-        score: flat.score,
-        mean: flat.mean,
-        k: flat.k,
-        p1: flat.p1,
-        p2: flat.p2,
-    }))
 }
 
+// A skip number that is no reason's is refused, as a line that the journal can't hold.
 impl TryFrom<LineRecord> for Line {
     type Error = Refusal;
 
     ghost try_from_gives = { λ flat line. line ≡ line_from flat };
 
     fn try_from(flat: LineRecord) -> Result<Self, Refusal> {
-        let outcome = recorded_in(flat)?;
+        let outcome = recorded_with(flat.skipped, flat.into())?;
         Ok(Line {
             number: flat.number,
             round: flat.round,
@@ -107,12 +107,9 @@ impl From<Result<usize, Refusal>> for WriteReply {
     ghost from_gives = { λ written reply. reply ≡ flat_written written };
 
     fn from(written: Result<usize, Refusal>) -> WriteReply {
-        match written {
-            Ok(len) => WriteReply { number: 0, len },
-            Err(refusal) => WriteReply {
-                number: refusal.into(),
-                len: 0,
-            },
+        WriteReply {
+            number: refusal_number(written),
+            len: written.unwrap_or_default(),
         }
     }
 }

@@ -33,13 +33,13 @@ pub struct CenterReply {
     pub center: Pt2,
 }
 
-// 0 where nothing is refused.
+// 0 where nothing is refused, whatever there is instead.
 // Kept: neither Result nor u8 is a type of a crate here, so From can't be written for them in any: a type around the number would be no plainer.
-pub fn refusal_number(done: Result<(), Refusal>) -> u8
+pub fn refusal_number<T: Copy>(done: Result<T, Refusal>) -> u8
     ensures { result ≡ refusal_number done }
 {
     match done {
-        Ok(()) => 0,
+        Ok(_) => 0,
         Err(refusal) => refusal.into(),
     }
 }
@@ -48,17 +48,18 @@ impl From<Result<Transform, Refusal>> for NormalizeReply {
     ghost from_gives = { λ normalized reply. reply ≡ flat_normalized normalized };
 
     fn from(normalized: Result<Transform, Refusal>) -> NormalizeReply {
-        match normalized {
-            Ok(transform) => NormalizeReply {
-                number: 0,
-                t00: transform.t00,
-                t02: transform.t02,
-                t12: transform.t12,
-            },
-            Err(refusal) => NormalizeReply {
-                number: refusal.into(),
-                ..NormalizeReply::default()
-            },
+        // A transform of zeros is none, so the type has no default.
+        let zeros = Transform {
+            t00: 0.0,
+            t02: 0.0,
+            t12: 0.0,
+        };
+        let transform = normalized.unwrap_or(zeros);
+        NormalizeReply {
+            number: refusal_number(normalized),
+            t00: transform.t00,
+            t02: transform.t02,
+            t12: transform.t12,
         }
     }
 }
@@ -67,15 +68,9 @@ impl From<Result<bool, Refusal>> for LineReply {
     ghost from_gives = { λ test reply. reply ≡ flat_line_test test };
 
     fn from(test: Result<bool, Refusal>) -> LineReply {
-        match test {
-            Ok(yes) => LineReply {
-                number: 0,
-                collinear: yes.into(),
-            },
-            Err(refusal) => LineReply {
-                number: refusal.into(),
-                collinear: 0,
-            },
+        LineReply {
+            number: refusal_number(test),
+            collinear: test.unwrap_or_default().into(),
         }
     }
 }
@@ -84,12 +79,9 @@ impl From<Result<Pt2, Refusal>> for CenterReply {
     ghost from_gives = { λ center reply. reply ≡ flat_center center };
 
     fn from(center: Result<Pt2, Refusal>) -> CenterReply {
-        match center {
-            Ok(center) => CenterReply { number: 0, center },
-            Err(refusal) => CenterReply {
-                number: refusal.into(),
-                center: Pt2::default(),
-            },
+        CenterReply {
+            number: refusal_number(center),
+            center: center.unwrap_or_default(),
         }
     }
 }

@@ -3,6 +3,7 @@
 ghost use Rattle.std.specs.Prelude.{◌≡◌};
 ghost use Rattle.capi_records.specs.Plate.{flat_plate};
 
+use crate::lists::refusal_number;
 use common::Refusal;
 use zhang::Conic;
 
@@ -18,12 +19,9 @@ impl From<Result<Conic, Refusal>> for PlateReply {
     ghost from_gives = { λ plate reply. reply ≡ flat_plate plate };
 
     fn from(plate: Result<Conic, Refusal>) -> PlateReply {
-        match plate {
-            Ok(conic) => PlateReply { number: 0, conic },
-            Err(refusal) => PlateReply {
-                number: refusal.into(),
-                conic: Conic::default(),
-            },
+        PlateReply {
+            number: refusal_number(plate),
+            conic: plate.unwrap_or_default(),
         }
     }
 }

@@ -1,11 +1,11 @@
 // The run's record with its flags as bytes, and the ways there and back.
-// Kept: the C interface names the structs of this file, field by field.
+// Kept: each struct mirrors one of the search's with a flag in it, or one that holds such: C may hand in any byte, and one that is neither 0 nor 1 is no bool.
 ghost use Rattle.std.specs.Prelude.{◌≡◌};
 ghost use Rattle.capi_records.specs.Record.{options_from, flat_options, place_from, flat_place, waiting_from, flat_waiting, best_from, flat_best, last_from, flat_last, run_from, flat_run};
 
 use crate::journal::LineRecord;
 use camera_models::math::Pt2;
-use journal_line::{Counts, ScoredFields};
+use journal_line::Counts;
 use score_best::{Best, Candidate};
 use search_record::run::{LastAnswer, Options, Place, Run, Waiting};
 use seed_rules::CandidateSeed;
@@ -183,13 +183,7 @@ impl From<LastRecord> for LastAnswer {
             round: line.round,
             seed: line.seed,
             skipped: line.skipped,
-            scored: ScoredFields {
-                score: line.score,
-                mean: line.mean,
-                k: line.k,
-                p1: line.p1,
-                p2: line.p2,
-            },
+            scored: line.into(),
         }
     }
 }

@@ -3,6 +3,7 @@
 ghost use Rattle.std.specs.Prelude.{◌≡◌};
 ghost use Rattle.capi_records.specs.Run.{flat_started, flat_next, flat_answer, flat_result, flat_outlook, flat_stopped, flat_last_line, finding_of, copied, copy_count};
 
+use crate::lists::refusal_number;
 use crate::record::{LastRecord, RunRecord};
 use common::Refusal;
 use journal_line::Line;
@@ -67,15 +68,9 @@ impl From<Result<Run, Refusal>> for StartFlat {
 
     #[tactic(auto, unfolding(score_best::specs::Best::no_best))]
     fn from(started: Result<Run, Refusal>) -> StartFlat {
-        match started {
-            Ok(run) => StartFlat {
-                number: 0,
-                run: run.into(),
-            },
-            Err(refusal) => StartFlat {
-                number: refusal.into(),
-                ..StartFlat::default()
-            },
+        StartFlat {
+            number: refusal_number(started),
+            run: started.unwrap_or_default().into(),
         }
     }
 }
@@ -126,15 +121,9 @@ impl From<Result<Candidate, Refusal>> for ResultFlat {
 
     #[tactic(auto, unfolding(score_best::specs::Best::no_best))]
     fn from(best: Result<Candidate, Refusal>) -> ResultFlat {
-        match best {
-            Ok(candidate) => ResultFlat {
-                number: 0,
-                candidate,
-            },
-            Err(refusal) => ResultFlat {
-                number: refusal.into(),
-                ..ResultFlat::default()
-            },
+        ResultFlat {
+            number: refusal_number(best),
+            candidate: best.unwrap_or_default(),
         }
     }
 }

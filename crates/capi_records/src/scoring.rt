@@ -3,6 +3,7 @@
 ghost use Rattle.std.specs.Prelude.{◌≡◌};
 ghost use Rattle.capi_records.specs.Scoring.{flat_error_count};
 
+use crate::lists::refusal_number;
 use common::Refusal;
 use score_rows::ErrorSum;
 
@@ -19,16 +20,11 @@ impl From<Result<ErrorSum, Refusal>> for ErrorCountReply {
     ghost from_gives = { λ errors reply. reply ≡ flat_error_count errors };
 
     fn from(errors: Result<ErrorSum, Refusal>) -> ErrorCountReply {
-        match errors {
-            Ok(errors) => ErrorCountReply {
-                number: 0,
-                sum: errors.sum,
-                counted: errors.count as usize,
-            },
-            Err(refusal) => ErrorCountReply {
-                number: refusal.into(),
-                ..ErrorCountReply::default()
-            },
+        let total = errors.unwrap_or_default();
+        ErrorCountReply {
+            number: refusal_number(errors),
+            sum: total.sum,
+            counted: total.count as usize,
         }
     }
 }

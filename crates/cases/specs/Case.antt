@@ -38,7 +38,7 @@ pub data Case : Type 0 where
 -- that the operation's definition gives the answer: for the lists of seeds, with any camera
 abbrev pub Holds : Case → Type 0
 Holds (sqrt x r) = root binary64 x ≡ r
-Holds (tilt sinX cosX sinY cosY v) = tilt_verdict (tilt_projection_matrix sinX cosX sinY cosY) ≡ v
+Holds (tilt sinX cosX sinY cosY v) = tilt_verdict (tilt_projection_matrix (record { sin_x = sinX; cos_x = cosX; sin_y = sinY; cos_y = cosY })) ≡ v
 Holds (forward h p q) = apply_homography h p ≡ q
 Holds (backward h p q) = apply_homography_inverse h p ≡ q
 Holds (centre pixels r) = center_reply pixels ≡ r

@@ -5,4 +5,5 @@ pub mod Checks
 pub mod ChecksLaws
 pub mod Table
 pub mod Tests
+pub mod Results
 pub mod Slices

@@ -9,111 +9,77 @@ ghost use Rattle.common.specs.Number.{number_of};
 #[derive(Clone, Copy, Debug, PartialEq, Eq)]
 pub enum Refusal {
     // Start: fewer than 3 views
-    TooFewViews,
+    TooFewViews = 1,
     // Start: an empty list of tilts
-    NoTilts,
+    NoTilts = 2,
     // Start: the bound of the tilts isn't finite or not above 0
-    BadBound,
+    BadBound = 3,
     // Start: rounds are asked for, and their step isn't finite or not above 0
-    BadStep,
+    BadStep = 4,
     // Start: more seeds or rounds than a run can have, or a decomposition that isn't in sixes
-    TooMany,
+    TooMany = 5,
     // Start: a decomposition seed with a number that isn't finite, a focal length not above 0, or a tilt beyond the bound
-    BadSeed,
+    BadSeed = 6,
     // Start: a typed tilt that isn't finite
-    TiltNotFinite,
+    TiltNotFinite = 7,
     // Start: a lent list that is too short for the run's seeds
-    SmallBuffer,
+    SmallBuffer = 8,
     // Next: a seed waits for its answer
-    SeedWaits,
+    SeedWaits = 9,
     // a call: the lent list is shorter than Start asked for
-    ShortList,
+    ShortList = 10,
     // Next, Result: the run is over, and no candidate was scored
-    NothingScored,
+    NothingScored = 11,
     // Answer: no seed waits
-    NoSeedWaits,
+    NoSeedWaits = 12,
     // Answer: too many rows, not four numbers a flag, or a flag above 1
-    BadRows,
+    BadRows = 13,
     // Result: the run isn't over
-    NotOver,
+    NotOver = 14,
     // a tilt whose determinant is 0
-    SingularTilt,
+    SingularTilt = 15,
     // six numbers that are no camera's conic
-    DegenerateViews,
+    DegenerateViews = 16,
     // a list of points of odd length, or of more than 400
-    BadLength,
+    BadLength = 17,
     // a destination that is too short
-    NoRoom,
+    NoRoom = 18,
     // no points, or a mean distance of at most 2^-52
-    NoSpread,
+    NoSpread = 19,
     // design rows: a source that isn't finite
-    SourceNotFinite,
+    SourceNotFinite = 20,
     // design rows: a destination that isn't finite
-    DestinationNotFinite,
+    DestinationNotFinite = 21,
     // design rows: fewer than 4 points
-    TooFewPoints,
+    TooFewPoints = 22,
     // design rows: more points on one side
-    CountsDiffer,
+    CountsDiffer = 23,
     // design rows: source points on a line
-    SourceCollinear,
+    SourceCollinear = 24,
     // design rows: destination points on a line
-    DestinationCollinear,
+    DestinationCollinear = 25,
     // a tilt that is NaN or beyond 0.5 in size, or such a bound
-    BeyondHalf,
+    BeyondHalf = 27,
     // the writer: a short buffer, or a line or total that the journal can't hold
-    NotWritable,
+    NotWritable = 28,
     // the reader: bytes that aren't a line
-    NotOfForm,
+    NotOfForm = 29,
     // running a journal again: a line that isn't the run's next answer
-    NotTheRun,
+    NotTheRun = 30,
     // Start about one axis: tilts about y that aren't the single 0
-    TwoAxes,
+    TwoAxes = 31,
     // Start about one axis: a decomposition seed with a tilt about y
-    TiltedSeed,
+    TiltedSeed = 32,
     // Start: a share of the rows above 100 per cent
-    ShareAboveAll,
+    ShareAboveAll = 33,
     // a camera for which no plate has a known answer
-    NoPlate,
+    NoPlate = 34,
 }
 
 impl From<Refusal> for u8 {
     ghost from_gives = { λ refusal number. number ≡ number_of refusal };
 
     fn from(refusal: Refusal) -> u8 {
-        match refusal {
-            Refusal::TooFewViews => 1,
-            Refusal::NoTilts => 2,
-            Refusal::BadBound => 3,
-            Refusal::BadStep => 4,
-            Refusal::TooMany => 5,
-            Refusal::BadSeed => 6,
-            Refusal::TiltNotFinite => 7,
-            Refusal::SmallBuffer => 8,
-            Refusal::SeedWaits => 9,
-            Refusal::ShortList => 10,
-            Refusal::NothingScored => 11,
-            Refusal::NoSeedWaits => 12,
-            Refusal::BadRows => 13,
-            Refusal::NotOver => 14,
-            Refusal::SingularTilt => 15,
-            Refusal::DegenerateViews => 16,
-            Refusal::BadLength => 17,
-            Refusal::NoRoom => 18,
-            Refusal::NoSpread => 19,
-            Refusal::SourceNotFinite => 20,
-            Refusal::DestinationNotFinite => 21,
-            Refusal::TooFewPoints => 22,
-            Refusal::CountsDiffer => 23,
-            Refusal::SourceCollinear => 24,
-            Refusal::DestinationCollinear => 25,
-            Refusal::BeyondHalf => 27,
-            Refusal::NotWritable => 28,
-            Refusal::NotOfForm => 29,
-            Refusal::NotTheRun => 30,
-            Refusal::TwoAxes => 31,
-            Refusal::TiltedSeed => 32,
-            Refusal::ShareAboveAll => 33,
-            Refusal::NoPlate => 34,
-        }
+        refusal as u8
     }
 }

@@ -1,4 +1,4 @@
-// Rust's `abs`, `is_finite`, `min`, `max`, `clamp`, `is_nan`, `to_bits` and `from_bits` on f64, each equal to a definition over the kit's IEEE 754 values,
+// Rust's `abs`, `is_finite`, `min`, `max`, `clamp`, `to_bits` and `from_bits` on f64, each equal to a definition over the kit's IEEE 754 values,
 // and whether a list's numbers are all finite.
 // `min` and `max` keep their first argument where zeros of two signs meet, which Rust leaves open.
 
@@ -11,6 +11,7 @@ ghost use Rattle.float.specs.Float.{abs_of, is_finite, min_of, max_of, clamp_of,
 ghost use Rattle.float.specs.Finite.{all_finite};
 
 // The magnitude: -0 becomes +0, and NaN stays.
+#[tactic(auto, using(crate::proofs::Library::without_sign))]
 pub fn abs(x: f64) -> f64
     ensures { result ≡ abs_of x }
 {
@@ -18,6 +19,7 @@ pub fn abs(x: f64) -> f64
 }
 
 // Whether x is neither an infinity nor NaN.
+#[tactic(auto, using(crate::proofs::Library::finite_same))]
 pub fn is_finite(x: f64) -> bool
     ensures { result ≡ is_finite x }
 {
@@ -72,14 +74,8 @@ pub fn clamp(x: f64, low: f64, high: f64) -> f64
     x
 }
 
-// Whether x is no number.
-pub fn is_nan(x: f64) -> bool
-    ensures { result ≡ is_nan x }
-{
-    x.is_nan()
-}
-
 // The bits of x; of any NaN the one pattern, whatever bits the machine holds.
+#[tactic(auto, using(crate::proofs::Library::bits_same))]
 pub fn to_bits(x: f64) -> u64
     ensures { result ≡ bits_of x }
 {

@@ -5,7 +5,7 @@ use Rattle.std.specs.Float.Ieee.{lt, is_nan}
 use Rattle.common.specs.Tests.{case}
 use Rattle.float.specs.Float.{min_of}
 use Rattle.float.specs.Order.{lt_irrefl}
-use Rattle.float_laws.specs.NotBelow.{lt_trans}
+use Rattle.float_laws.specs.NotBelow.{not_below_trans, lt_trans}
 
 pub min_number : (p q : Float) → is_nan p ≡ false → is_nan q ≡ false → is_nan (min_of p q) ≡ false
 unfolding min_of
@@ -23,3 +23,10 @@ min_second p q n = rw n (case (lt q p) (λ l. rw l (lt_irrefl q)) (λ l. rw l l)
 pub min_one : (p q : Float) → (min_of p q ≡ p) ⊎ (min_of p q ≡ q)
 unfolding min_of
 min_one p q = case (is_nan p) (λ n. inr (rw n)) (λ n. case (lt q p) (λ l. inr (rw (n, l))) (λ l. inl (rw (n, l))))
+
+pub min_assoc : (p q r : Float) → is_nan p ≡ false → is_nan q ≡ false → min_of (min_of p q) r ≡ min_of p (min_of q r)
+unfolding min_of
+min_assoc p q r n o =
+    case (lt q p)
+    (λ l. case (lt r q) (λ k. rw (l, n, o, k, lt_trans r q p n k l)) (λ k. rw (l, n, o, k, l)))
+    (λ l. case (lt r q) (λ k. rw (l, n, o, k, n)) (λ k. rw (l, n, o, k, n, l, not_below_trans r q p o k l)))

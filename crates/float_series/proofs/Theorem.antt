@@ -9,12 +9,11 @@ use Rattle.float.specs.Literals.{one₆₄, zero_of}
 use Rattle.float_laws.specs.Fraction.{Fraction}
 use Rattle.float_laws.specs.Rounded.{Within, within, value_of, value_pos}
 use Rattle.float_laws.specs.Integers.{apart, near_apart}
-use Rattle.float_series.specs.Series.{cosines, sines, first, series_of, exact_of}
+use Rattle.float_series.specs.Series.{Series, cosines, sines, first, series_of, exact_of}
 use Rattle.float_series.specs.Exact.{terms_pos}
 use Rattle.float_series.specs.Answer.{beyond_half, answer_of}
 use Rattle.float_series.specs.Bound.{series_within}
 use Rattle.float_series.proofs.Ranges.{SineCosine, series_ranged}
-use Rattle.float_series.specs.declared.Series.{Series}
 use Rattle.common.specs.declared.Refusal.{Refusal}
 use Rattle.common.specs.declared.Refusal.TheVariants.{BeyondHalf}
 

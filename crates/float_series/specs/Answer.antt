@@ -5,8 +5,7 @@ use Rattle.float.specs.Float.{abs_of}
 use Rattle.float.specs.Literals.{half₆₄}
 use Rattle.common.specs.declared.Refusal.{Refusal}
 use Rattle.common.specs.declared.Refusal.TheVariants.{BeyondHalf}
-use Rattle.float_series.specs.Series.{series_of}
-use Rattle.float_series.specs.declared.Series.{Series}
+use Rattle.float_series.specs.Series.{Series, series_of}
 
 unfoldable pub beyond_half : Float → Bool
 beyond_half x = is_nan x || lt half₆₄ (abs_of x)

@@ -8,9 +8,7 @@ use Rattle.std.specs.Float.Ieee.Fits.{down_pos}
 use Rattle.float_laws.specs.Fraction.{Fraction, signed, ◌⊕◌, ◌⊗◌, size, Near, near_sym, times_comm, times_one, size_times, size_signed, AtMost}
 use Rattle.float_laws.specs.Rounded.{value, Within, within, round_near, exact}
 use Rattle.float_laws.specs.Within.{Small, within_trans, within_weaken, add_within, mul_within}
-use Rattle.float_series.specs.Series.{factorial, negative, coefficient_of, horner_of, series_of, power, inverse, terms, exact_of}
-use Rattle.float_series.specs.declared.Series.{Series}
-use Rattle.float_series.specs.declared.Series.TheVariants.{Cosines, Sines}
+use Rattle.float_series.specs.Series.{Series, cosines, sines, factorial, negative, coefficient_of, horner_of, series_of, power, inverse, terms, exact_of}
 use Rattle.float_series.specs.Exact.{nested, factorial_pos, square_at_most, nested_small, terms_nested}
 
 coefficient_within : (n : ℕ) → Within (2 ^ 53) 1 (coefficient_of n) (inverse n)
@@ -69,5 +67,5 @@ half_size s m e h = record { some = down_pos e; small = rw (size_signed s (m * u
 
 pub series_within : (w : Series) (s : Bool) (m : ℕ) (e : ℤ) → 2 * (m * up e) ≤ down e → Within (2 ^ 50) 1 (series_of w (fin s m e)) (exact_of w (value s m e))
 unfolding series_of
-series_within Cosines s m e h = even_within (fin s m e) (value s m e) (exact s m e) (half_size s m e h) 7
-series_within Sines s m e h = odd_within (fin s m e) (value s m e) (exact s m e) (half_size s m e h) 7
+series_within cosines s m e h = even_within (fin s m e) (value s m e) (exact s m e) (half_size s m e h) 7
+series_within sines s m e h = odd_within (fin s m e) (value s m e) (exact s m e) (half_size s m e h) 7

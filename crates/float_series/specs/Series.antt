@@ -4,20 +4,15 @@ use Rattle.std.specs.Float.{binary64}
 use Rattle.std.specs.Float.Ieee.{round}
 use Rattle.float.specs.Binary64.{◌+₆₄◌, ◌*₆₄◌}
 use Rattle.float_laws.specs.Fraction.{Fraction, signed, ◌⊕◌, ◌⊗◌}
-use Rattle.float_series.specs.declared.Series.{Series}
-use Rattle.float_series.specs.declared.Series.TheVariants.{Cosines, Sines}
 
--- the two, by the names that contracts use
-abbrev pub cosines : Series
-cosines = Cosines
-
-abbrev pub sines : Series
-sines = Sines
+-- which of the two power series
+pub data Series : Type 0 where
+  cosines sines : Series
 
 -- the power that the series starts with; it goes on in steps of two
 abbrev pub first : Series → ℕ
-first Cosines = 0
-first Sines = 1
+first cosines = 0
+first sines = 1
 
 abbrev pub factorial : ℕ → ℕ
 factorial zero = 1
@@ -39,8 +34,8 @@ horner_of q (suc j) n = horner_of q j (suc (suc n)) *₆₄ q +₆₄ coefficien
 
 unfoldable pub series_of : Series → Float → Float
 unfolding horner_of
-series_of Cosines x = horner_of (x *₆₄ x) 7 0
-series_of Sines x = horner_of (x *₆₄ x) 7 1 *₆₄ x
+series_of cosines x = horner_of (x *₆₄ x) 7 0
+series_of sines x = horner_of (x *₆₄ x) 7 1 *₆₄ x
 
 -- ---- the exact value: the first eight terms of the power series, a fraction of whole numbers
 unfoldable pub power : Fraction → ℕ → Fraction

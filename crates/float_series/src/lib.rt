@@ -3,19 +3,12 @@
 
 #![tactic(auto)]
 
-ghost use Rattle.std.specs.Prelude.{◌≡◌, ◌≤◌, ◌<◌};
+ghost use Rattle.std.specs.Prelude.{◌≡◌, ◌≤◌, ◌<◌, cond, Ok, Err};
+ghost use Rattle.common.specs.declared.Refusal.TheVariants.{BeyondHalf};
 ghost use Rattle.float_series.specs.Series.{sines, cosines, coefficient_of, horner_of, series_of};
 ghost use Rattle.float_series.specs.Answer.{beyond_half, answer_of};
 
 use common::Refusal;
-
-// Which of the two power series.
-// Kept: a value and no closure: the definition of the answer takes the series as a value too.
-#[derive(Clone, Copy)]
-pub enum Series {
-    Cosines,
-    Sines,
-}
 
 // Entry n: 1 / n!, with the sign of the series' term, rounded to nearest.
 const COEFFICIENTS: [f64; 16] = [
@@ -57,55 +50,48 @@ fn horner(first: usize, q: f64) -> f64
     sum
 }
 
-// The sum of a series, for any number; of one that `beyond` passes it is the sine or the cosine.
+// The two sums, for any number; of one that `beyond` passes they are its sine and its cosine.
 #[tactic(auto, unfolding(crate::specs::Series::series_of))]
-fn series_sum(series: Series, x: f64) -> f64
-    ensures { result ≡ series_of series x }
-{
-    match series {
-        Series::Cosines => horner(0, x * x),
-        Series::Sines => horner(1, x * x) * x,
-    }
-}
-
 pub fn sine_sum(x: f64) -> f64
     ensures { result ≡ series_of sines x }
 {
-    series_sum(Series::Sines, x)
+    horner(1, x * x) * x
 }
 
+#[tactic(auto, unfolding(crate::specs::Series::series_of))]
 pub fn cosine_sum(x: f64) -> f64
     ensures { result ≡ series_of cosines x }
 {
-    series_sum(Series::Cosines, x)
+    horner(0, x * x)
 }
 
 // What is refused: NaN, and what is beyond 0.5 in size.
 pub fn beyond(x: f64) -> bool
     ensures { result ≡ beyond_half x }
 {
-    float::is_nan(x) | (x < -0.5) | (0.5 < x)
+    x.is_nan() | (x < -0.5) | (0.5 < x)
 }
 
-// The sum, or a refusal.
-#[tactic(auto, unfolding(crate::specs::Answer::answer_of))]
-fn answer(series: Series, x: f64) -> Result<f64, Refusal>
-    ensures { result ≡ answer_of series x }
+// The number itself, or a refusal.
+fn within_half(x: f64) -> Result<f64, Refusal>
+    ensures { result ≡ cond (beyond_half x) (Err BeyondHalf) (Ok x) }
 {
     if beyond(x) {
         return Err(Refusal::BeyondHalf);
     }
-    Ok(series_sum(series, x))
+    Ok(x)
 }
 
+#[tactic(auto, unfolding(crate::specs::Answer::answer_of))]
 pub fn sine(x: f64) -> Result<f64, Refusal>
     ensures { result ≡ answer_of sines x }
 {
-    answer(Series::Sines, x)
+    within_half(x).map(sine_sum)
 }
 
+#[tactic(auto, unfolding(crate::specs::Answer::answer_of))]
 pub fn cosine(x: f64) -> Result<f64, Refusal>
     ensures { result ≡ answer_of cosines x }
 {
-    answer(Series::Cosines, x)
+    within_half(x).map(cosine_sum)
 }

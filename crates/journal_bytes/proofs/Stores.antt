@@ -1,11 +1,9 @@
 -- Runs of stores to a buffer, one after the other. Assumes nothing.
-use Rattle.std.proofs.Common.{ℕ, suc, ◌+◌, ◌-◌, ◌*◌, ◌/◌, ◌%◌, ◌<◌, ◌≤◌, ◌≡◌, refl, sym, ap, ◌∙◌, subst, List, [], ◌∷◌, ◌++◌, map, add-zero, zero-add, add-one, arith, Float, length, set, get_or, drop, replicate, length-append, drop_of_length-le, drop-cons}
+use Rattle.std.proofs.Common.{ℕ, suc, ◌+◌, ◌-◌, ◌*◌, ◌/◌, ◌%◌, ◌<◌, ◌≤◌, ◌≡◌, refl, sym, ap, ◌∙◌, subst, List, [], ◌∷◌, ◌++◌, map, add-zero, zero-add, add-one, arith, length, set, get_or, drop, replicate, length-append, drop_of_length-le, drop-cons}
 use lib.Seq.{sets, sets-eq, set_comm}
-use Rattle.float.specs.Float.{bits_of}
-use Rattle.journal_line.specs.Line.{digit_byte, digits, decimal_width, decimal, real}
+use Rattle.journal_line.specs.Line.{digit_byte, digits}
 use Rattle.journal_line.specs.Steps.{comma_fields, Stored}
-use Rattle.journal_line.proofs.DigitLaws.{digits_length, decimal_length}
-use Rattle.journal_line.proofs.FieldLaws.{real_length}
+use Rattle.journal_line.proofs.DigitLaws.{digits_length}
 
 -- ---- one after the other
 -- one run behind another
@@ -59,50 +57,38 @@ pub field_then : (f : List ℕ) (fs : List (List ℕ)) (l : List ℕ) (i j : ℕ
 unfolding comma_fields
 field_then f fs l i j e = rw add-one (sym (sets_then f (comma_fields fs) (set l i 44) (suc i) j (omega arith)))
 
--- a turn of the loop that stores reals
-pub reals_turn : (l whole : List ℕ) (at i : ℕ) (xs : List Float) (z : Float) (b : ℕ) → i < length xs → b ≡ bits_of (get_or xs i z)
-    → sets l (at + 17 * i) (comma_fields (map real (drop i xs))) ≡ whole
-    → (m : List ℕ) → m ≡ sets (set l (at + 17 * i) 44) (at + 17 * i + 1) (digits 16 16 b)
-    → sets m (at + 17 * (i + 1)) (comma_fields (map real (drop (i + 1) xs))) ≡ whole
-unfolding real
-reals_turn l whole at i xs z b h e w m s =
-    let x = get_or xs i z in
-    let d : drop i xs ≡ x ∷ drop (i + 1) xs = rw add-one (drop-cons xs i z h) in
-    rw (s, e) (field_then (real x) (map real (drop (i + 1) xs)) l (at + 17 * i) (at + 17 * (i + 1)) (omega (arith, real_length x))
-    ∙ ap (λ (ys : List Float). sets l (at + 17 * i) (comma_fields (map real ys))) (sym d) ∙ w)
+-- one field for each of some values
+module _ {A : Type 0} (field : A → List ℕ) (xs : List A) (i : ℕ) where
+  drop_one : (z : A) → i < length xs → drop i xs ≡ get_or xs i z ∷ drop (i + 1) xs
+  drop_one z h = rw add-one (drop-cons xs i z h)
 
-pub no_reals : (l whole : List ℕ) (p i : ℕ) (xs : List Float) → length xs ≤ i → sets l p (comma_fields (map real (drop i xs))) ≡ whole → l ≡ whole
-unfolding comma_fields
-no_reals l whole p i xs h w = rw (drop_of_length-le xs h) at w
+  -- a turn of a loop that stores them: the i-th, then those behind it
+  pub fields_turn : (l whole : List ℕ) (place next : ℕ) (z : A) → i < length xs → place + 1 + length (field (get_or xs i z)) ≡ next
+      → sets l place (comma_fields (map field (drop i xs))) ≡ whole
+      → (m : List ℕ) → m ≡ sets (set l place 44) (place + 1) (field (get_or xs i z))
+      → sets m next (comma_fields (map field (drop (i + 1) xs))) ≡ whole
+  fields_turn l whole place next z h e w m s =
+      rw s (field_then (field (get_or xs i z)) (map field (drop (i + 1) xs)) l place next e
+      ∙ ap (λ (ys : List A). sets l place (comma_fields (map field ys))) (sym (drop_one z h)) ∙ w)
 
--- a turn of the loop that stores decimals
-module _ (place next i : ℕ) (ns : List ℕ) (z : ℕ) (h : i < length ns) (e : next ≡ place + 1 + decimal_width (get_or ns i z)) where
-  drop_one : drop i ns ≡ get_or ns i z ∷ drop (i + 1) ns
-  drop_one = rw add-one (drop-cons ns i z h)
-
-  pub decimals_turn : (l whole : List ℕ) → sets l place (comma_fields (map decimal (drop i ns))) ≡ whole → (m : List ℕ) → m ≡ sets (set l place 44) (place + 1) (decimal (get_or ns i z))
-      → sets m next (comma_fields (map decimal (drop (i + 1) ns))) ≡ whole
-  decimals_turn l whole w m s =
-      let n = get_or ns i z in
-      rw s (field_then (decimal n) (map decimal (drop (i + 1) ns)) l place next (omega (arith, decimal_length n))
-      ∙ ap (λ (ks : List ℕ). sets l place (comma_fields (map decimal ks))) (sym drop_one) ∙ w)
-
-  -- the place behind them all
-  pub decimals_end : (end : ℕ) → place + length (comma_fields (map decimal (drop i ns))) ≡ end → next + length (comma_fields (map decimal (drop (i + 1) ns))) ≡ end
+  -- the place behind them all, in a turn and at the end
+  pub fields_end : (place next end : ℕ) (z : A) → i < length xs → place + 1 + length (field (get_or xs i z)) ≡ next
+      → place + length (comma_fields (map field (drop i xs))) ≡ end → next + length (comma_fields (map field (drop (i + 1) xs))) ≡ end
   unfolding comma_fields
-  decimals_end end w =
-      let n = get_or ns i z in
-      let f : place + length (comma_fields (map decimal (n ∷ drop (i + 1) ns))) ≡ end = ap (λ (ks : List ℕ). place + length (comma_fields (map decimal ks))) (sym drop_one) ∙ w in
-      omega (arith, length-append (decimal n) (comma_fields (map decimal (drop (i + 1) ns))), decimal_length n)
+  fields_end place next end z h e w =
+      let x = get_or xs i z in
+      let f : place + length (comma_fields (map field (x ∷ drop (i + 1) xs))) ≡ end = ap (λ (ys : List A). place + length (comma_fields (map field ys))) (sym (drop_one z h)) ∙ w in
+      omega (arith, e, length-append (field x) (comma_fields (map field (drop (i + 1) xs))))
 
-module _ (i : ℕ) (ns : List ℕ) (h : length ns ≤ i) where
-  pub no_decimals : (l whole : List ℕ) (place : ℕ) → sets l place (comma_fields (map decimal (drop i ns))) ≡ whole → l ≡ whole
+  pub at_fields_end : (place end : ℕ) → length xs ≤ i → place + length (comma_fields (map field (drop i xs))) ≡ end → place ≡ end
   unfolding comma_fields
-  no_decimals l whole place w = rw (drop_of_length-le ns h) at w
+  at_fields_end place end h w = let f : place + 0 ≡ end = rw (drop_of_length-le xs h) at w in omega arith
 
-  pub at_decimals_end : (place end : ℕ) → place + length (comma_fields (map decimal (drop i ns))) ≡ end → place ≡ end
+  -- behind the last none is left to store
+  pub fields_stored : (l out : List ℕ) (at place : ℕ) → length xs ≤ i → sets l place (comma_fields (map field (drop i xs))) ≡ sets out at (comma_fields (map field xs))
+      → length l ≡ length out → Stored out at (comma_fields (map field xs)) l
   unfolding comma_fields
-  at_decimals_end place end w = let f : place + 0 ≡ end = rw (drop_of_length-le ns h) at w in omega arith
+  fields_stored l out at place h w e = record { now_is = rw (drop_of_length-le xs h) at w; same_long = e }
 
 -- a turn of the loop that stores minus signs
 pub minus_turn : (l whole : List ℕ) (at i : ℕ) → i < 8 → sets l (at + 2 * i) (comma_fields (replicate (8 - i) (45 ∷ []))) ≡ whole

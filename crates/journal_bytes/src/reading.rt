@@ -5,8 +5,6 @@ ghost use Rattle.seed_rules.specs.Layout.{seed_at};
 ghost use Rattle.journal_line.specs.Reading.{digit_of, number_at, decimal_width_at, real_at, reals, scored_at, reason_of, outcome_at, unchecked_line, begins, newlines, line_number_of, read_line, place_after};
 
 use crate::writing::write_line;
-use camera_models::intrinsics::FxFyCxCy;
-use camera_tilt::sensor::ScheimpflugParams;
 use journal_line::{Line, Read, Recorded, ScoredFields};
 use score_outcome::SkipReason;
 use seed_rules::CandidateSeed;
@@ -96,24 +94,12 @@ fn reason_of(c: u8) -> Option<SkipReason>
     }
 }
 
-// Kept: by hand and once, in the order of the line.
 fn scored_at(s: &[u8]) -> ScoredFields
     ensures { result ≡ scored_at (reals 8 s.now) }
 {
-    let mut a = [0.0; 8];
-    read_reals(s, &mut a);
-    ScoredFields {
-        score: a[0],
-        mean: a[1],
-        k: FxFyCxCy {
-            fx: a[2],
-            fy: a[3],
-            cx: a[4],
-            cy: a[5],
-        },
-        p1: a[6],
-        p2: a[7],
-    }
+    let mut eight = [0.0; 8];
+    read_reals(s, &mut eight);
+    eight.into()
 }
 
 fn outcome_at(s: &[u8]) -> Option<Recorded>
@@ -127,24 +113,12 @@ fn outcome_at(s: &[u8]) -> Option<Recorded>
     Some(Err(reason))
 }
 
-// Kept: each number is read from its place in the list; through an array of the six each would be written twice.
 fn seed_at(s: &[u8]) -> CandidateSeed
     ensures { result ≡ seed_at (reals 6 s.now) 0 }
 {
-    let mut a = [0.0; 6];
-    read_reals(s, &mut a);
-    CandidateSeed {
-        reference_k: FxFyCxCy {
-            fx: a[0],
-            fy: a[1],
-            cx: a[2],
-            cy: a[3],
-        },
-        sensor: ScheimpflugParams {
-            tilt_x: a[4],
-            tilt_y: a[5],
-        },
-    }
+    let mut six = [0.0; 6];
+    read_reals(s, &mut six);
+    six.into()
 }
 
 // The line that the bytes would be.
@@ -181,7 +155,7 @@ pub fn count_newlines(s: &[u8]) -> usize
 }
 
 // The number of the line that stands at a place.
-// Kept: bytes and place are two parameters, here and in `read_line`: the struct of both is the reader's, in a crate above.
+// Kept: bytes and place are two parameters, here and in `read_line`: a caller from C hands in both, and the reader's struct would be made for each call.
 fn not_of_form(bytes: &[u8], at: usize) -> Read
     requires { at ≤ length bytes.now }
     ensures { result ≡ Read.NotOfForm (line_number_of bytes.now at) }

@@ -10,7 +10,7 @@ use journal_line::Counts;
 use journal_line::total::total_if_small;
 
 // Decimals, each behind a comma; gives the place behind.
-// Kept: buffer and place are two parameters, as in the writer: a struct of both would change in every turn, and the contract would name its fields.
+// Kept: buffer and place are two parameters, for the writer's reasons.
 fn put_decimals(out: &mut [u8], at: usize, ns: &[usize]) -> usize
     requires { at + 4 * length ns.now ≤ length out.old }
     ensures { (result ≡ at + length (comma_fields (map decimal ns.now))) × Stored out.old at (comma_fields (map decimal ns.now)) out.new × (result ≤ at + 4 * length ns.now) }
@@ -34,6 +34,7 @@ pub fn write_report(counts: Counts, out: &mut [u8]) -> Result<usize, Refusal>
         return Err(Refusal::NotWritable);
     }
     let at = put_decimal(out, 0, counts.scored);
+    // Kept: these aren't the counts as a list: the first has no comma before it, and the sum stands behind the others.
     let others = [
         counts.host_failed,
         counts.bad_camera,

@@ -1,12 +1,14 @@
 // The writer: a line's bytes to the front of a lent buffer. Each part is stored from a place on, and says so.
 // Kept: buffer and place are two parameters: a struct of both would change in every call, and each contract would name its fields before and after.
+// A slice from the place on was tried for put_digits: its callers then have to show how long the slice is, and that what is stored in it is stored in the
+// buffer, so their proofs get longer and its own no shorter. After a loop over chunks_exact_mut a proof knows how long the buffer is and not what it holds.
 ghost use Rattle.std.specs.Prelude.{◌≡◌, [], ◌∷◌, ◌++◌, map, ◌+◌, ◌*◌, ◌<◌, ◌≤◌, length, replicate};
-ghost use Rattle.journal_line.specs.Line.{digit_byte, digits, decimal_width, decimal, real, reason_letter, eight, rest_of_line, outcome_fields, recordable, writable, LineFits};
+ghost use Rattle.journal_line.specs.Line.{digit_byte, digits, decimal_width, decimal, real, reason_letter, rest_of_line, outcome_fields, recordable, writable, LineFits};
 ghost use Rattle.journal_line.specs.Steps.{comma_fields, Stored};
 ghost use Rattle.journal_line.specs.Writing.{write_reply, write_into};
 
 use common::Refusal;
-use journal_line::{Line, Recorded, ScoredFields};
+use journal_line::{Line, Recorded};
 use score_outcome::SkipReason;
 
 // The byte of a digit, without a branch.
@@ -23,6 +25,7 @@ fn put_digits(out: &mut [u8], at: usize, base: u64, w: usize, n: u64)
     ensures { Stored out.old at (digits base w n) out.new }
 {
     let mut left = n;
+    // Kept: the bytes by their places: after a loop over `out[at..at + w].iter_mut().rev()` a proof knows how long `out` is and not what it holds.
     for i in (0..w).rev() {
         out[at + i] = digit_byte(left % base);
         left = left / base;
@@ -76,11 +79,7 @@ fn put_minuses(out: &mut [u8], at: usize)
     requires { at + 16 ≤ length out.old }
     ensures { Stored out.old at (comma_fields (replicate 8 (45 ∷ []))) out.new }
 {
-    for i in 0..8 {
-        let place = at + 2 * i;
-        out[place] = b',';
-        out[place + 1] = b'-';
-    }
+    out[at..at + 16].copy_from_slice(b",-,-,-,-,-,-,-,-");
 }
 
 // The letter of a skip reason.
@@ -97,14 +96,6 @@ fn reason_letter(reason: SkipReason) -> u8
     }
 }
 
-// Kept: the eight numbers are taken once, in the order of the line's form; to the type's own crate that order is nothing.
-fn eight_numbers(r: ScoredFields) -> [f64; 8]
-    ensures { result ≡ eight r }
-{
-    let k = r.k;
-    [r.score, r.mean, k.fx, k.fy, k.cx, k.cy, r.p1, r.p2]
-}
-
 // The outcome's letter, what follows it, and the newline; gives the place behind.
 fn put_outcome(out: &mut [u8], at: usize, outcome: Recorded) -> usize
     requires { at + 139 ≤ length out.old }
@@ -114,7 +105,7 @@ fn put_outcome(out: &mut [u8], at: usize, outcome: Recorded) -> usize
     match outcome {
         Ok(r) => {
             put_byte(out, at + 1, b'S');
-            let numbers = eight_numbers(r);
+            let numbers: [f64; 8] = r.into();
             put_reals(out, at + 2, &numbers);
             put_byte(out, at + 138, b'\n');
             at + 139
@@ -133,7 +124,7 @@ fn is_recordable(outcome: Recorded) -> bool
     ensures { result ≡ recordable outcome }
 {
     match outcome {
-        Ok(r) => !float::is_nan(r.score),
+        Ok(r) => !r.score.is_nan(),
         Err(_) => true,
     }
 }

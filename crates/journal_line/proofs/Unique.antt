@@ -8,6 +8,7 @@ use Rattle.std.proofs.Math.Bool.{true≢false}
 use mathlib.Core.List.{List, [], ◌∷◌, ◌++◌, map, append_assoc}
 use borrow.Author.Tests.{leb-true, lt-ltb, ltb-true, ltb-false, eq-eqb, eqb-true}
 use Rattle.std.proofs.Math.Seq.{drop_at, drop-append_seam}
+use Rattle.std.proofs.lemmas.Option.{same_Some}
 use Rattle.std.specs.Float.Ieee.Bits.{of_bits-fits}
 use Rattle.common.specs.Each.{All}
 use Rattle.common.specs.Tests.{case, both_true}
@@ -113,18 +114,15 @@ unfolding reals real_at
 reals_fits zero s = tt
 reals_fits (suc n) s = (of_bits-fits _ _, reals_fits n (drop 17 s))
 
-some_same : {A : Type 0} (x y : A) → Some x ≡ Some y → x ≡ y
-some_same x y h = cc
-
 skipped_fits : (k : Option SkipReason) (o : Recorded) → option_map Err k ≡ Some o → All Fits (recorded_numbers o)
 skipped_fits None o h = cc
-skipped_fits (Some r) o h = subst (λ (q : Recorded). All Fits (recorded_numbers q)) (some_same (Err r) o h) tt
+skipped_fits (Some r) o h = subst (λ (q : Recorded). All Fits (recorded_numbers q)) (same_Some (Err r) o h) tt
 
 outcome_fits : (s : List ℕ) (o : Recorded) → outcome_at s ≡ Some o → All Fits (recorded_numbers o)
 unfolding outcome_at reals
 outcome_fits s o h =
     case (eqb (get_or s 1 0) 83)
-    (λ e. subst (λ (q : Recorded). All Fits (recorded_numbers q)) (some_same _ o (rw e at h)) (reals_fits 8 (drop 2 s)))
+    (λ e. subst (λ (q : Recorded). All Fits (recorded_numbers q)) (same_Some _ o (rw e at h)) (reals_fits 8 (drop 2 s)))
     (λ e. skipped_fits (reason_of (get_or s 1 0)) o (rw e at h))
 
 pub unchecked_fits : (s : List ℕ) (l : Line) → unchecked_line s ≡ Some l → LineFits l
@@ -134,7 +132,7 @@ unchecked_fits s l h = by_outcome (outcome_at (drop 102 (from_seed s))) refl h
     by_outcome : (o : Option Recorded) → outcome_at (drop 102 (from_seed s)) ≡ o → option_map (line_with s) o ≡ Some l → LineFits l
     by_outcome None u e = cc
     by_outcome (Some o) u e = unfold reals in
-        subst LineFits (some_same (line_with s o) l e) (record { seed_fits = reals_fits 6 (from_seed s); outcome_fits = outcome_fits (drop 102 (from_seed s)) o u })
+        subst LineFits (same_Some (line_with s o) l e) (record { seed_fits = reals_fits 6 (from_seed s); outcome_fits = outcome_fits (drop 102 (from_seed s)) o u })
 
 pub form_is : (s : List ℕ) (l : Line) → unchecked_line s ≡ Some l → of_form s l ≡ true → Begins s l
 unfolding of_form
@@ -179,7 +177,7 @@ line_bounds l can =
 -- no line's bytes begin another's
 pub line_injective : (l m : Line) → LineFits l → Writable l → LineFits m → Writable m → (s t : List ℕ) → line_bytes l ++ s ≡ line_bytes m ++ t → (l ≡ m) × (s ≡ t)
 line_injective l m a b c d s t e =
-    let p : l ≡ m = some_same l m (sym (unchecked_back l a b s) ∙ ap unchecked_line e ∙ unchecked_back m c d t) in
+    let p : l ≡ m = same_Some l m (sym (unchecked_back l a b s) ∙ ap unchecked_line e ∙ unchecked_back m c d t) in
     (p, sym (drop-append_seam (line_bytes l) s) ∙ ap₂ (λ (k : Line) (r : List ℕ). drop (length (line_bytes k)) r) p e ∙ drop-append_seam (line_bytes m) t)
 
 pub one_reading_at : (s : List ℕ) (at : ℕ) (l : Line) (rest : List ℕ) → LineFits l → Writable l → drop at s ≡ line_bytes l ++ rest → read_line s at ≡ Got l (at + length (line_bytes l))
@@ -230,7 +228,7 @@ module _ (s : List ℕ) (at : ℕ) where
             ltb-true at (length s) e,
             λ m rest ok can q.
                 let p = of_line m rest ok can q in
-                true≢false (sym p.1 ∙ ap (λ (k : Line). of_form (drop at s) k) (sym (some_same l m (sym u ∙ p.0))) ∙ f),
+                true≢false (sym p.1 ∙ ap (λ (k : Line). of_form (drop at s) k) (sym (same_Some l m (sym u ∙ p.0))) ∙ f),
           ))
 
   pub one_line : (l : Line) (next : ℕ) → read_line s at ≡ Got l next → LineAt s at next l

@@ -1,10 +1,11 @@
 -- What a line records of an outcome: of a scored one its score, its mean and its camera, whose radial coefficients are 0 and not written;
--- of a skipped one the reason. And the outcome that a line records. Definitions only.
-use Rattle.std.specs.Prelude.{Result, Ok, Err}
+-- of a skipped one the reason. The outcome that a line records, and what a skip number says is recorded. Definitions only.
+use Rattle.std.specs.Prelude.{ℕ, cond, eqb, Result, Ok, Err}
+use Rattle.common.specs.declared.Refusal.{Refusal}
 use Rattle.float.specs.Literals.{plus_zero}
 use Rattle.score_outcome.specs.declared.Scoring.{Scoring}
 use Rattle.score_outcome.specs.declared.SkipReason.{SkipReason}
-use Rattle.score_outcome.specs.Reasons.{Outcome}
+use Rattle.score_outcome.specs.Reasons.{Outcome, reason_numbered}
 use Rattle.journal_line.specs.declared.ScoredFields.{ScoredFields}
 
 abbrev pub Recorded : Type 0
@@ -27,3 +28,7 @@ scoring_in f = record {
 abbrev pub outcome_in : Recorded → Outcome
 outcome_in (Ok f) = Ok (scoring_in f)
 outcome_in (Err reason) = Err reason
+
+-- 0 says that it was scored, with these fields, 1 to 4 the reason that it was skipped for; another number is refused
+abbrev pub recorded_with : ℕ → ScoredFields → Result Recorded Refusal
+recorded_with skipped f = cond (eqb skipped 0) (Ok (Ok f)) (elim (reason_numbered skipped) [ Ok reason ↦ Ok (Err reason) | Err e ↦ Err e ])

@@ -1,12 +1,16 @@
-// What a line records of an outcome, and the outcome that a line records.
+// What a line records of an outcome or of a skip number, the outcome that a line records, and a scored line's numbers.
 
 ghost use Rattle.std.specs.Prelude.{◌≡◌};
-ghost use Rattle.journal_line.specs.Outcome.{fields_of, recorded_as, scoring_in, outcome_in};
+ghost use Rattle.journal_line.specs.Line.{eight};
+ghost use Rattle.journal_line.specs.Outcome.{fields_of, recorded_as, scoring_in, outcome_in, recorded_with};
+ghost use Rattle.journal_line.specs.Reading.{scored_at};
 
 use crate::{Recorded, ScoredFields};
 use camera_models::distortion::BrownConrady5;
+use camera_models::intrinsics::FxFyCxCy;
+use common::Refusal;
 use score_camera::pinhole::PinholeCamera;
-use score_outcome::{Outcome, Scoring};
+use score_outcome::{Outcome, Scoring, SkipReason};
 
 impl From<Scoring> for ScoredFields {
     ghost from_gives = { λ scoring fields. fields ≡ fields_of scoring };
@@ -44,6 +48,44 @@ impl From<ScoredFields> for Scoring {
     }
 }
 
+// The eight numbers of a scored candidate, in the order that its line has them.
+impl From<ScoredFields> for [f64; 8] {
+    ghost from_gives = { λ fields numbers. numbers ≡ eight fields };
+
+    fn from(fields: ScoredFields) -> [f64; 8] {
+        let camera = fields.k;
+        [
+            fields.score,
+            fields.mean,
+            camera.fx,
+            camera.fy,
+            camera.cx,
+            camera.cy,
+            fields.p1,
+            fields.p2,
+        ]
+    }
+}
+
+impl From<[f64; 8]> for ScoredFields {
+    ghost from_gives = { λ numbers fields. fields ≡ scored_at numbers };
+
+    fn from(numbers: [f64; 8]) -> ScoredFields {
+        ScoredFields {
+            score: numbers[0],
+            mean: numbers[1],
+            k: FxFyCxCy {
+                fx: numbers[2],
+                fy: numbers[3],
+                cx: numbers[4],
+                cy: numbers[5],
+            },
+            p1: numbers[6],
+            p2: numbers[7],
+        }
+    }
+}
+
 pub fn recorded_as(outcome: Outcome) -> Recorded
     ensures { result ≡ recorded_as outcome }
 {
@@ -54,4 +96,16 @@ pub fn outcome_in(recorded: Recorded) -> Outcome
     ensures { result ≡ outcome_in recorded }
 {
     recorded.map(Scoring::from)
+}
+
+// What is recorded where 0 says scored and 1 to 4 the reason for a skip, as the structs of the C interface have it. Another number is refused, as a line
+// that the journal can't hold.
+pub fn recorded_with(skipped: u8, fields: ScoredFields) -> Result<Recorded, Refusal>
+    ensures { result ≡ recorded_with skipped fields }
+{
+    if skipped == 0 {
+        return Ok(Ok(fields));
+    }
+    let reason = SkipReason::try_from(skipped)?;
+    Ok(Err(reason))
 }

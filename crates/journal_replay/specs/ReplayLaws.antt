@@ -4,7 +4,7 @@ use Rattle.std.proofs.Common.{ap, ◌∙◌, arith, lt-ltb}
 use Rattle.journal_line.specs.Reading.{newlines}
 use Rattle.search_record.specs.declared.run.Run.{Run}
 use Rattle.search_calls.specs.declared.next.Handed.{Handed}
-use Rattle.search_calls.specs.declared.next.NextReply.{NextReply}
+use Rattle.search_record.specs.declared.run.Reply.{Reply}
 use Rattle.search_calls.specs.Next.{next_def}
 use Rattle.common.specs.declared.Refusal.{Refusal}
 use Rattle.journal_replay.specs.declared.Standing.{Standing}
@@ -18,7 +18,7 @@ use Rattle.journal_replay.specs.declared.Walked.{Walked}
 use Rattle.journal_replay.specs.Resume.{is_cut_line, ended_by_of, report_on, resumed_by, resume_from}
 
 -- where a run stands, by Next's reply
-pub stands_by : (r : Run) (l : List Float) (a : NextReply) (h : Result Handed Refusal) → a ≡ next_def r l → a.reply ≡ h → standing_of r l ≡ standing_by h a.run r
+pub stands_by : (r : Run) (l : List Float) (a : Reply Handed) (h : Result Handed Refusal) → a ≡ next_def r l → a.reply ≡ h → standing_of r l ≡ standing_by h a.run r
 unfolding standing_of
 stands_by r l a h is e = rw (← is) (ap (λ (g : Result Handed Refusal). standing_by g a.run r) e)
 

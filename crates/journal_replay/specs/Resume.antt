@@ -8,34 +8,29 @@ use Rattle.search_record.specs.declared.run.Options.{Options}
 use Rattle.search_record.specs.declared.run.Run.{Run}
 use Rattle.search_start.specs.Start.{start_reply, start_list}
 use Rattle.journal_replay.specs.declared.Stop.{Stop}
-use Rattle.journal_replay.specs.declared.Stop.TheVariants as stop
+use Rattle.journal_replay.specs.declared.Stop.TheVariants.{AllTaken, NotOfForm, NotTheRun}
 use Rattle.journal_replay.specs.declared.EndedBy.{EndedBy}
-use Rattle.journal_replay.specs.declared.EndedBy.TheVariants.{Nothing, MissingNewline, NotOfForm, NotTheRun}
+use Rattle.journal_replay.specs.declared.EndedBy.TheVariants.{MissingNewline, Stopped}
 use Rattle.journal_replay.specs.declared.Report.{Report}
 use Rattle.journal_replay.specs.declared.Resumed.{Resumed}
 use Rattle.journal_replay.specs.declared.Walked.{Walked}
 use Rattle.journal_replay.specs.Walk.{walk_of, walked_as}
 
--- 02: nothing, a missing newline, 29, 30
+-- 02: nothing behind them, a missing newline, 29, 30
 abbrev pub ended_number : EndedBy → ℕ
-ended_number Nothing = 0
 ended_number MissingNewline = 1
-ended_number NotOfForm = 29
-ended_number NotTheRun = 30
+ended_number (Stopped AllTaken) = 0
+ended_number (Stopped NotOfForm) = 29
+ended_number (Stopped NotTheRun) = 30
 
 -- ---- something is left, and no newline in it: a line was cut off
 abbrev pub is_cut_line : List ℕ → Bool
 is_cut_line [] = false
 is_cut_line (c ∷ cs) = eqb (newlines (c ∷ cs)) 0
 
-abbrev pub stopped_by : Stop → EndedBy
-stopped_by stop.AllTaken = Nothing
-stopped_by stop.NotOfForm = NotOfForm
-stopped_by stop.NotTheRun = NotTheRun
-
 -- 02: a missing newline is looked for before 29 and 30
 unfoldable pub ended_by_of : Stop → List ℕ → EndedBy
-ended_by_of e rest = cond (is_cut_line rest) MissingNewline (stopped_by e)
+ended_by_of e rest = cond (is_cut_line rest) MissingNewline (Stopped e)
 
 -- Kept bytes are those of the taken lines, dropped ones those that stand behind them.
 unfoldable pub report_on : Walked → List ℕ → Report

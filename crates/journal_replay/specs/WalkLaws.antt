@@ -3,6 +3,7 @@ use Rattle.std.specs.Prelude.{ℕ, suc, ◌+◌, ◌-◌, ◌≤◌, ◌≡◌, 
 use Rattle.std.proofs.Common.{sym, ap, ◌∙◌, true≢false, arith, ltb-false, length-append, length-drop}
 use Rattle.std.proofs.Math.Bool.{and_assoc, and-true}
 use Rattle.std.proofs.lemmas.Bool.{not-false}
+use Rattle.std.proofs.lemmas.Option.{none-some, same_Some}
 use Rattle.common.specs.Tests.{case, both_true}
 use Rattle.common.specs.declared.Refusal.{Refusal}
 use Rattle.common.specs.declared.Refusal.TheVariants.{NothingScored, SeedWaits, ShortList}
@@ -18,9 +19,10 @@ use Rattle.journal_line.specs.Outcome.{outcome_in}
 use Rattle.score_outcome.specs.Reasons.{Outcome}
 use Rattle.search_record.specs.Record.{sound, has_place, awaiting}
 use Rattle.search_record.specs.declared.run.Run.{Run}
-use Rattle.search_calls.specs.declared.next.NextReply.{NextReply}
+use Rattle.search_record.specs.declared.run.Reply.{Reply}
 use Rattle.search_calls.specs.Next.{next_refusal, reply_by, next_def}
 use Rattle.search_calls.specs.NextLaws.{next_refused, next_over, next_hands}
+use Rattle.search_calls.specs.declared.next.Handed.{Handed}
 use Rattle.search_answer.specs.Answer.{Left, enter_def}
 use Rattle.journal_replay.specs.declared.Stop.{Stop}
 use Rattle.journal_replay.specs.declared.Stop.TheVariants.{AllTaken, NotTheRun}
@@ -79,12 +81,12 @@ handed_enterable r l h = by (next_refusal r (length l)) refl
     by : (x : Result ⊤ Refusal) → next_refusal r (length l) ≡ x → Enterable (next_def r l).run (length l)
     by (Ok u) k =
         case r.place.over
-        (λ o. absurd (true≢false (sym h ∙ ap (λ (a : NextReply). is_candidate a.reply) (next_over r l k o))))
+        (λ o. absurd (true≢false (sym h ∙ ap (λ (a : Reply Handed). is_candidate a.reply) (next_over r l k o))))
         (λ o. rw (next_hands r l k o) (awaiting_enterable r (seed_at l r.place.at) (length l) o k))
-    by (Err e) k = absurd (true≢false (sym h ∙ ap (λ (a : NextReply). is_candidate a.reply) (next_refused r l e k)))
+    by (Err e) k = absurd (true≢false (sym h ∙ ap (λ (a : Reply Handed). is_candidate a.reply) (next_refused r l e k)))
 
 -- ---- a line that isn't taken leaves the run and the list, and one that is leads to what is entered
-module _ (r : Run) (l : List Float) (m : Line) (a : NextReply) (x y : Bool) (next_is : a ≡ next_def r l) (x-is : x ≡ is_candidate a.reply) (y-is : y ≡ answers_waiting a.run m) where
+module _ (r : Run) (l : List Float) (m : Line) (a : Reply Handed) (x y : Bool) (next_is : a ≡ next_def r l) (x-is : x ≡ is_candidate a.reply) (y-is : y ≡ answers_waiting a.run m) where
   take_is : take_line r l m ≡ cond (x && y) (Some (enter_def a.run l (outcome_in m.outcome))) None
   unfolding take_line
   take_is = rw (x-is, y-is, next_is)
@@ -101,20 +103,14 @@ module _ (r : Run) (l : List Float) (m : Line) (a : NextReply) (x y : Bool) (nex
       (ap Some (s-is ∙ ap (λ (q : Outcome). (enter_def a.run l q).run) o_is) ∙ sym (ap run_left e), k-is ∙ ap (λ (q : Outcome). (enter_def a.run l q).list) o_is ∙ sym (ap (λ (q : Option Left). list_left q l) e))
 
   pub line_enterable : (x && y) ≡ true → Enterable a.run (length l)
-  line_enterable h = rw next_is (handed_enterable r l (ap (λ (b : NextReply). is_candidate b.reply) (sym next_is) ∙ sym x-is ∙ (both_true x y h).0))
-
-none_left : (k : Run) → ◌≡◌ {A = Option Run} (Some k) None → ⊥
-none_left k h = cc
-
-same_run : (j k : Run) → ◌≡◌ {A = Option Run} (Some j) (Some k) → j ≡ k
-same_run j k h = cc
+  line_enterable h = rw next_is (handed_enterable r l (ap (λ (b : Reply Handed). is_candidate b.reply) (sym next_is) ∙ sym x-is ∙ (both_true x y h).0))
 
 pub list_stays : (r : Run) (l : List Float) (m : Line) → run_taken r l m ≡ None → list_taken r l m ≡ l
 list_stays r l m h = by (take_line r l m) h
   where
     by : (o : Option Left) → run_left o ≡ None → list_left o l ≡ l
     by None h = refl
-    by (Some t) h = absurd (none_left t.run h)
+    by (Some t) h = absurd (none-some t.run (sym h))
 
 -- ---- the walk from a place of the journal on, where n lines were taken; f is how many more the reader may give
 abbrev pub walk_at : Run → List Float → ℕ → ℕ → List ℕ → ℕ → RunWalk
@@ -142,7 +138,7 @@ module _ (r : Run) (l : List Float) (n f : ℕ) (s : List ℕ) (at : ℕ) where
       where
         by : (o : Option Left) → take_line r l m ≡ o → run_left o ≡ None → walk_lines r l n at (m ∷ (read_all f s next).lines) (stop_at (read_all f s next).ending) ≡ stopped r l n at NotTheRun
         by None q e = unfold walk_lines in simp (walk_lines, q)
-        by (Some t) q e = absurd (none_left t.run e)
+        by (Some t) q e = absurd (none-some t.run (sym e))
 
     line_taken : (t : Left) → take_line r l m ≡ Some t
         → walk_lines r l n at (m ∷ (read_all f s next).lines) (stop_at (read_all f s next).ending) ≡ walk_at t.run t.list (suc n) f s next
@@ -153,8 +149,8 @@ module _ (r : Run) (l : List Float) (n f : ℕ) (s : List ℕ) (at : ℕ) where
       where
         by : (o : Option Left) → take_line r l m ≡ o → run_left o ≡ Some k
             → walk_lines r l n at (m ∷ (read_all f s next).lines) (stop_at (read_all f s next).ending) ≡ walk_at k (list_left o l) (suc n) f s next
-        by None q e = absurd (none_left k (sym e))
-        by (Some t) q e = line_taken t q ∙ ap (λ (j : Run). walk_at j t.list (suc n) f s next) (same_run t.run k e)
+        by None q e = absurd (none-some k e)
+        by (Some t) q e = line_taken t q ∙ ap (λ (j : Run). walk_at j t.list (suc n) f s next) (same_Some t.run k e)
 
     -- a line that is read has 124 bytes at least, and lies within the journal
     pub line_within : (at + 124 ≤ next) × (next ≤ length s)

@@ -1,5 +1,6 @@
 // A journal run again (02, E5) and gone on from (02, E13). One walk over the lines serves both: Next hands out a seed, the line is held against it, and what it
 // records is entered as an answer's outcome would be.
+// Kept: a run's record, its list and the journal's bytes are three parameters, in each module below: C keeps record and list apart, and the bytes are of neither.
 
 #![tactic(auto)]
 
@@ -17,7 +18,8 @@ use search_record::run::Run;
 use seed_rules::CandidateSeed;
 
 // What stopped a walk: the end of the journal; a line that isn't of the form, 29; or one that can't be the run's next answer, 30.
-// Kept: a Result of Refusal would admit refusals that no walk gives, and each reader would need a case for them.
+// Kept: a Result of Refusal would admit refusals that no walk gives: `ended_number` and the theorems go by these three cases, and would need one for the others.
+// `ReplayRefusal::At` takes any, since its refusal is only told on.
 #[derive(Clone, Copy)]
 pub enum Stop {
     AllTaken,
@@ -56,14 +58,11 @@ impl From<Refusal> for ReplayRefusal {
     }
 }
 
-// What ended the kept lines: nothing behind them; a line without its newline; one that isn't of the form, 29; or one that can't follow, 30.
-// Kept: a Result of Refusal has no case for the missing newline, which is no refusal, and would admit refusals that end no kept lines.
+// What ended the kept lines: a line without its newline, or what stopped the walk.
 #[derive(Clone, Copy)]
 pub enum EndedBy {
-    Nothing,
     MissingNewline,
-    NotOfForm,
-    NotTheRun,
+    Stopped(Stop),
 }
 
 // The numbers that other languages are told.
@@ -72,10 +71,10 @@ impl From<EndedBy> for u8 {
 
     fn from(ended: EndedBy) -> u8 {
         match ended {
-            EndedBy::Nothing => 0,
             EndedBy::MissingNewline => 1,
-            EndedBy::NotOfForm => Refusal::NotOfForm.into(),
-            EndedBy::NotTheRun => Refusal::NotTheRun.into(),
+            EndedBy::Stopped(Stop::AllTaken) => 0,
+            EndedBy::Stopped(Stop::NotOfForm) => Refusal::NotOfForm.into(),
+            EndedBy::Stopped(Stop::NotTheRun) => Refusal::NotTheRun.into(),
         }
     }
 }

@@ -11,6 +11,7 @@ use search_record::run::Run;
 use search_start::{Inputs, start};
 
 // Where a run stands: who won, the seed that Next would hand out, or that nobody won.
+#[tactic(auto, unfolding(crate::specs::Replay::standing_of))]
 fn standing(run: Run, list: &[f64]) -> Result<Standing, Refusal>
     ensures { result ≡ standing_of run list.now }
 {
@@ -36,6 +37,7 @@ fn reply_to(walked: Walked, list: &[f64]) -> Result<Standing, ReplayRefusal>
     }
 }
 
+#[tactic(auto, unfolding(crate::specs::Replay::reply_to))]
 pub fn replay(inputs: Inputs, bytes: &[u8], list: &mut [f64]) -> Result<Standing, ReplayRefusal>
     ensures value { let i = inputs.entry in result ≡ (replay_def i.views i.options i.tilt_x_seeds.now i.tilt_y_seeds.now i.decomposition.now i.base i.center list.old bytes.now).reply }
     ensures list_after { let i = inputs.entry in list.new ≡ (replay_def i.views i.options i.tilt_x_seeds.now i.tilt_y_seeds.now i.decomposition.now i.base i.center list.old bytes.now).list }

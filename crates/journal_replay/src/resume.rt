@@ -24,14 +24,11 @@ fn ended_by(stop: Stop, rest: &[u8]) -> EndedBy
     if is_cut_line(rest) {
         return EndedBy::MissingNewline;
     }
-    match stop {
-        Stop::AllTaken => EndedBy::Nothing,
-        Stop::NotOfForm => EndedBy::NotOfForm,
-        Stop::NotTheRun => EndedBy::NotTheRun,
-    }
+    EndedBy::Stopped(stop)
 }
 
 // The run that the walk left, and the report on the journal.
+#[tactic(auto, unfolding(crate::specs::Resume::report_on))]
 fn resumed(walked: Walked, bytes: &[u8]) -> Resumed
     requires { walked.bytes ≤ length bytes.now }
     ensures { result ≡ resumed_by walked bytes.now }

@@ -32,6 +32,7 @@ fn bits_of(seed: CandidateSeed) -> [u64; 6]
     <[f64; 6]>::from(seed).map(float::to_bits)
 }
 
+#[tactic(auto, unfolding(crate::specs::Stand::same_real, crate::specs::Stand::same_reals))]
 fn is_same_seed(a: CandidateSeed, b: CandidateSeed) -> bool
     ensures { result ≡ same_reals (six a) (six b) }
 {
@@ -55,10 +56,10 @@ fn is_mean(x: f64) -> bool
 }
 
 // Answer's camera check, and damped tangential coefficients.
-fn passes_check(camera: PinholeCamera, p1: f64, p2: f64) -> bool
-    ensures { result ≡ (valid_camera camera && within tangential_bound p1 && within tangential_bound p2) }
+fn passes_check(camera: PinholeCamera) -> bool
+    ensures { result ≡ (valid_camera camera && within tangential_bound camera.dist.p1 && within tangential_bound camera.dist.p2) }
 {
-    validate_camera(camera) & is_damped(p1) & is_damped(p2)
+    validate_camera(camera) & is_damped(camera.dist.p1) & is_damped(camera.dist.p2)
 }
 
 // Kept: centre and tilts are two parameters: the centre is the run's, the tilts are each seed's, and no value has just these two.
@@ -68,7 +69,7 @@ fn can_be_scored(center: Pt2, sensor: ScheimpflugParams, fields: ScoredFields) -
     ensures { result ≡ can_be_scored center sensor fields }
 {
     let camera = Scoring::from(fields).camera;
-    passes_check(camera, fields.p1, fields.p2)
+    passes_check(camera)
         & is_mean(fields.mean)
         & is_same_real(
             fields.score,

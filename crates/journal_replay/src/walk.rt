@@ -1,11 +1,10 @@
 // The walk over a journal's lines, from a run and its lent list on.
 
 ghost use Rattle.std.specs.Prelude.{◌≡◌, ◌*◌, ◌≤◌, length};
-ghost use Rattle.journal_replay.specs.Walk.{is_candidate, run_taken, list_taken, walk_of, walked_as};
+ghost use Rattle.journal_replay.specs.Walk.{run_taken, list_taken, walk_of, walked_as};
 
 use crate::stand::answers_waiting;
 use crate::{Stop, Walked};
-use common::Refusal;
 use journal_bytes::reading::read_line;
 use journal_line::outcome::outcome_in;
 use journal_line::{Line, Read};
@@ -13,20 +12,17 @@ use search_answer::enter;
 use search_calls::next::{Handed, next};
 use search_record::run::Run;
 
-// Whether Next handed out a seed.
-fn is_candidate(reply: Result<Handed, Refusal>) -> bool
-    ensures { result ≡ is_candidate reply }
-{
-    matches!(reply, Ok(Handed::Candidate(_)))
-}
-
 // Takes the line for the answer to the seed that Next hands out, if it can be, and returns the run after it.
+#[tactic(auto, unfolding(crate::specs::Walk::take_line))]
 fn take_line(run: Run, list: &mut [f64], line: Line) -> Option<Run>
     ensures value { result ≡ run_taken run list.old line }
     ensures list_after { list.new ≡ list_taken run list.old line }
 {
     let next = next(run, list);
-    if !(is_candidate(next.reply) & answers_waiting(next.run, line)) {
+    let Ok(Handed::Candidate(_)) = next.reply else {
+        return None;
+    };
+    if !answers_waiting(next.run, line) {
         return None;
     }
     Some(enter(next.run, list, outcome_in(line.outcome)))

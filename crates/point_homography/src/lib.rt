@@ -2,11 +2,11 @@
 
 #![tactic(auto)]
 
-ghost use Rattle.std.specs.Prelude.{◌≡◌, ◌+◌, ◌*◌, ◌≤◌, length};
+ghost use Rattle.std.specs.Prelude.{◌≡◌, ◌*◌, ◌≤◌, [], ◌∷◌, length};
 ghost use Rattle.std.proofs.lemmas.List.Edits.{sets};
 ghost use Rattle.common.specs.Checks.{first_refusal};
 ghost use Rattle.point_homography.specs.Line.{cross_of, off_line, first_distinct, any_off, collinear_of, line_reply};
-ghost use Rattle.point_homography.specs.Rows.{place_conditions, pair_rows, design_rows, rows_refusal, rows_reply, rows_into};
+ghost use Rattle.point_homography.specs.Rows.{place_conditions, first_row, second_row, design_rows, rows_refusal, rows_reply, rows_into};
 
 use camera_models::math::Pt2;
 use common::Refusal;
@@ -76,87 +76,89 @@ pub fn points_are_collinear(points: &[f64]) -> Result<bool, Refusal>
     Ok(collinear(points))
 }
 
-fn put_row(a: &mut [f64], at: usize, row: [f64; 9])
-    requires { at + 9 ≤ length a.old }
-    ensures { a.new ≡ sets a.old at row }
-{
-    a[at..at + 9].copy_from_slice(&row);
-}
-
 // The two rows of one pair of points.
-fn put_pair(a: &mut [f64], at: usize, p: Pt2, q: Pt2)
-    requires { at + 18 ≤ length a.old }
-    ensures { a.new ≡ sets a.old at (pair_rows p q) }
+fn pair_rows(p: Pt2, q: Pt2) -> [[f64; 9]; 2]
+    ensures { result ≡ first_row p q ∷ second_row p q ∷ [] }
 {
-    let x = p.x;
-    let y = p.y;
-    let u = q.x;
-    let v = q.y;
-    put_row(a, at, [-x, -y, -1.0, 0.0, 0.0, 0.0, u * x, u * y, u]);
-    put_row(a, at + 9, [0.0, 0.0, 0.0, -x, -y, -1.0, v * x, v * y, v]);
+    let Pt2 { x, y } = p;
+    let Pt2 { x: u, y: v } = q;
+    [
+        [-x, -y, -1.0, 0.0, 0.0, 0.0, u * x, u * y, u],
+        [0.0, 0.0, 0.0, -x, -y, -1.0, v * x, v * y, v],
+    ]
 }
 
-// The rows of all pairs, each point moved by its list's similarity.
-// Kept: source and destination are two lists, here and below: C lends them apart.
-fn put_rows(a: &mut [f64], src: &[f64], dst: &[f64], ts: Similarity, td: Similarity)
-    requires { (length dst.now ≡ length src.now) × (9 * length src.now ≤ length a.old) }
-    ensures { a.new ≡ sets a.old 0 (design_rows ts td src.now dst.now) }
-{
-    for (i, (xy, uv)) in src.chunks_exact(2).zip(dst.chunks_exact(2)).enumerate() {
-        let p = linalg::moved(ts, linalg::point_at(xy, 0));
-        let q = linalg::moved(td, linalg::point_at(uv, 0));
-        put_pair(a, 18 * i, p, q);
-    }
+// Points and where the homography takes them, pair by pair.
+#[derive(Clone, Copy)]
+pub struct Pairs<'a> {
+    pub src: &'a [f64],
+    pub dst: &'a [f64],
 }
 
-// The refusals from too few points on.
-fn check_places(src: &[f64], dst: &[f64]) -> Result<(), Refusal>
-    ensures { result ≡ first_refusal (place_conditions src.now dst.now) }
-{
-    if src.len() < 8 {
-        return Err(Refusal::TooFewPoints);
+impl<'a> Pairs<'a> {
+    // The rows of all pairs, each point moved by its list's similarity.
+    fn put_rows(self, a: &mut [f64], ts: Similarity, td: Similarity)
+        requires { (length self.dst.now ≡ length self.src.now) × (9 * length self.src.now ≤ length a.old) }
+        ensures { a.new ≡ sets a.old 0 (design_rows ts td self.entry.src.now self.entry.dst.now) }
+    {
+        // Kept: each pair's rows by their place: after a loop over chunks_exact_mut a proof knows how long `a` is and not what it holds.
+        let pairs = self.src.chunks_exact(2).zip(self.dst.chunks_exact(2));
+        for (i, (xy, uv)) in pairs.enumerate() {
+            let p = linalg::moved(ts, linalg::point_at(xy, 0));
+            let q = linalg::moved(td, linalg::point_at(uv, 0));
+            a[18 * i..18 * i + 18].copy_from_slice(pair_rows(p, q).as_flattened());
+        }
     }
-    if dst.len() != src.len() {
-        return Err(Refusal::CountsDiffer);
-    }
-    if collinear(src) {
-        return Err(Refusal::SourceCollinear);
-    }
-    if collinear(dst) {
-        return Err(Refusal::DestinationCollinear);
-    }
-    Ok(())
-}
 
-// All refusals, in their order.
-// Kept: the room and no list: a check reads its length alone, and the list is lent to be written.
-fn check_rows(src: &[f64], dst: &[f64], room: usize) -> Result<(), Refusal>
-    ensures { result ≡ rows_refusal src.now dst.now room }
-{
-    if linalg::bad_length(src.len()) || linalg::bad_length(dst.len()) {
-        return Err(Refusal::BadLength);
+    // The refusals from too few points on.
+    fn check_places(self) -> Result<(), Refusal>
+        ensures { result ≡ first_refusal (place_conditions self.entry.src.now self.entry.dst.now) }
+    {
+        if self.src.len() < 8 {
+            return Err(Refusal::TooFewPoints);
+        }
+        if self.dst.len() != self.src.len() {
+            return Err(Refusal::CountsDiffer);
+        }
+        if collinear(self.src) {
+            return Err(Refusal::SourceCollinear);
+        }
+        if collinear(self.dst) {
+            return Err(Refusal::DestinationCollinear);
+        }
+        Ok(())
     }
-    if room < 9 * src.len() {
-        return Err(Refusal::NoRoom);
+
+    // All refusals, in their order.
+    // Kept: the room and no list: of the list to be written the check reads the length alone.
+    fn check(self, room: usize) -> Result<(), Refusal>
+        ensures { result ≡ rows_refusal self.entry.src.now self.entry.dst.now room }
+    {
+        if linalg::bad_length(self.src.len()) || linalg::bad_length(self.dst.len()) {
+            return Err(Refusal::BadLength);
+        }
+        if room < 9 * self.src.len() {
+            return Err(Refusal::NoRoom);
+        }
+        if !float::all_finite(self.src) {
+            return Err(Refusal::SourceNotFinite);
+        }
+        if !float::all_finite(self.dst) {
+            return Err(Refusal::DestinationNotFinite);
+        }
+        self.check_places()
     }
-    if !float::all_finite(src) {
-        return Err(Refusal::SourceNotFinite);
-    }
-    if !float::all_finite(dst) {
-        return Err(Refusal::DestinationNotFinite);
-    }
-    check_places(src, dst)
 }
 
 // The 2n × 9 design matrix of the homography from src to dst, row by row at the front of a.
 #[tactic(auto, unfolding(crate::specs::Rows::rows_reply, crate::specs::Rows::rows_into))]
-pub fn design_rows(src: &[f64], dst: &[f64], a: &mut [f64]) -> Result<(), Refusal>
-    ensures reply { result ≡ rows_reply src.now dst.now (length a.old) }
-    ensures written { a.new ≡ rows_into src.now dst.now a.old }
+pub fn design_rows(pairs: Pairs, a: &mut [f64]) -> Result<(), Refusal>
+    ensures reply { let p = pairs.entry in result ≡ rows_reply p.src.now p.dst.now (length a.old) }
+    ensures written { let p = pairs.entry in a.new ≡ rows_into p.src.now p.dst.now a.old }
 {
-    check_rows(src, dst, a.len())?;
-    let ts = linalg::normalizing(src);
-    let td = linalg::normalizing(dst);
-    put_rows(a, src, dst, ts, td);
+    pairs.check(a.len())?;
+    let ts = linalg::normalizing(pairs.src);
+    let td = linalg::normalizing(pairs.dst);
+    pairs.put_rows(a, ts, td);
     Ok(())
 }

@@ -1,6 +1,6 @@
 -- The point maps: what becomes of one pixel, of a list of them, and of the destination, and when a map refuses. Definitions only.
 use Rattle.std.specs.Prelude.{ℕ, List, [], ◌∷◌, ◌++◌, ltb, length, drop, Result, Ok, Err, ⊤, Float}
-use Rattle.common.specs.Checks.{◌when◌, first_refusal}
+use Rattle.common.specs.Checks.{Check, ◌when◌, first_refusal}
 use Rattle.common.specs.declared.Refusal.{Refusal}
 use Rattle.common.specs.declared.Refusal.TheVariants.{BadLength, NoRoom, SingularTilt}
 use Rattle.camera_models.specs.declared.math.Pt2.{Pt2}
@@ -8,31 +8,26 @@ use Rattle.camera_models.specs.declared.intrinsics.FxFyCxCy.{FxFyCxCy}
 use Rattle.camera_models.specs.Intrinsics.{pixel_to_sensor, sensor_to_pixel}
 use Rattle.camera_tilt.specs.Matrix.{Matrix, inverse_of}
 use Rattle.camera_tilt.specs.Sensor.{is_singular, apply_homography_inverse}
-use Rattle.point_normalise.specs.Points.{bad_length, each_point}
+use Rattle.point_normalise.specs.Points.{bad_length, map_points}
 
 -- a pixel on the sensor, back through the tilt and the lens, and as a pixel again; a lens that is kept is the identity
 abbrev pub mapped_point : FxFyCxCy → (Pt2 → Pt2) → Matrix → Pt2 → Pt2
 mapped_point k lens inverse p = sensor_to_pixel k (lens (apply_homography_inverse inverse (pixel_to_sensor k p)))
 
-abbrev pub mapped_xy : (Pt2 → Pt2) → Pt2 → List Float
-mapped_xy f p = (f p).x ∷ (f p).y ∷ []
-
--- each point of a list, x then y
-abbrev pub map_points : (Pt2 → Pt2) → List Float → List Float
-map_points f points = each_point (mapped_xy f) points
-
 -- the mapped points at the front of the destination, whose tail stays
 abbrev pub written : (Pt2 → Pt2) → List Float → List Float → List Float
 written f points to = map_points f points ++ drop (length points) to
 
--- a length that is odd or above 400 points, too short a destination, a tilt without an inverse
-abbrev pub refusal_of : Matrix → ℕ → ℕ → Result ⊤ Refusal
-refusal_of h numbers room =
-    first_refusal
-    ((BadLength when bad_length numbers)
+-- a length that is odd or above 400 points, too short a destination
+abbrev pub length_checks : ℕ → ℕ → List Check
+length_checks numbers room =
+    (BadLength when bad_length numbers)
     ∷ (NoRoom when ltb room numbers)
-    ∷ (SingularTilt when is_singular h)
-    ∷ [])
+    ∷ []
+
+-- and then a tilt without an inverse
+abbrev pub refusal_of : Matrix → ℕ → ℕ → Result ⊤ Refusal
+refusal_of h numbers room = first_refusal (length_checks numbers room ++ ((SingularTilt when is_singular h) ∷ []))
 
 abbrev pub map_inverse : Matrix → ℕ → ℕ → Result Matrix Refusal
 map_inverse h numbers room = elim (refusal_of h numbers room) [ Ok _ ↦ Ok (inverse_of h) | Err r ↦ Err r ]

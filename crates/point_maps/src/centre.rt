@@ -3,13 +3,11 @@
 ghost use Rattle.std.specs.Prelude.{◌≡◌, ◌&&◌};
 ghost use Rattle.std.specs.Float.Ieee.{le};
 ghost use Rattle.float.specs.Binary64.{◌+₆₄◌, ◌*₆₄◌};
-ghost use Rattle.float.specs.Float.{is_finite};
 ghost use Rattle.float.specs.Literals.{plus_zero, half₆₄};
-ghost use Rattle.point_maps.specs.Centre.{widen, extent_of, finite_extent, center_of, center_reply};
+ghost use Rattle.point_maps.specs.Centre.{widen, extent_of, center_of, center_reply};
 
 use camera_models::math::Pt2;
 use common::Refusal;
-use point_normalise::linalg;
 
 // The least and the greatest coordinates.
 #[derive(Clone, Copy)]
@@ -20,17 +18,11 @@ pub struct Extent {
     pub max_y: f64,
 }
 
-fn both_finite(x: f64, y: f64) -> bool
-    ensures { result ≡ (is_finite x && is_finite y) }
-{
-    float::is_finite(x) && float::is_finite(y)
-}
-
 // The extent with one more pixel, if both of its coordinates are finite.
 fn widened(e: Extent, p: Pt2) -> Extent
     ensures { result ≡ widen e p }
 {
-    if both_finite(p.x, p.y) {
+    if float::is_finite(p.x) && float::is_finite(p.y) {
         return Extent {
             min_x: float::min(e.min_x, p.x),
             min_y: float::min(e.min_y, p.y),
@@ -44,22 +36,16 @@ fn widened(e: Extent, p: Pt2) -> Extent
 fn extent_of(pixels: &[f64]) -> Extent
     ensures { result ≡ extent_of pixels.now }
 {
-    let infinity = 1.0 / 0.0;
     let none = Extent {
-        min_x: infinity,
-        min_y: infinity,
-        max_x: -infinity,
-        max_y: -infinity,
+        min_x: f64::INFINITY,
+        min_y: f64::INFINITY,
+        max_x: f64::NEG_INFINITY,
+        max_y: f64::NEG_INFINITY,
     };
-    pixels
-        .chunks_exact(2)
-        .fold(none, |e, xy| widened(e, linalg::point_at(xy, 0)))
-}
-
-fn all_finite(e: Extent) -> bool
-    ensures { result ≡ finite_extent e }
-{
-    both_finite(e.min_x, e.min_y) && both_finite(e.max_x, e.max_y)
+    let pairs = pixels.as_chunks::<2>().0;
+    pairs
+        .iter()
+        .fold(none, |e, &[x, y]| widened(e, Pt2 { x, y }))
 }
 
 fn none_negative(e: Extent) -> bool
@@ -82,7 +68,7 @@ fn middle(e: Extent) -> Pt2
 fn center_of(e: Extent) -> Pt2
     ensures { result ≡ center_of e }
 {
-    if all_finite(e) {
+    if float::all_finite(&[e.min_x, e.min_y, e.max_x, e.max_y]) {
         if none_negative(e) {
             return Pt2 {
                 x: 0.5 * e.max_x,

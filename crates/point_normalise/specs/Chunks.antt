@@ -1,9 +1,11 @@
 -- Chunks of two numbers, which are the points of a list, as an iterator gives them. Assumes nothing.
-use Rattle.std.specs.Prelude.{◌≡◌, refl, Bool, true, false, ◌||◌, cond, List, [], ◌∷◌, ◌++◌, ◌<◌, length, Float, Some, None}
+use Rattle.std.specs.Prelude.{◌≡◌, refl, Bool, true, false, ◌||◌, cond, List, [], ◌∷◌, ◌++◌, ◌<◌, ℕ, zero, suc, ◌+◌, ◌*◌, ◌/◌, length, get_or, Float, Some, None}
 use Rattle.std.proofs.Common.{sym, ap, ◌∙◌, arith}
 use denote.Ref.{Bor}
 use Rattle.std.specs.declared.slice.ChunksExact.{ChunksExact}
 use Rattle.std.specs.Slice.Iter.{chunks_exact_rest, chunks_exact_size, chunks_exact_steps}
+use Rattle.std.specs.Float.{nan}
+use Rattle.std.specs.Simd.{first_chunks}
 use Rattle.std.specs.List.{fold, find, list_any}
 use Rattle.std.proofs.lemmas.Iterator.{YieldsList}
 use Rattle.std.proofs.lemmas.Iterator.Splits.{YieldsList-from_shown_while}
@@ -37,6 +39,24 @@ unfolding fold_points
 fold_is f a [] = refl
 fold_is f a (x ∷ []) = refl
 fold_is f a (x ∷ y ∷ s) = fold_is f (f a (record { x = x; y = y })) s
+
+-- a fold over a list's numbers in pairs is that over its points
+pub fold_pairs : {A : Type 0} (f : A → Pt2 → A) (a : A) (s : List Float) → fold (λ b v. f b (point_at v 0)) a (first_chunks 2 (length s / 2) s) ≡ fold_points f a s
+unfolding fold_points
+fold_pairs f a [] = refl
+fold_pairs f a (x ∷ []) = refl
+fold_pairs f a (x ∷ y ∷ s) = let h : suc (suc (length s)) / 2 ≡ suc (length s / 2) = omega arith in rw h (fold_pairs f (f a (record { x = x; y = y })) s)
+
+-- the pair at an index
+pub pair_at : (s : List Float) (i : ℕ) → i < length s / 2 → get_or (first_chunks 2 (length s / 2) s) i [] ≡ get_or s (2 * i) nan ∷ get_or s (2 * i + 1) nan ∷ []
+pair_at [] i h = absurd (omega (arith, h))
+pair_at (x ∷ []) i h = absurd (omega (arith, h))
+pair_at (x ∷ y ∷ s) zero h = let e : suc (suc (length s)) / 2 ≡ suc (length s / 2) = omega arith in rw e refl
+pair_at (x ∷ y ∷ s) (suc i) h =
+    let e : suc (suc (length s)) / 2 ≡ suc (length s / 2) = omega arith in
+    let a : 2 * suc i ≡ suc (suc (2 * i)) = omega arith in
+    let b : suc (suc (2 * i)) + 1 ≡ suc (suc (2 * i + 1)) = omega arith in
+    rw (e, a, b) (pair_at s i (omega (arith, h, e)))
 
 -- ---- a search among them is `find_point`
 pub find_is : (test : Pt2 → Bool) (s : List Float) → find test (points_of s) ≡ find_point test Some None s

@@ -11,7 +11,7 @@ use Rattle.root.specs.Root.{root}
 use Rattle.camera_models.specs.declared.math.Pt2.{Pt2}
 use Rattle.point_normalise.specs.declared.linalg.Similarity.{Similarity}
 use Rattle.point_normalise.specs.declared.linalg.Transform.{Transform}
-use Rattle.point_normalise.specs.Points.{fold_points, each_point, count_of, bad_length, distance_of}
+use Rattle.point_normalise.specs.Points.{fold_points, mapped_xy, map_points, count_of, bad_length, distance_of}
 
 -- 2^-52
 abbrev pub epsilon : Float
@@ -53,10 +53,10 @@ abbrev pub move_by : Similarity → Pt2 → Pt2
 move_by t p = record { x = (p.x -₆₄ t.cx) *₆₄ t.scale; y = (p.y -₆₄ t.cy) *₆₄ t.scale }
 
 abbrev pub move_xy : Similarity → Pt2 → List Float
-move_xy t p = (move_by t p).x ∷ (move_by t p).y ∷ []
+move_xy t p = mapped_xy (move_by t) p
 
 abbrev pub move_points : Similarity → List Float → List Float
-move_points t s = each_point (move_xy t) s
+move_points t s = map_points (move_by t) s
 
 -- ---- Normalise: a bad length; a destination with no room for the points; points with no spread
 unfoldable pub normalize_refusal : List Float → ℕ → Result ⊤ Refusal

@@ -30,7 +30,14 @@ each_point f [] = []
 each_point f (x ∷ []) = []
 each_point f (x ∷ y ∷ s) = f (record { x = x; y = y }) ++ each_point f s
 
--- the same for two lists, as long as both have a point
+-- each point as f has it, x then y
+abbrev pub mapped_xy : (Pt2 → Pt2) → Pt2 → List Float
+mapped_xy f p = (f p).x ∷ (f p).y ∷ []
+
+abbrev pub map_points : (Pt2 → Pt2) → List Float → List Float
+map_points f points = each_point (mapped_xy f) points
+
+-- the numbers that each pair of points of two lists gives, as long as both have a point
 unfoldable pub each_pair : (Pt2 → Pt2 → List Float) → List Float → List Float → List Float
 each_pair f [] d = []
 each_pair f (x ∷ []) d = []
@@ -50,6 +57,12 @@ count_of s = of_int binary64 (pos (length s / 2))
 abbrev pub bad_length : ℕ → Bool
 bad_length n = not (eqb (n % 2) 0) || ltb 800 n
 
--- the root of dx dx + dy dy
+-- dx × dx + dy × dy, and its root
+abbrev pub squared_distance : Pt2 → Pt2 → Float
+squared_distance p q =
+    let dx = p.x -₆₄ q.x in
+    let dy = p.y -₆₄ q.y in
+    dx *₆₄ dx +₆₄ dy *₆₄ dy
+
 abbrev pub distance_of : Pt2 → Pt2 → Float
-distance_of p q = root binary64 ((p.x -₆₄ q.x) *₆₄ (p.x -₆₄ q.x) +₆₄ (p.y -₆₄ q.y) *₆₄ (p.y -₆₄ q.y))
+distance_of p q = root binary64 (squared_distance p q)

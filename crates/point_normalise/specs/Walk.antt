@@ -9,7 +9,7 @@ use Rattle.std.proofs.lemmas.List.Edits.{sets, sets-eq}
 use Rattle.std.specs.Float.{nan, binary64}
 use Rattle.std.specs.Float.Ieee.{in_float}
 use Rattle.camera_models.specs.declared.math.Pt2.{Pt2}
-use Rattle.point_normalise.specs.Points.{fold_points, find_point, each_point, each_pair, point_at}
+use Rattle.point_normalise.specs.Points.{fold_points, find_point, each_point, mapped_xy, map_points, each_pair, point_at}
 
 -- ---- what is left of a list at i, where a point stands, and where none does
 point_left : (s : List Float) (i : ℕ) → i + 1 < length s → drop i s ≡ get_or s i nan ∷ get_or s (i + 1) nan ∷ drop (i + 2) s
@@ -94,6 +94,10 @@ module _ (f : Pt2 → List Float) where
   each_length k e (x ∷ y ∷ s) =
       let q : Pt2 = record { x = x; y = y } in
       length-append (f q) (each_point f s) ∙ rw (e q, each_length k e s) (one_more (length s) k)
+
+-- two numbers for each point
+pub mapped_length : (f : Pt2 → Pt2) (s : List Float) → length (map_points f s) ≡ length s / 2 * 2
+mapped_length f s = each_length (mapped_xy f) 2 (λ p. refl) s
 
 -- ---- each_pair
 module _ (f : Pt2 → Pt2 → List Float) where

@@ -1,8 +1,9 @@
 // Hartley's normalisation of a list of points, and what other modules need of such lists.
 
 ghost use Rattle.std.specs.Prelude.{◌≡◌, ◌++◌, ◌+◌, ◌<◌, ◌≤◌, length, drop};
-ghost use Rattle.point_normalise.specs.Points.{bad_length, point_at, distance_of};
-ghost use Rattle.point_normalise.specs.Linalg.{centroid_of, mean_distance, scaled_to, similarity_of, hartley_of, move_by, move_points, transform_of, normalize_reply, normalize_into};
+ghost use Rattle.camera_models.specs.declared.math.Pt2.{Pt2};
+ghost use Rattle.point_normalise.specs.Points.{bad_length, point_at, map_points, squared_distance, distance_of};
+ghost use Rattle.point_normalise.specs.Linalg.{centroid_of, mean_distance, scaled_to, similarity_of, hartley_of, move_by, transform_of, normalize_reply, normalize_into};
 
 use camera_models::math::Pt2;
 use common::Refusal;
@@ -54,26 +55,32 @@ pub fn point_at(points: &[f64], i: usize) -> Pt2
     }
 }
 
-pub fn distance(p: Pt2, q: Pt2) -> f64
-    ensures { result ≡ distance_of p q }
+// The square of the distance of two points.
+pub fn squared_distance(p: Pt2, q: Pt2) -> f64
+    ensures { result ≡ squared_distance p q }
 {
     let dx = p.x - q.x;
     let dy = p.y - q.y;
-    root_code::sqrt(dx * dx + dy * dy)
+    dx * dx + dy * dy
+}
+
+pub fn distance(p: Pt2, q: Pt2) -> f64
+    ensures { result ≡ distance_of p q }
+{
+    root_code::sqrt(squared_distance(p, q))
 }
 
 fn centroid(points: &[f64]) -> Pt2
     ensures { result ≡ centroid_of points.now }
 {
-    let sum = points
-        .chunks_exact(2)
-        .fold(Pt2 { x: 0.0, y: 0.0 }, |sum, xy| {
-            let p = point_at(xy, 0);
-            Pt2 {
-                x: sum.x + p.x,
-                y: sum.y + p.y,
-            }
-        });
+    let pairs = points.as_chunks::<2>().0;
+    let sum = pairs.iter().fold(
+        Pt2::default(),
+        |sum, &[x, y]| Pt2 {
+            x: sum.x + x,
+            y: sum.y + y,
+        },
+    );
     let n = nearest_usize_to_f64(points.len() / 2);
     Pt2 {
         x: sum.x / n,
@@ -84,9 +91,10 @@ fn centroid(points: &[f64]) -> Pt2
 fn mean_distance(points: &[f64], c: Pt2) -> f64
     ensures { result ≡ mean_distance c points.now }
 {
-    let sum = points
-        .chunks_exact(2)
-        .fold(0.0, |sum, xy| sum + distance(point_at(xy, 0), c));
+    let pairs = points.as_chunks::<2>().0;
+    let sum = pairs
+        .iter()
+        .fold(0.0, |sum, &[x, y]| sum + distance(Pt2 { x, y }, c));
     let n = nearest_usize_to_f64(points.len() / 2);
     sum / n
 }
@@ -136,14 +144,17 @@ pub fn moved(t: Similarity, p: Pt2) -> Pt2
     }
 }
 
-fn write_moved(t: Similarity, points: &[f64], dst: &mut [f64])
-    requires { length points.now ≤ length dst.old }
-    ensures { dst.new ≡ move_points t points.now ++ drop (length (move_points t points.now)) dst.old }
+// Each point as `map` has it, at the front of the destination.
+pub fn map_points<F: Fn(Pt2) -> Pt2>(map: F, points: &[f64], to: &mut [f64])
+    requires callable { F.IsAlwaysCallable map }
+    requires room { length points.now ≤ length to.old }
+    ensures { (f : Pt2 → Pt2) → ((p q : Pt2) → F.post map p q → q ≡ f p) → to.new ≡ map_points f points.now ++ drop (length (map_points f points.now)) to.old }
 {
-    for (i, xy) in points.chunks_exact(2).enumerate() {
-        let p = moved(t, point_at(xy, 0));
-        dst[2 * i] = p.x;
-        dst[2 * i + 1] = p.y;
+    let pairs = points.as_chunks::<2>().0;
+    for (i, &[x, y]) in pairs.iter().enumerate() {
+        let mapped = map(Pt2 { x, y });
+        to[2 * i] = mapped.x;
+        to[2 * i + 1] = mapped.y;
     }
 }
 
@@ -160,6 +171,6 @@ pub fn normalize_points_2d(points: &[f64], dst: &mut [f64]) -> Result<Transform,
         return Err(Refusal::NoRoom);
     }
     let t = hartley(points).ok_or(Refusal::NoSpread)?;
-    write_moved(t, points, dst);
+    map_points(|p| moved(t, p), points, dst);
     Ok(Transform::from(t))
 }

@@ -1,3 +1,4 @@
+mod Max
 mod Rounds
 mod Steps
 mod Patterns

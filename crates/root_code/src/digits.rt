@@ -27,6 +27,8 @@ fn next_digit(p: SquareRoot, d: u64) -> SquareRoot
 }
 
 // The root of m, from its 27 base-4 digits, the highest first.
+// Kept: the first root of 0 is written out: `Default` can't be derived for a struct with a ghost field, and an `impl` by hand would hold
+// these same fields, for this one place.
 pub fn isqrt_by_digits(m: u64) -> SquareRoot
     requires { m < 2 ^ 54 }
     ensures { result.root * result.root + result.remainder ≡ m }

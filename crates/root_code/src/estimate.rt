@@ -5,7 +5,7 @@ ghost use Rattle.std.specs.Prelude.{◌^◌, ◌<◌};
 // The parabola c0 - (c1 - c2 * z / 2^26) * z / 2^17 that meets 2^47 / √t at the three Chebyshev points of the 2^27 numbers
 // t = i * 2^27 + z, packed: c0 in 32 binary digits, c1 in 18, c2 in 14.
 // Kept: a match, which compiles to a table in constant memory; a `const` array would be no plainer, and is written to the stack in each call.
-fn parabola(i: u64) -> u64 {
+fn parabola(i: u32) -> u64 {
     match i {
         8 => 0xfffe_ee8d_feca_a954,
         9 => 0xf15b_36cc_d5ba_5f49,
@@ -36,32 +36,25 @@ fn parabola(i: u64) -> u64 {
 }
 
 // A first estimate of 2^58 / √m, where t is m / 2^22: for an m from 2^52 on within one part in 61000.
-fn first_estimate(t: u64) -> u64
-    requires { t < 2 ^ 32 }
-    ensures { result < 2 ^ 32 }
-{
+fn first_estimate(t: u32) -> u32 {
     let c = parabola(t >> 27);
-    let z = t % 0x800_0000;
+    let z = u64::from(t % 0x800_0000);
     let slope = (0x4_0000 + (c >> 14) % 0x4_0000 - ((c % 0x4000 * z) >> 26)) % 0x4_0000;
-    (0x1_0000_0000 + (c >> 32) - ((slope * z) >> 17)) % 0x1_0000_0000
+    ((0x1_0000_0000 + (c >> 32) - ((slope * z) >> 17)) % 0x1_0000_0000) as u32
 }
 
-// Kept: y < 2^32 is said here and where y comes from: y is multiplied at once, and a type of its own would be taken apart for it.
 // A better estimate than y of 2^58 / √m, by one step of Newton's, where t is m / 2^22.
-fn refined(t: u64, y: u64) -> u64
-    requires { (t < 2 ^ 32) × (y < 2 ^ 32) }
-    ensures { result < 2 ^ 32 }
-{
-    let d = (((t * y) >> 32) * y) >> 32;
+fn refined(t: u32, y: u32) -> u32 {
+    let y = u64::from(y);
+    let d = (((u64::from(t) * y) >> 32) * y) >> 32;
     let u = (0x1_bfff_fffe - d) % 0x1_0000_0000;
-    ((y * u) >> 31) % 0x1_0000_0000
+    (((y * u) >> 31) % 0x1_0000_0000) as u32
 }
 
 // An estimate of 2^58 / √m, for an m from 2^52 on within a few parts in 2^30.
-pub fn reciprocal_root(m: u64) -> u64
+pub fn reciprocal_root(m: u64) -> u32
     requires { m < 2 ^ 54 }
-    ensures { result < 2 ^ 32 }
 {
-    let t = m >> 22;
+    let t = (m >> 22) as u32;
     refined(t, first_estimate(t))
 }

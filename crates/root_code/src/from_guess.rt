@@ -11,10 +11,9 @@ use crate::digits::{extend_by_digits, isqrt_by_digits};
 #[derive(Clone, Copy)]
 pub struct Radicand {
     pub significand: u64,
-    pub guess: u64,
+    pub guess: u32,
     pub ghost positive: { 0 < significand },
     pub ghost below: { significand < 2 ^ 54 },
-    pub ghost guess_below: { guess < 2 ^ 32 },
 }
 
 impl Radicand {
@@ -30,7 +29,7 @@ impl Radicand {
     fn high_digits(self) -> u64
         ensures { result < 2 ^ 28 }
     {
-        ((self.significand >> 22) * self.guess) >> 36
+        ((self.significand >> 22) * u64::from(self.guess)) >> 36
     }
 
     // The root of significand * 2^52, rounded, of which h and l make a guess; a is what h's square leaves over. A difference below 0
@@ -94,9 +93,9 @@ fn nearest_whole(root: u64, remainder: u64) -> u64
 }
 
 // About half of what is left over times y: the 26 binary digits behind.
-fn low_digits(a: u64, y: u64) -> u64
-    requires { (a < 2 ^ 32) × (y < 2 ^ 32) }
+fn low_digits(a: u64, y: u32) -> u64
+    requires { a < 2 ^ 32 }
     ensures { result < 2 ^ 31 }
 {
-    (a * y) >> 33
+    (a * u64::from(y)) >> 33
 }

@@ -11,7 +11,7 @@ pub mod from_guess;
 pub mod operand;
 pub mod quick;
 
-ghost use Rattle.std.specs.Prelude.{◌≡◌, ◌*◌, ◌^◌, ◌<◌};
+ghost use Rattle.std.specs.Prelude.{◌≡◌, ◌*◌, ◌^◌};
 ghost use Rattle.std.specs.Float.{binary64};
 ghost use Rattle.root.specs.Root.{root_of, root};
 ghost use Rattle.root_code.specs.Operand.{Bounded};
@@ -21,8 +21,8 @@ use crate::from_guess::Radicand;
 use crate::operand::{Operand, Scaled, decompose};
 
 // The root of s, rounded. The root of significand * 4^26 has 53 digits, the leading one of which adds 1 to the exponent's field.
-fn rounded(s: Scaled, guess: u64) -> f64
-    requires { Bounded s × (guess < 2 ^ 32) }
+fn rounded(s: Scaled, guess: u32) -> f64
+    requires { Bounded s }
     ensures { result ≡ root_of binary64 (s.significand * 4 ^ s.half) }
 {
     let radicand = Radicand {

@@ -1,7 +1,7 @@
 // A float taken apart for the root: a root that is known at once, or a significand and an exponent, the latter even.
 
 ghost use Rattle.std.specs.Prelude.{◌≡◌, ◌+◌, ◌*◌, ◌%◌, ◌^◌, ◌<◌, ◌≤◌, from_bits};
-ghost use Rattle.std.specs.Float.{nan, binary64};
+ghost use Rattle.std.specs.Float.{binary64};
 ghost use Rattle.root_code.specs.Operand.{Bounded, Decomposed, AsNormal};
 ghost use Rattle.root_code.specs.Exponent.{shifted};
 
@@ -90,19 +90,12 @@ pub fn as_normal(b: u64) -> Scaled
     }
 }
 
-// The root of a NaN and of a negative number.
-fn no_root() -> f64
-    ensures { result ≡ nan }
-{
-    0.0 / 0.0
-}
-
 // The tests are on the bits: their order is the numbers' for positive ones, and a sign makes them greater than all those.
 pub fn decompose(x: f64) -> Operand
     ensures { Decomposed x result }
 {
     if x.is_nan() {
-        return Operand::Known(no_root());
+        return Operand::Known(f64::NAN);
     }
     let b = f64::to_bits(x);
     if b == 0 {
@@ -120,5 +113,5 @@ pub fn decompose(x: f64) -> Operand
     if b == 0x8000_0000_0000_0000 {
         return Operand::Known(-0.0);
     }
-    Operand::Known(no_root())
+    Operand::Known(f64::NAN)
 }

@@ -2,9 +2,8 @@
 // it is right: not for other numbers, and not for few normal ones. Nothing rests on the guess. It is a function of its own, so that
 // the guesses for several roots are made before the first of them is checked.
 
-ghost use Rattle.std.specs.Prelude.{◌≡◌, ◌<◌, not, T, if◌then◌else◌, from_bits, is_nan};
+ghost use Rattle.std.specs.Prelude.{◌≡◌, ◌<◌, from_bits};
 ghost use Rattle.std.specs.Float.{binary64};
-ghost use Rattle.std.specs.Float.Ieee.{lt};
 ghost use Rattle.root_code.specs.Quick.{Quick};
 
 use crate::from_guess::Radicand;
@@ -18,22 +17,11 @@ pub struct QuickRoot {
     pub wrong: u64,
 }
 
-// The larger of two numbers, the second one where the first is NaN.
-fn larger(x: f64, y: f64) -> f64
-    requires { T (not (is_nan y)) }
-    ensures { (result ≡ (if lt y x then x else y)) × T (not (is_nan result)) }
-{
-    if x > y {
-        return x;
-    }
-    y
-}
-
 // The bits of x, those of 0 where it is NaN or below 0.
 fn bits_of(x: f64) -> u64
     ensures { 0 < result → from_bits binary64 result ≡ x }
 {
-    f64::to_bits(larger(x, 0.0))
+    f64::to_bits(float::max(0.0, x))
 }
 
 // In its last 32 digits an estimate of 2^58 / √m, where m is the significand of x with an even exponent, if x is a normal number: a
@@ -45,7 +33,7 @@ pub fn quick_guess(x: f64) -> u64 {
     let y = f64::from_bits(0x5fe5_f150_c7b5_37a9 - (t >> 1));
     let z = s * y * y;
     let w = y * (1.9464390955243096 + z * (0.45098580121562815 * z - 1.3973606216572327));
-    f64::to_bits(larger(w * (3.0 - s * w * w), y)) >> 21
+    f64::to_bits(float::max(y, w * (3.0 - s * w * w))) >> 21
 }
 
 // The root of x where x is a normal number and the guess near enough; else it says that it is wrong.
@@ -56,7 +44,7 @@ pub fn quick_sqrt(x: f64, guess: u64) -> QuickRoot
     let s = as_normal(b);
     let radicand = Radicand {
         significand: s.significand,
-        guess: guess % 0x1_0000_0000,
+        guess: (guess % 0x1_0000_0000) as u32,
     };
     let q = radicand.guessed_root();
     let below = std::num::wrapping_sub_u64(b, 0x10_0000_0000_0000);

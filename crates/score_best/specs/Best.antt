@@ -1,5 +1,6 @@
 -- The best of the scored candidates, said of a whole list, and what a run keeps instead, one candidate at a time. Definitions only.
-use Rattle.std.specs.Prelude.{ℕ, Bool, true, false, not, ◌&&◌, ◌||◌, cond, List, [], ◌∷◌}
+use Rattle.std.specs.Prelude.{ℕ, Bool, true, false, not, ◌&&◌, ◌||◌, cond, List, [], ◌∷◌, Option}
+use Rattle.std.specs.Bool.{then_some}
 use Rattle.std.specs.Float.Ieee.{lt, is_nan}
 use Rattle.float.specs.Literals.{plus_zero}
 use Rattle.camera_tilt.specs.declared.sensor.ScheimpflugParams.{ScheimpflugParams}
@@ -51,10 +52,18 @@ no_best = record {
 abbrev pub found : Candidate → Best
 found w = record { found = true; candidate = w }
 
+-- the best's candidate, if there is one
+abbrev pub best_candidate : Best → Option Candidate
+best_candidate b = then_some b.found b.candidate
+
 -- what is chosen, as a record
 abbrev pub held : Chosen → Best
 held nothing = no_best
 held (chosen w) = found w
+
+-- the first, or, if it has none, the second
+abbrev pub or_best : Best → Best → Best
+or_best a b = cond a.found a b
 
 -- The first candidate whose score is a number is taken; after it a better one replaces, and an equal one doesn't.
 unfoldable pub is_better : Candidate → Best → Bool

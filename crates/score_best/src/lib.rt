@@ -4,7 +4,7 @@
 #![tactic(auto)]
 
 ghost use Rattle.std.specs.Prelude.{◌≡◌};
-ghost use Rattle.score_best.specs.Best.{is_better, no_best};
+ghost use Rattle.score_best.specs.Best.{is_better, no_best, or_best, best_candidate};
 ghost use Rattle.score_best.specs.Winners.{winner_of_bests};
 
 use camera_tilt::sensor::ScheimpflugParams;
@@ -29,6 +29,25 @@ pub struct Best {
     pub candidate: Candidate,
 }
 
+impl Best {
+    // This best, or, if it has none, the other, as Option's `or` has it.
+    pub fn or(self, other: Best) -> Best
+        ensures { result ≡ or_best self other }
+    {
+        if self.found {
+            return self;
+        }
+        other
+    }
+
+    // The best's candidate, if there is one.
+    pub fn candidate(self) -> Option<Candidate>
+        ensures { result ≡ best_candidate self }
+    {
+        self.found.then_some(self.candidate)
+    }
+}
+
 // No candidate yet.
 #[tactic(auto, unfolding(crate::specs::Best::no_best))]
 pub fn no_best() -> Best
@@ -38,19 +57,21 @@ pub fn no_best() -> Best
 }
 
 // Whether a candidate replaces the best: its score is a number, and there is no best yet, or one whose score is none, or a higher one.
+#[tactic(auto, unfolding(crate::specs::Best::is_better, crate::specs::Best::beats))]
 pub fn is_better(candidate: Candidate, current: Best) -> bool
     ensures { result ≡ is_better candidate current }
 {
     if candidate.score.is_nan() {
         return false;
     }
-    if !current.found {
+    let Some(best) = current.candidate() else {
         return true;
-    }
-    current.candidate.score.is_nan() | (candidate.score < current.candidate.score)
+    };
+    best.score.is_nan() | (candidate.score < best.score)
 }
 
 // The best after one more candidate.
+#[tactic(auto, unfolding(crate::specs::Best::improved))]
 pub fn improved(current: Best, candidate: Candidate) -> Best
     ensures { result ≡ Rattle.score_best.specs.Best.improved current candidate }
 {
@@ -65,16 +86,17 @@ pub fn improved(current: Best, candidate: Candidate) -> Best
 
 // The winner of two stretches of candidates, the earlier one first: a lower score wins, an equal one doesn't, and a stretch without a candidate leaves the
 // other's.
+#[tactic(auto, unfolding(crate::specs::Winners::winner_of_bests, crate::specs::Best::is_better))]
 pub fn winner(first: Best, second: Best) -> Best
     ensures { result ≡ winner_of_bests first second }
 {
     if !first.found {
         return second;
     }
-    if !second.found {
+    let Some(candidate) = second.candidate() else {
         return first;
-    }
-    if is_better(second.candidate, first) {
+    };
+    if is_better(candidate, first) {
         return second;
     }
     first

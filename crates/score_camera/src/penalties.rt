@@ -58,10 +58,7 @@ fn relative_offset(intrinsics: FxFyCxCy, center: Pt2) -> Pt2
 pub fn principal_point_complexity(intrinsics: FxFyCxCy, center: Pt2) -> f64
     ensures { result ≡ centre_penalty intrinsics center }
 {
-    let d = relative_offset(intrinsics, center);
-    let dx = d.x;
-    let dy = d.y;
-    0.0 * (dx * dx + dy * dy)
+    0.0 * relative_offset(intrinsics, center).squared_norm()
 }
 
 // The mean error and the penalties of the distortion and the tilt, summed in this order.

@@ -21,11 +21,9 @@ pub fn damp_seed_distortion(distortion: BrownConrady5) -> BrownConrady5
     ensures { result ≡ damped distortion }
 {
     BrownConrady5 {
-        k1: 0.0,
-        k2: 0.0,
-        k3: 0.0,
         p1: float::clamp(distortion.p1, -0.05, 0.05),
         p2: float::clamp(distortion.p2, -0.05, 0.05),
+        ..BrownConrady5::default()
     }
 }
 

@@ -25,7 +25,7 @@ use Rattle.score_floor.specs.Floor.{counted_penalty, floor_of}
 use Rattle.score_floor.proofs.Penalty.{scored_not_below, penalty_number}
 
 -- ---- a number
-counted_number : (t : ScheimpflugParams) → is_nan (counted_penalty t) ≡ false
+pub counted_number : (t : ScheimpflugParams) → is_nan (counted_penalty t) ≡ false
 unfolding counted_penalty is_nan div of_bits
 counted_number t = case (is_nan (tilt_penalty t)) (λ n. rw n) (λ n. rw n n)
 
@@ -58,7 +58,7 @@ not_below_infinity nan = refl
 not_below_infinity (inf s) = refl
 not_below_infinity (fin s m e) = refl
 
-min_infinity : (p : Float) → is_nan p ≡ false → min_of p infinity ≡ p
+pub min_infinity : (p : Float) → is_nan p ≡ false → min_of p infinity ≡ p
 unfolding min_of
 min_infinity p n = rw (n, not_below_infinity p)
 

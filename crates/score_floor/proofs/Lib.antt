@@ -1,2 +1,3 @@
+pub mod FloorFold
 pub mod FloorLaws
 pub mod Penalty

@@ -9,13 +9,13 @@ use camera_tilt::sensor::ScheimpflugParams;
 use score_camera::penalties::tilt_complexity;
 
 // A seed's tilt penalty as it counts for the floor: NaN, which only a changed list can give, counts as infinity.
-#[tactic(auto, unfolding(crate::specs::Floor::counted_penalty))]
+#[tactic(auto, using(score_rows::proofs::Steps::infinity_bits), unfolding(crate::specs::Floor::counted_penalty))]
 pub fn counted_penalty(sensor: ScheimpflugParams) -> f64
     ensures { result ≡ counted_penalty sensor }
 {
     let penalty = tilt_complexity(sensor);
     if penalty.is_nan() {
-        return 1.0 / 0.0;
+        return f64::INFINITY;
     }
     penalty
 }
@@ -25,10 +25,9 @@ pub fn floor_between(list: &[f64], from: usize, to: usize) -> f64
     requires { (from ≤ to) × (6 * to ≤ length list.now) }
     ensures { result ≡ floor_of (seeds_between list.now from to) }
 {
-    let mut floor = 1.0 / 0.0;
-    for i in (from..to).rev() {
-        let seed = seed_lists::seed_at(list, i);
-        floor = float::min(counted_penalty(seed.sensor), floor);
-    }
-    floor
+    list[6 * from..6 * to]
+        .chunks_exact(6)
+        .fold(f64::INFINITY, |floor, six| {
+            float::min(floor, counted_penalty(seed_lists::seed_at(six, 0).sensor))
+        })
 }

@@ -3,6 +3,7 @@ use Rattle.std.specs.Prelude.{ℕ, ◌≤◌, ◌≡◌, refl, true, false, ◌&
 use Rattle.std.proofs.Common.{sym, subst, ◌∙◌, arith}
 use Rattle.std.specs.Float.Ieee.{is_nan, lt, of_bits}
 use Rattle.common.specs.Tests.{case, both_true}
+use Rattle.common.specs.Results.{same_Err, err-ok}
 use Rattle.float.specs.Float.{is_finite, sign_bit}
 use Rattle.float.specs.Finite.{finite_number}
 use Rattle.float.specs.Sign.{unsigned_not_below, clamp_magnitude}
@@ -11,7 +12,7 @@ use Rattle.camera_models.specs.declared.math.Pt2.{Pt2}
 use Rattle.camera_tilt.specs.declared.sensor.ScheimpflugParams.{ScheimpflugParams}
 use Rattle.score_camera.specs.Camera.{tangential_bound, damped, damped_camera, finite_intrinsics, finite_distortion, valid_camera}
 use Rattle.score_outcome.specs.Evaluation.{solved_at, mean_with, enough_with, scoring_of, evaluated, outcome_of}
-use Rattle.score_outcome.proofs.Outcomes.{never, invalid_skips, few_skips, infinite_skips, nan_skips, number_scores, scored_passed}
+use Rattle.score_outcome.proofs.Outcomes.{invalid_skips, few_skips, infinite_skips, nan_skips, number_scores, scored_passed}
 use Rattle.score_outcome.specs.Mean.{mean_unsigned}
 use Rattle.score_outcome.specs.declared.SolvedCamera.{SolvedCamera}
 use Rattle.score_outcome.specs.declared.Scoring.{Scoring}
@@ -19,7 +20,7 @@ use Rattle.score_outcome.specs.declared.Finding.{Finding}
 use Rattle.score_outcome.specs.declared.Finding.TheVariants.{Failed, Solved}
 use Rattle.score_outcome.specs.declared.SkipReason.{SkipReason}
 use Rattle.score_outcome.specs.declared.SkipReason.TheVariants.{HostFailed, BadCamera, NoMean, NoNumber}
-use Rattle.score_outcome.specs.Reasons.{Outcome, reason_number, reason_numbered}
+use Rattle.score_outcome.specs.Reasons.{reason_number, reason_numbered}
 use Rattle.score_outcome.specs.Facts.{ScoredFacts}
 
 -- ---- what the camera check says
@@ -73,13 +74,10 @@ reason_numbered_back NoMean = refl
 reason_numbered_back NoNumber = refl
 
 -- ---- the outcome, taken apart
-skipped_same : (r q : SkipReason) → ◌≡◌ {A = Outcome} (Err r) (Err q) → r ≡ q
-skipped_same r q h = cc
-
 pub scored_facts : (share : ℕ) (f : Finding) (sensor : ScheimpflugParams) (center : Pt2) (rows : List Float) (flags : List ℕ) (g : Scoring)
     → outcome_of share f sensor center rows flags ≡ Ok g → ScoredFacts sensor center g
 unfolding outcome_of
-scored_facts share Failed sensor center rows flags g h = absurd (never HostFailed g h)
+scored_facts share Failed sensor center rows flags g h = absurd (err-ok HostFailed g h)
 scored_facts share (Solved c) sensor center rows flags g h =
     let s = solved_at c sensor in
     let p = scored_passed share s sensor center rows flags g h in
@@ -93,11 +91,11 @@ solved_reason share s sensor center rows flags h =
     (λ v. case (enough_with share s rows flags)
     (λ e. case (is_finite (mean_with s rows flags))
     (λ m. case (is_nan (scoring_of s sensor center rows flags).score)
-    (λ k. let q = skipped_same NoNumber HostFailed (sym (nan_skips share s sensor center rows flags v e m k) ∙ h) in cc)
-    (λ k. absurd (never HostFailed (scoring_of s sensor center rows flags) (sym h ∙ number_scores share s sensor center rows flags v e m k))))
-    (λ m. let q = skipped_same NoMean HostFailed (sym (infinite_skips share s sensor center rows flags v m) ∙ h) in cc))
-    (λ e. let q = skipped_same NoMean HostFailed (sym (few_skips share s sensor center rows flags v e) ∙ h) in cc))
-    (λ v. let q = skipped_same BadCamera HostFailed (sym (invalid_skips share s sensor center rows flags v) ∙ h) in cc)
+    (λ k. let q = same_Err NoNumber HostFailed (sym (nan_skips share s sensor center rows flags v e m k) ∙ h) in cc)
+    (λ k. absurd (err-ok HostFailed (scoring_of s sensor center rows flags) (sym h ∙ number_scores share s sensor center rows flags v e m k))))
+    (λ m. let q = same_Err NoMean HostFailed (sym (infinite_skips share s sensor center rows flags v m) ∙ h) in cc))
+    (λ e. let q = same_Err NoMean HostFailed (sym (few_skips share s sensor center rows flags v e) ∙ h) in cc))
+    (λ v. let q = same_Err BadCamera HostFailed (sym (invalid_skips share s sensor center rows flags v) ∙ h) in cc)
 
 pub skipped_reason : (share : ℕ) (f : Finding) (sensor : ScheimpflugParams) (center : Pt2) (rows : List Float) (flags : List ℕ) (r : SkipReason)
     → outcome_of share f sensor center rows flags ≡ Err r → (1 ≤ reason_number r) × (reason_number r ≤ 4)

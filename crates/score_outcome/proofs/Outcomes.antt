@@ -3,6 +3,7 @@ use Rattle.std.specs.Prelude.{ℕ, ◌≡◌, true, false, List, Float, Ok, Err}
 use Rattle.std.proofs.Common.{sym, ◌∙◌}
 use Rattle.std.specs.Float.Ieee.{is_nan}
 use Rattle.common.specs.Tests.{case}
+use Rattle.common.specs.Results.{same_Ok, err-ok}
 use Rattle.float.specs.Float.{is_finite}
 use Rattle.camera_models.specs.declared.math.Pt2.{Pt2}
 use Rattle.camera_tilt.specs.declared.sensor.ScheimpflugParams.{ScheimpflugParams}
@@ -12,16 +13,7 @@ use Rattle.score_camera.specs.Penalties.{score_of}
 use Rattle.score_outcome.specs.Evaluation.{enough_with, mean_with, scoring_of, scored_as, evaluated}
 use Rattle.score_outcome.specs.declared.SolvedCamera.{SolvedCamera}
 use Rattle.score_outcome.specs.declared.Scoring.{Scoring}
-use Rattle.score_outcome.specs.declared.SkipReason.{SkipReason}
 use Rattle.score_outcome.specs.declared.SkipReason.TheVariants.{BadCamera, NoMean, NoNumber}
-use Rattle.score_outcome.specs.Reasons.{Outcome}
-
--- an outcome is skipped or scored
-pub never : (r : SkipReason) (g : Scoring) → ◌≡◌ {A = Outcome} (Err r) (Ok g) → ⊥
-never r g h = cc
-
-pub scored_same : (g k : Scoring) → ◌≡◌ {A = Outcome} (Ok g) (Ok k) → g ≡ k
-scored_same g k h = cc
 
 module _ (share : ℕ) (s : SolvedCamera) (sensor : ScheimpflugParams) (center : Pt2) (rows : List Float) (flags : List ℕ) where
   pub invalid_skips : valid_camera (damped_camera s.camera) ≡ false → evaluated share s sensor center rows flags ≡ Err BadCamera
@@ -66,11 +58,11 @@ module _ (share : ℕ) (s : SolvedCamera) (sensor : ScheimpflugParams) (center :
       (λ v. case (enough_with share s rows flags)
       (λ e. case (is_finite (mean_with s rows flags))
       (λ f. case (is_nan (scoring_of s sensor center rows flags).score)
-      (λ n. absurd (never NoNumber g (sym (nan_skips v e f n) ∙ h)))
-      (λ n. record { valid = v; enough_counted = e; finite = f; number = n; is = scored_same (scoring_of s sensor center rows flags) g (sym (number_scores v e f n) ∙ h) }))
-      (λ f. absurd (never NoMean g (sym (infinite_skips v f) ∙ h))))
-      (λ e. absurd (never NoMean g (sym (few_skips v e) ∙ h))))
-      (λ v. absurd (never BadCamera g (sym (invalid_skips v) ∙ h)))
+      (λ n. absurd (err-ok NoNumber g (sym (nan_skips v e f n) ∙ h)))
+      (λ n. record { valid = v; enough_counted = e; finite = f; number = n; is = same_Ok (scoring_of s sensor center rows flags) g (sym (number_scores v e f n) ∙ h) }))
+      (λ f. absurd (err-ok NoMean g (sym (infinite_skips v f) ∙ h))))
+      (λ e. absurd (err-ok NoMean g (sym (few_skips v e) ∙ h))))
+      (λ v. absurd (err-ok BadCamera g (sym (invalid_skips v) ∙ h)))
 
 -- the finding as it is scored, from the damped camera, its mean and its score
 pub scoring_is : (s : SolvedCamera) (sensor : ScheimpflugParams) (center : Pt2) (rows : List Float) (flags : List ℕ) (k : PinholeCamera) (mean score : Float)

@@ -9,12 +9,12 @@ ghost use Rattle.score_outcome.specs.Reasons.{reason_number, reason_numbered};
 ghost use Rattle.score_outcome.specs.Evaluation.{any_above_one, trig_of, solved_refusal, finding_refusal, enough, scored_as, evaluated, outcome_of, error_count_of};
 
 use camera_models::math::Pt2;
-use camera_tilt::sensor::{ScheimpflugParams, TiltTrig};
+use camera_tilt::sensor::{ScheimpflugParams, TiltTrig, tilt_projection_matrix};
 use common::Refusal;
 use float_series::{beyond, cosine_sum, sine_sum};
 use score_camera::penalties::candidate_score;
 use score_camera::pinhole::{PinholeCamera, damped_camera, validate_camera};
-use score_rows::{ErrorSum, mean_reproj_error, reproj_error_sum, tilt_matrix};
+use score_rows::{ErrorSum, mean_reproj_error, reproj_error_sum};
 
 // What the host found for a seed: the camera's nine numbers, or nothing.
 // Kept: the interface names the two kinds of finding, Failed and Solved.
@@ -43,25 +43,20 @@ pub struct Scoring {
 #[derive(Clone, Copy, Debug, PartialEq, Eq)]
 pub enum SkipReason {
     // the host found no camera
-    HostFailed,
+    HostFailed = 1,
     // the camera is not valid
-    BadCamera,
+    BadCamera = 2,
     // too few rows count, or the mean error is not finite
-    NoMean,
+    NoMean = 3,
     // the score is not a number
-    NoNumber,
+    NoNumber = 4,
 }
 
 impl From<SkipReason> for u8 {
     ghost from_gives = { λ reason number. number ≡ reason_number reason };
 
     fn from(reason: SkipReason) -> u8 {
-        match reason {
-            SkipReason::HostFailed => 1,
-            SkipReason::BadCamera => 2,
-            SkipReason::NoMean => 3,
-            SkipReason::NoNumber => 4,
-        }
+        reason as u8
     }
 }
 
@@ -92,7 +87,8 @@ fn any_above_one(flags: &[u8]) -> bool
     flags.iter().any(|flag| *flag > 1)
 }
 
-// Kept: rows and flags are two lists, here and below: the rules name the two, and C lends them apart.
+// Kept: rows and flags are two lists, here and below. A struct of finding, rows and flags would fit only the functions that take a finding: this one,
+// `evaluate_candidate` and `count_errors` have the tilts or a camera instead, and would need a second struct, of the two lists.
 #[tactic(auto, unfolding(crate::specs::Evaluation::solved_refusal))]
 fn solved_refusal(sensor: ScheimpflugParams, rows: &[f64], flags: &[u8]) -> Result<(), Refusal>
     ensures { result ≡ solved_refusal sensor rows.now flags.now }
@@ -167,13 +163,13 @@ fn scored_outcome(
     ensures { result ≡ scored_as (record { camera = camera; mean = mean; score = score_of mean camera sensor center }) }
 {
     let score = candidate_score(mean, camera, sensor, center);
-    if float::is_nan(score) {
+    if score.is_nan() {
         return Err(SkipReason::NoNumber);
     }
     Ok(Scoring {
-        camera: camera,
-        mean: mean,
-        score: score,
+        camera,
+        mean,
+        score,
     })
 }
 
@@ -192,7 +188,8 @@ fn evaluate_candidate(
     if !validate_camera(camera) {
         return Err(SkipReason::BadCamera);
     }
-    let errors = reproj_error_sum(camera, tilt_matrix(solved.trig), rows, flags);
+    let h = tilt_projection_matrix(solved.trig);
+    let errors = reproj_error_sum(camera, h, rows, flags);
     if !is_enough(share, errors.count, flags.len()) {
         return Err(SkipReason::NoMean);
     }
@@ -224,7 +221,7 @@ pub fn finding_outcome(
 }
 
 // Sum and count of the errors that the mean of a solved camera divides, damped as it is for its outcome.
-#[tactic(auto, unfolding(crate::specs::Evaluation::error_count_of, crate::specs::Evaluation::errors_with))]
+#[tactic(auto, unfolding(crate::specs::Evaluation::error_count_of, crate::specs::Evaluation::errors_with, score_rows::specs::Rows::tilt_matrix))]
 pub fn count_errors(
     camera: PinholeCamera,
     sensor: ScheimpflugParams,
@@ -234,6 +231,6 @@ pub fn count_errors(
     ensures { result ≡ error_count_of camera sensor rows.now flags.now }
 {
     solved_refusal(sensor, rows, flags)?;
-    let h = tilt_matrix(trig_of(sensor));
+    let h = tilt_projection_matrix(trig_of(sensor));
     Ok(reproj_error_sum(damped_camera(camera), h, rows, flags))
 }

@@ -1,11 +1,13 @@
 -- The theorems on specs/Steps.antt: rows added one by one, some at a time, and by their flags. Assumes nothing.
-use Rattle.std.specs.Prelude.{◌≡◌, ℕ, zero, suc, ◌+◌, ◌*◌, ◌%◌, ◌^◌, ◌<◌, ◌≤◌, Bool, true, false, cond, ◌&&◌, List, [], ◌∷◌, length, drop, ◌==◌, slice_index, slice_index_or, refl, Float}
-use Rattle.std.proofs.Common.{◌/◌, min, not, T, ltb, ltb→lt, nltb→le, sym, ap, ap₂, subst, ◌∙◌, arith, mod-eq_of_lt, add-one, drop-cons}
+use Rattle.std.specs.Prelude.{◌≡◌, ℕ, zero, suc, ◌+◌, ◌*◌, ◌%◌, ◌^◌, ◌<◌, ◌≤◌, Bool, true, false, cond, ◌&&◌, List, [], ◌∷◌, length, drop, take, ◌==◌, slice_index, slice_index_or, refl, Float}
+use Rattle.std.proofs.Common.{◌/◌, min, not, T, ltb, ltb→lt, nltb→le, sym, ap, ap₂, subst, ◌∙◌, arith, mod-eq_of_lt, add-one, drop-cons, ⊎_elim, eq-or-lt_of_le}
 use Rattle.std.proofs.Math.Seq.{drop-length}
+use Rattle.std.proofs.lemmas.List.{get_or-take, get_or-drop}
 use Rattle.std.specs.Float.{nan, binary64}
-use Rattle.std.specs.Float.Ieee.{of_bits}
+use Rattle.std.specs.Float.Ieee.{of_bits, div}
 use Rattle.float.specs.Binary64.{◌+₆₄◌}
 use Rattle.float.specs.Float.{is_finite}
+use Rattle.float.specs.Literals.{plus_zero, infinity}
 use Rattle.root.specs.Root.{root}
 use Rattle.root_code.specs.Bits.{finite_bits}
 use Rattle.camera_tilt.specs.Matrix.{Matrix}
@@ -13,7 +15,7 @@ use Rattle.score_rows.specs.Rows.{rows_of, row_error, is_counted, counted_errors
 use Rattle.score_camera.specs.declared.pinhole.PinholeCamera.{PinholeCamera}
 use Rattle.score_rows.specs.declared.Row.{Row}
 use Rattle.score_rows.specs.declared.ErrorSum.{ErrorSum}
-use Rattle.score_rows.specs.Steps.{add_error, squared_distance, square_at, add_row, add_rows, add_bits, add_all, one_in_front, in_front, Squares, QuickRoots, row_at}
+use Rattle.score_rows.specs.Steps.{add_error, square_at, add_row, add_rows, add_bits, add_all, one_in_front, in_front, Squares, QuickRoots, row_at}
 
 -- ---- row by row: s has the errors of the first i rows, and adding those of the rest to it gives the whole
 pub record Passed (c : PinholeCamera) (h : Matrix) (rows : List Row) (i : ℕ) (s : ErrorSum) : Type 0 where
@@ -60,6 +62,40 @@ rows_fewer ns fs = go (ltb (length ns / 4) (length fs)) (ltb→lt (length ns / 4
         let e : min (length ns / 4) (length fs) ≡ length fs = omega arith in
         e ∙ sym (rows_by_flags ns fs (omega arith))
 
+-- none where the numbers make no row, or there is no flag
+none_whole : (ns : List Float) (fs : List ℕ) → length ns < 4 → rows_of ns fs ≡ []
+unfolding rows_of
+none_whole [] fs h = refl
+none_whole (x ∷ []) fs h = refl
+none_whole (x ∷ y ∷ []) fs h = refl
+none_whole (x ∷ y ∷ u ∷ []) fs h = refl
+none_whole (x ∷ y ∷ u ∷ v ∷ ns) fs h = absurd (omega arith)
+
+none_flagged : (ns : List Float) → rows_of ns [] ≡ []
+unfolding rows_of
+none_flagged [] = refl
+none_flagged (x ∷ []) = refl
+none_flagged (x ∷ y ∷ []) = refl
+none_flagged (x ∷ y ∷ u ∷ []) = refl
+none_flagged (x ∷ y ∷ u ∷ v ∷ ns) = refl
+
+-- the same ones where the lists are cut to the fewer of them
+cut : (ns : List Float) (fs : List ℕ) (n : ℕ) → 4 * n ≤ length ns → n ≤ length fs → (n < length fs → length ns < 4 * n + 4) → rows_of (take (4 * n) ns) (take n fs) ≡ rows_of ns fs
+unfolding rows_of
+cut ns [] zero a b c = sym (none_flagged ns)
+cut ns (f ∷ fs) zero a b c = sym (none_whole ns (f ∷ fs) (c (omega arith)))
+cut ns [] (suc n) a b c = absurd (omega arith)
+cut [] (f ∷ fs) (suc n) a b c = absurd (omega arith)
+cut (x ∷ []) (f ∷ fs) (suc n) a b c = absurd (omega arith)
+cut (x ∷ y ∷ []) (f ∷ fs) (suc n) a b c = absurd (omega arith)
+cut (x ∷ y ∷ u ∷ []) (f ∷ fs) (suc n) a b c = absurd (omega arith)
+cut (x ∷ y ∷ u ∷ v ∷ ns) (f ∷ fs) (suc n) a b c =
+    let e : 4 * suc n ≡ suc (suc (suc (suc (4 * n)))) = omega arith in
+    rw (e, cut ns fs n (omega arith) (omega arith) (λ h. omega (arith, c (omega (arith, h)))))
+
+pub rows_cut : (ns : List Float) (fs : List ℕ) → rows_of (take (4 * min (length ns / 4) (length fs)) ns) (take (min (length ns / 4) (length fs)) fs) ≡ rows_of ns fs
+rows_cut ns fs = cut ns fs (min (length ns / 4) (length fs)) (omega arith) (omega arith) (λ h. omega (arith, h))
+
 -- ---- each row is the one that stands at its place
 past_four : (x y u v : Float) (ns : List Float) (n m : ℕ) → n ≡ suc (suc (suc (suc m))) → slice_index_or (x ∷ y ∷ u ∷ v ∷ ns) n nan ≡ slice_index_or ns m nan
 past_four x y u v ns n m e = rw e
@@ -77,15 +113,50 @@ row_at_lem (x ∷ y ∷ u ∷ v ∷ ns) (f ∷ fs) (suc i) r h =
     simp (p (4 * suc i) (4 * i) (omega arith), p (4 * suc i + 1) (4 * i + 1) (omega arith), p (4 * suc i + 2) (4 * i + 2) (omega arith), p (4 * suc i + 3) (4 * i + 3) (omega arith))
     (row_at_lem ns fs i r (omega arith))
 
--- ---- blocks of rows
-pub rows_more : (s : ErrorSum) (c : PinholeCamera) (h : Matrix) (ns : List Float) (fs : List ℕ) (i m n : ℕ)
-    → add_rows (add_rows s c h ns fs i m) c h ns fs (i + m) n ≡ add_rows s c h ns fs i (m + n)
+-- ---- a list's part, n from place m on
+part : {A : Type 0} (m n : ℕ) (xs : List A) (d : A) (q k : ℕ) → q < n → m + q ≡ k → slice_index_or (take n (drop m xs)) q d ≡ slice_index_or xs k d
+part m n xs d q k l e = get_or-take n (drop m xs) q d l ∙ get_or-drop m xs q d ∙ ap (λ (i : ℕ). slice_index_or xs i d) e
+
+-- ---- none of the rows, and one more of them: what each turn of a loop adds
+pub rows_none : (s : ErrorSum) (c : PinholeCamera) (h : Matrix) (ns : List Float) (fs : List ℕ) → add_rows s c h ns fs 0 ≡ s
 unfolding add_rows
-rows_more s c h ns fs i m zero = let e : m + 0 ≡ m = omega arith in rw e
-rows_more s c h ns fs i m (suc j) =
+rows_none s c h ns fs = refl
+
+pub rows_next : (s : ErrorSum) (c : PinholeCamera) (h : Matrix) (ns : List Float) (fs : List ℕ) (j : ℕ)
+    → add_rows s c h ns fs (j + 1) ≡ add_row (add_rows s c h ns fs j) c h ns fs j
+unfolding add_rows
+rows_next s c h ns fs j = rw (add-one j)
+
+pub ruleset turns = (rows_none, rows_next)
+
+-- ---- the same where the bits of their errors are known
+pub bits_none : (s : ErrorSum) (fs bits : List ℕ) → add_bits s fs bits 0 ≡ s
+unfolding add_bits
+bits_none s fs bits = refl
+
+pub bits_next : (s : ErrorSum) (fs bits : List ℕ) (j : ℕ)
+    → add_bits s fs bits (j + 1) ≡ add_error (add_bits s fs bits j) (slice_index fs j == 1) (of_bits binary64 (slice_index bits j))
+unfolding add_bits
+bits_next s fs bits j = rw (add-one j)
+
+pub ruleset bits_turns = (bits_none, bits_next)
+
+-- ---- blocks of rows
+-- row j of the rows that are cut out after the first m is row m + j of all
+part_row : (s : ErrorSum) (c : PinholeCamera) (h : Matrix) (ns : List Float) (fs : List ℕ) (m n j : ℕ) → j < n
+    → add_row s c h (take (4 * n) (drop (4 * m) ns)) (take n (drop m fs)) j ≡ add_row s c h ns fs (m + j)
+unfolding add_row square_at
+part_row s c h ns fs m n j l =
+    let at : (q k : ℕ) → q < 4 * n → 4 * m + q ≡ k → slice_index_or (take (4 * n) (drop (4 * m) ns)) q nan ≡ slice_index_or ns k nan = part (4 * m) (4 * n) ns nan in
+    simp (part m n fs 0 j (m + j) l refl, at (4 * j) (4 * (m + j)) (omega arith) (omega arith), at (4 * j + 1) (4 * (m + j) + 1) (omega arith) (omega arith), at (4 * j + 2) (4 * (m + j) + 2) (omega arith) (omega arith), at (4 * j + 2 + 1) (4 * (m + j) + 2 + 1) (omega arith) (omega arith))
+
+pub rows_more : (s : ErrorSum) (c : PinholeCamera) (h : Matrix) (ns : List Float) (fs : List ℕ) (m n k : ℕ) → k ≤ n
+    → add_rows (add_rows s c h ns fs m) c h (take (4 * n) (drop (4 * m) ns)) (take n (drop m fs)) k ≡ add_rows s c h ns fs (m + k)
+unfolding add_rows
+rows_more s c h ns fs m n zero l = let e : m + 0 ≡ m = omega arith in rw e
+rows_more s c h ns fs m n (suc j) l =
     let e : m + suc j ≡ suc (m + j) = omega arith in
-    let z : i + (m + j) ≡ i + m + j = omega arith in
-    rw (e, z, rows_more s c h ns fs i m j)
+    rw (e, rows_more s c h ns fs m n j (omega arith), part_row (add_rows s c h ns fs (m + j)) c h ns fs m n j (omega arith))
 
 -- a root whose bits are a finite number's is counted by its flag alone
 bits_row : (s : ErrorSum) (flag b : ℕ) (x : Float) → b < 0x7ff0_0000_0000_0000 → of_bits binary64 b ≡ root binary64 x
@@ -98,15 +169,15 @@ bits_row s flag b x small e =
     and-true true = refl
     and-true false = refl
 
-pub from_bits : (s : ErrorSum) (c : PinholeCamera) (h : Matrix) (ns : List Float) (fs : List ℕ) (xs : List Float) (bits : List ℕ) (wrong i n : ℕ)
-    → Squares c h ns i n xs → QuickRoots n bits wrong xs → wrong < 2 ^ 37 → add_bits s fs bits i n ≡ add_rows s c h ns fs i n
+pub from_bits : (s : ErrorSum) (c : PinholeCamera) (h : Matrix) (ns : List Float) (fs : List ℕ) (xs : List Float) (bits : List ℕ) (wrong n : ℕ)
+    → Squares c h ns n xs → QuickRoots n bits wrong xs → wrong < 2 ^ 37 → add_bits s fs bits n ≡ add_rows s c h ns fs n
 unfolding add_bits add_rows add_row
-from_bits s c h ns fs xs bits wrong i zero squares quick z = refl
-from_bits s c h ns fs xs bits wrong i (suc j) squares quick z =
+from_bits s c h ns fs xs bits wrong zero squares quick z = refl
+from_bits s c h ns fs xs bits wrong (suc j) squares quick z =
     let q = quick j (omega arith) z in
     let x = squares j (omega arith) in
-    rw (from_bits s c h ns fs xs bits wrong i j (λ k l. squares k (omega (arith, l))) (λ k l. quick k (omega (arith, l))) z)
-    (bits_row (add_rows s c h ns fs i j) (slice_index fs (i + j)) (slice_index bits j) (square_at c h ns (i + j)) q.0 (q.1 ∙ ap (root binary64) x))
+    rw (from_bits s c h ns fs xs bits wrong j (λ k l. squares k (omega (arith, l))) (λ k l. quick k (omega (arith, l))) z)
+    (bits_row (add_rows s c h ns fs j) (slice_index fs j) (slice_index bits j) (square_at c h ns j) q.0 (q.1 ∙ ap (root binary64) x))
 
 -- ---- how many rows lie in front
 pub one_at_most : (flag : ℕ) → one_in_front flag ≤ 1
@@ -117,34 +188,53 @@ one_at_most flag = go (flag == 1)
     go true = omega arith
     go false = omega arith
 
-pub front_at_most : (fs : List ℕ) (i n : ℕ) → in_front fs i n ≤ n
+pub front_at_most : (fs : List ℕ) (n : ℕ) → in_front fs n ≤ n
 unfolding in_front
-front_at_most fs i zero = omega arith
-front_at_most fs i (suc j) = omega (arith, front_at_most fs i j, one_at_most (slice_index fs (i + j)))
+front_at_most fs zero = omega arith
+front_at_most fs (suc j) = omega (arith, front_at_most fs j, one_at_most (slice_index fs j))
 
--- all of them: their flags say nothing more
+pub front_none : (fs : List ℕ) → in_front fs 0 ≡ 0
+unfolding in_front
+front_none fs = refl
+
+pub front_next : (fs : List ℕ) (j : ℕ) → in_front fs (j + 1) ≡ in_front fs j + one_in_front (slice_index fs j)
+unfolding in_front
+front_next fs j = rw (add-one j)
+
+-- of a list's part, whose flags they are
+pub ruleset front_turns = (front_none, front_next, one_at_most, front_at_most, get_or-take, get_or-drop)
+
+-- all of them: so does each
 all_step : (v : Bool) (m j : ℕ) → m ≤ j → m + cond v 1 0 ≡ suc j → (v ≡ true) × (m ≡ j)
 all_step true m j l e = (refl, omega (arith, e))
 all_step false m j l e = absurd (omega (arith, e))
 
-pub all_bits : (s : ErrorSum) (fs bits : List ℕ) (i n : ℕ) → in_front fs i n ≡ n → add_all s bits n ≡ add_bits s fs bits i n
+pub front_each : (fs : List ℕ) (n j : ℕ) → in_front fs n ≡ n → j < n → (slice_index fs j == 1) ≡ true
+unfolding in_front one_in_front
+front_each fs zero j all h = absurd (omega arith)
+front_each fs (suc m) j all h =
+    let step = all_step (slice_index fs m == 1) (in_front fs m) m (front_at_most fs m) all in
+    ⊎_elim (λ e. rw e step.0) (λ l. front_each fs m j step.1 l) (eq-or-lt_of_le {n = j} {m = m} (omega arith))
+
+-- their flags say nothing more
+pub all_bits : (s : ErrorSum) (fs bits : List ℕ) (n : ℕ) → in_front fs n ≡ n → add_all s bits n ≡ add_bits s fs bits n
 unfolding add_all add_bits in_front one_in_front
-all_bits s fs bits i zero all = refl
-all_bits s fs bits i (suc j) all =
-    let step = all_step (slice_index fs (i + j) == 1) (in_front fs i j) j (front_at_most fs i j) all in
-    rw (step.0, all_bits s fs bits i j step.1)
+all_bits s fs bits zero all = refl
+all_bits s fs bits (suc j) all =
+    let step = all_step (slice_index fs j == 1) (in_front fs j) j (front_at_most fs j) all in
+    rw (step.0, all_bits s fs bits j step.1)
 
 -- none of them: nothing is added
 none_step : (v : Bool) (m : ℕ) → m + cond v 1 0 ≡ 0 → (v ≡ false) × (m ≡ 0)
 none_step true m e = absurd (omega (arith, e))
 none_step false m e = (refl, omega (arith, e))
 
-pub none_counted : (s : ErrorSum) (c : PinholeCamera) (h : Matrix) (ns : List Float) (fs : List ℕ) (i n : ℕ) → in_front fs i n ≡ 0 → s ≡ add_rows s c h ns fs i n
+pub none_counted : (s : ErrorSum) (c : PinholeCamera) (h : Matrix) (ns : List Float) (fs : List ℕ) (n : ℕ) → in_front fs n ≡ 0 → s ≡ add_rows s c h ns fs n
 unfolding add_rows add_row add_error in_front one_in_front
-none_counted s c h ns fs i zero none = refl
-none_counted s c h ns fs i (suc j) none =
-    let step = none_step (slice_index fs (i + j) == 1) (in_front fs i j) none in
-    rw step.0 (none_counted s c h ns fs i j step.1)
+none_counted s c h ns fs zero none = refl
+none_counted s c h ns fs (suc j) none =
+    let step = none_step (slice_index fs j == 1) (in_front fs j) none in
+    rw step.0 (none_counted s c h ns fs j step.1)
 
 one_more : (s : ErrorSum) (c : PinholeCamera) (h : Matrix) (r : Row) (rs : List Row)
     → s.count + 1 < 2 ^ 64 → summed (add_error s (is_counted c h r) (row_error c h r)) (counted_errors c h rs) ≡ summed s (counted_errors c h (r ∷ rs))
@@ -173,23 +263,34 @@ passed_more c h rows i s r below small at p =
 -- as the rules have it
 add_row_at : (s : ErrorSum) (c : PinholeCamera) (h : Matrix) (ns : List Float) (fs : List ℕ) (k : ℕ)
     → add_row s c h ns fs k ≡ add_error s (is_counted c h (row_at ns fs k)) (row_error c h (row_at ns fs k))
-unfolding add_row square_at squared_distance row_at is_counted row_error
+unfolding add_row square_at row_at is_counted row_error
 add_row_at s c h ns fs k = let last : 4 * k + 2 + 1 ≡ 4 * k + 3 = omega arith in rw last
 
 passed : (c : PinholeCamera) (h : Matrix) (ns : List Float) (fs : List ℕ) (n : ℕ)
-    → n ≤ length (rows_of ns fs) → n < 2 ^ 64 → Passed c h (rows_of ns fs) n (add_rows no_errors c h ns fs 0 n)
+    → n ≤ length (rows_of ns fs) → n < 2 ^ 64 → Passed c h (rows_of ns fs) n (add_rows no_errors c h ns fs n)
 unfolding add_rows error_sum
 passed c h ns fs zero inside small = record { few = omega arith; rest = refl }
 passed c h ns fs (suc k) inside small =
-    let s = add_rows no_errors c h ns fs 0 k in
+    let s = add_rows no_errors c h ns fs k in
     let r = row_at ns fs k in
     let below : k < length (rows_of ns fs) = omega arith in
-    let z : 0 + k ≡ k = omega arith in
-    rw (z, add_row_at s c h ns fs k)
+    rw (add_row_at s c h ns fs k)
     (subst (λ (j : ℕ). Passed c h (rows_of ns fs) j (add_error s (is_counted c h r) (row_error c h r))) (add-one k)
     (passed_more c h (rows_of ns fs) k s r below (omega arith) (row_at_lem ns fs k r below) (passed c h ns fs k (omega arith) (omega arith))))
 
 pub all_rows : (c : PinholeCamera) (h : Matrix) (ns : List Float) (fs : List ℕ) (n : ℕ) → n ≡ length (rows_of ns fs) → n < 2 ^ 64
-    → add_rows no_errors c h ns fs 0 n ≡ error_sum c h (rows_of ns fs)
+    → add_rows no_errors c h ns fs n ≡ error_sum c h (rows_of ns fs)
 unfolding counted_errors summed
 all_rows c h ns fs n e small = rw e (rw drop-length at (passed c h ns fs (length (rows_of ns fs)) (omega arith) (rw e at small)).rest)
+
+-- of lists that are cut to their rows, from a sum of nothing
+pub cut_rows : (s : ErrorSum) (c : PinholeCamera) (h : Matrix) (ns : List Float) (fs : List ℕ) (n : ℕ) → s.sum ≡ plus_zero → s.count ≡ 0 → length ns ≡ 4 * length fs → n ≡ length fs → n < 2 ^ 64
+    → add_rows s c h ns fs n ≡ error_sum c h (rows_of ns fs)
+cut_rows s c h ns fs n p q four e small =
+    let none : s ≡ no_errors = ap₂ (λ x m. record { sum = x; count = m }) p q in
+    rw none (all_rows c h ns fs n (e ∙ sym (rows_by_flags ns fs (omega arith))) small)
+
+-- infinity by its bits, which core's constant has
+pub infinity_bits : of_bits binary64 0x7ff0_0000_0000_0000 ≡ infinity
+unfolding div of_bits
+infinity_bits = refl

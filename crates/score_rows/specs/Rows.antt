@@ -28,7 +28,7 @@ rows_of (x ∷ y ∷ u ∷ v ∷ numbers) (flag ∷ flags) =
 
 -- the forward tilt, P × R
 unfoldable pub tilt_matrix : TiltTrig → Matrix
-tilt_matrix t = tilt_projection_matrix t.sin_x t.cos_x t.sin_y t.cos_y
+tilt_matrix t = tilt_projection_matrix t
 
 -- where the camera projects an ideal point: distorted, then tilted, then brought to a pixel
 unfoldable pub projected : PinholeCamera → Matrix → Pt2 → Pt2

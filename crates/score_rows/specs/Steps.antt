@@ -1,29 +1,23 @@
 -- How the code goes through the rows, and that it reaches the rules' sum and count. Assumes nothing.
-use Rattle.std.specs.Prelude.{◌≡◌, ℕ, zero, suc, ◌+◌, ◌*◌, ◌%◌, ◌^◌, ◌<◌, Bool, true, cond, ◌&&◌, List, ◌==◌, slice_index, slice_index_or, Float}
+use Rattle.std.specs.Prelude.{◌≡◌, ℕ, zero, suc, ◌+◌, ◌*◌, ◌%◌, ◌^◌, ◌<◌, Bool, true, cond, ◌&&◌, List, length, ◌==◌, slice_index, slice_index_or, Float}
 use Rattle.std.specs.Float.{nan, binary64}
 use Rattle.std.specs.Float.Ieee.{of_bits}
-use Rattle.float.specs.Binary64.{◌+₆₄◌, ◌-₆₄◌, ◌*₆₄◌}
+use Rattle.float.specs.Binary64.{◌+₆₄◌}
 use Rattle.float.specs.Float.{is_finite}
 use Rattle.root.specs.Root.{root}
 use Rattle.root_code.specs.Quick.{Quick}
 use Rattle.camera_tilt.specs.Matrix.{Matrix}
-use Rattle.camera_models.specs.declared.math.Pt2.{Pt2}
-use Rattle.point_normalise.specs.Points.{point_at}
+use Rattle.point_normalise.specs.Points.{point_at, squared_distance}
 use Rattle.score_rows.specs.Rows.{projected}
 use Rattle.score_camera.specs.declared.pinhole.PinholeCamera.{PinholeCamera}
 use Rattle.score_rows.specs.declared.Row.{Row}
 use Rattle.score_rows.specs.declared.ErrorSum.{ErrorSum}
+use Rattle.score_rows.specs.declared.Projection.{Projection}
+use Rattle.score_rows.specs.declared.rows.Rows.{Rows}
 
 -- A row that counts adds its error to the sum and one to the count. A count at 2 ^ 64 - 1 goes on from 0; no list of rows brings it there.
 unfoldable pub add_error : ErrorSum → Bool → Float → ErrorSum
 add_error s counted e = cond counted (record { sum = s.sum +₆₄ e; count = (s.count + 1) % 2 ^ 64 }) s
-
--- dx × dx + dy × dy
-unfoldable pub squared_distance : Pt2 → Pt2 → Float
-squared_distance p q =
-    let dx = p.x -₆₄ q.x in
-    let dy = p.y -₆₄ q.y in
-    dx *₆₄ dx +₆₄ dy *₆₄ dy
 
 -- the square of row k's error
 unfoldable pub square_at : PinholeCamera → Matrix → List Float → ℕ → Float
@@ -35,32 +29,36 @@ add_row s c h numbers flags k =
     let e = root binary64 (square_at c h numbers k) in
     add_error s (slice_index flags k == 1 && is_finite e) e
 
--- n rows from row i on, in their order
-unfoldable pub add_rows : ErrorSum → PinholeCamera → Matrix → List Float → List ℕ → ℕ → ℕ → ErrorSum
-add_rows s c h numbers flags i zero = s
-add_rows s c h numbers flags i (suc j) = add_row (add_rows s c h numbers flags i j) c h numbers flags (i + j)
+-- the first n rows, in their order
+unfoldable pub add_rows : ErrorSum → PinholeCamera → Matrix → List Float → List ℕ → ℕ → ErrorSum
+add_rows s c h numbers flags zero = s
+add_rows s c h numbers flags (suc j) = add_row (add_rows s c h numbers flags j) c h numbers flags j
+
+-- all rows of two lists, brought to pixels by a projection
+abbrev pub add_all_rows : ErrorSum → Projection → Rows → ErrorSum
+add_all_rows s by rows = add_rows s by.camera by.h rows.numbers.now rows.flags.now (length rows.flags.now)
 
 -- the same where the bits of their errors are known
-unfoldable pub add_bits : ErrorSum → List ℕ → List ℕ → ℕ → ℕ → ErrorSum
-add_bits s flags bits i zero = s
-add_bits s flags bits i (suc j) = add_error (add_bits s flags bits i j) (slice_index flags (i + j) == 1) (of_bits binary64 (slice_index bits j))
+unfoldable pub add_bits : ErrorSum → List ℕ → List ℕ → ℕ → ErrorSum
+add_bits s flags bits zero = s
+add_bits s flags bits (suc j) = add_error (add_bits s flags bits j) (slice_index flags j == 1) (of_bits binary64 (slice_index bits j))
 
 -- the same for rows that all count
 unfoldable pub add_all : ErrorSum → List ℕ → ℕ → ErrorSum
 add_all s bits zero = s
 add_all s bits (suc j) = add_error (add_all s bits j) true (of_bits binary64 (slice_index bits j))
 
--- 1 for a row in front of the camera, and how many of the n rows from row i on lie there
+-- 1 for a row in front of the camera, and how many of the first n rows lie there
 unfoldable pub one_in_front : ℕ → ℕ
 one_in_front flag = cond (flag == 1) 1 0
 
-unfoldable pub in_front : List ℕ → ℕ → ℕ → ℕ
-in_front flags i zero = 0
-in_front flags i (suc j) = in_front flags i j + one_in_front (slice_index flags (i + j))
+unfoldable pub in_front : List ℕ → ℕ → ℕ
+in_front flags zero = 0
+in_front flags (suc j) = in_front flags j + one_in_front (slice_index flags j)
 
--- xs starts with the squares of the errors of n rows from row i on
-abbrev pub Squares : PinholeCamera → Matrix → List Float → ℕ → ℕ → List Float → Type 0
-Squares c h numbers i n xs = (j : ℕ) → j < n → slice_index_or xs j nan ≡ square_at c h numbers (i + j)
+-- xs starts with the squares of the errors of the first n rows
+abbrev pub Squares : PinholeCamera → Matrix → List Float → ℕ → List Float → Type 0
+Squares c h numbers n xs = (j : ℕ) → j < n → slice_index_or xs j nan ≡ square_at c h numbers j
 
 -- the bits of the roots of the first n of xs, where `wrong` says that they are right
 abbrev pub QuickRoots : ℕ → List ℕ → ℕ → List Float → Type 0

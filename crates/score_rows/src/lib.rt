@@ -6,12 +6,13 @@
 mod blocks;
 mod rows;
 
-ghost use Rattle.std.specs.Prelude.{◌≡◌, ◌<◌};
-ghost use Rattle.score_rows.specs.Rows.{rows_of, tilt_matrix, projected, no_errors, error_sum, mean_of};
-ghost use Rattle.score_rows.specs.Steps.{add_error, squared_distance, square_at, add_row, add_rows};
+ghost use Rattle.std.specs.Prelude.{◌≡◌, ◌<◌, length};
+ghost use Rattle.point_normalise.specs.Points.{squared_distance};
+ghost use Rattle.score_rows.specs.Rows.{rows_of, tilt_matrix, projected, error_sum, mean_of};
+ghost use Rattle.score_rows.specs.Steps.{add_error, square_at, add_row, add_all_rows};
 
 use crate::blocks::add_blocks;
-use crate::rows::{Block, Rows, rows_of};
+use crate::rows::{Rows, rows_of};
 use camera_models::distortion::distort;
 use camera_models::intrinsics::sensor_to_pixel;
 use camera_models::math::Pt2;
@@ -43,12 +44,12 @@ pub struct ErrorSum {
 }
 
 // The sum divided by the count, infinity where nothing was counted.
-#[tactic(auto, unfolding(crate::specs::Rows::mean_of))]
+#[tactic(auto, using(crate::proofs::Steps::infinity_bits), unfolding(crate::specs::Rows::mean_of))]
 pub fn mean_reproj_error(total: ErrorSum) -> f64
     ensures { result ≡ mean_of total }
 {
     if total.count == 0 {
-        return 1.0 / 0.0;
+        return f64::INFINITY;
     }
     total.sum / std::num::nearest_u64_to_f64(total.count)
 }
@@ -64,21 +65,11 @@ fn project_point(by: Projection, ideal: Pt2) -> Pt2
     )
 }
 
-// The square of the distance of two points.
-#[tactic(auto, unfolding(crate::specs::Steps::squared_distance))]
-fn squared_distance(p: Pt2, q: Pt2) -> f64
-    ensures { result ≡ squared_distance p q }
-{
-    let dx = p.x - q.x;
-    let dy = p.y - q.y;
-    dx * dx + dy * dy
-}
-
 // The square of a row's error.
 fn squared_error(by: Projection, ideal: Pt2, seen: Pt2) -> f64
     ensures { result ≡ squared_distance (projected by.camera by.h ideal) seen }
 {
-    squared_distance(project_point(by, ideal), seen)
+    linalg::squared_distance(project_point(by, ideal), seen)
 }
 
 // One more error, counted or not.
@@ -115,7 +106,7 @@ fn with_error(total: ErrorSum, counted: bool, err: f64) -> ErrorSum
 // The square of the error of row k.
 #[tactic(auto, unfolding(crate::specs::Steps::square_at))]
 fn square_at(by: Projection, rows: Rows, k: usize) -> f64
-    requires { k < rows.count }
+    requires { k < length rows.flags.now }
     ensures { result ≡ square_at by.camera by.h rows.entry.numbers.now k }
 {
     let ideal = linalg::point_at(rows.numbers, 4 * k);
@@ -126,7 +117,7 @@ fn square_at(by: Projection, rows: Rows, k: usize) -> f64
 // One more row: row k. It is counted if it lies in front of the camera and has a finite error, and not projected if it lies behind.
 #[tactic(auto, unfolding(crate::specs::Steps::add_row, crate::specs::Steps::add_error))]
 fn add_row(total: ErrorSum, by: Projection, rows: Rows, k: usize) -> ErrorSum
-    requires { k < rows.count }
+    requires { k < length rows.flags.now }
     ensures { result ≡ add_row total by.camera by.h rows.entry.numbers.now rows.entry.flags.now k }
 {
     if rows.flags[k] != 1 {
@@ -139,26 +130,22 @@ fn add_row(total: ErrorSum, by: Projection, rows: Rows, k: usize) -> ErrorSum
     total
 }
 
-// The rows of a block, one by one.
-fn add_rows(total: ErrorSum, by: Projection, block: Block) -> ErrorSum
-    ensures { result ≡ add_rows total by.camera by.h block.entry.rows.numbers.now block.entry.rows.flags.now block.entry.i block.entry.n }
+// Some rows, one by one.
+#[tactic(auto, using(crate::proofs::Steps::turns))]
+fn add_rows(total: ErrorSum, by: Projection, rows: Rows) -> ErrorSum
+    ensures { result ≡ add_all_rows total by rows.entry }
 {
     let mut sum = total;
-    for j in 0..block.n {
-        sum = add_row(sum, by, block.rows, block.i + j);
+    for k in 0..rows.flags.len() {
+        sum = add_row(sum, by, rows, k);
     }
     sum
 }
 
-// Nothing is counted yet.
-fn no_errors() -> ErrorSum
-    ensures { result ≡ no_errors }
-{
-    ErrorSum::default()
-}
-
 // Sum and count of the errors of all rows. Few rows have a loop of their own, in which nothing is made ready for blocks.
-// Kept: the loop of add_rows stands here again: by a call of add_rows one row takes 291 instructions, as it stands 242.
+// Kept: the loop of add_rows stands here again: by a call of add_rows the mean of one row takes 418 instructions, as it stands 379;
+// of seven rows 1,396 and 1,567.
+#[tactic(auto, using(crate::proofs::Steps::turns, crate::proofs::Steps::cut_rows))]
 pub fn reproj_error_sum(
     camera: PinholeCamera,
     h: [[f64; 3]; 3],
@@ -169,28 +156,21 @@ pub fn reproj_error_sum(
 {
     let by = Projection { camera, h };
     let all = rows_of(rows, flags);
-    if 8 <= all.count {
-        return add_blocks(no_errors(), by, all);
+    let mut total = ErrorSum::default();
+    if 8 <= all.flags.len() {
+        return add_blocks(total, by, all);
     }
-    let mut total = no_errors();
-    for i in 0..all.count {
+    for i in 0..all.flags.len() {
         total = add_row(total, by, all, i);
     }
     total
 }
 
-// The forward tilt.
-// Kept: a name of its own: the contracts here and of its callers are said of tilt_matrix, and each would have to look into that.
-#[tactic(auto, unfolding(crate::specs::Rows::tilt_matrix))]
-pub fn tilt_matrix(trig: TiltTrig) -> [[f64; 3]; 3]
-    ensures { result ≡ tilt_matrix trig }
-{
-    tilt_projection_matrix(trig)
-}
-
 // The mean error of the rows, projected by the camera onto the tilted sensor.
+#[tactic(auto, unfolding(crate::specs::Rows::tilt_matrix))]
 pub fn mean_of_rows(camera: PinholeCamera, trig: TiltTrig, rows: &[f64], flags: &[u8]) -> f64
     ensures { result ≡ mean_of (error_sum camera (tilt_matrix trig) (rows_of rows.now flags.now)) }
 {
-    mean_reproj_error(reproj_error_sum(camera, tilt_matrix(trig), rows, flags))
+    let h = tilt_projection_matrix(trig);
+    mean_reproj_error(reproj_error_sum(camera, h, rows, flags))
 }

@@ -1,39 +1,31 @@
 // The rows that the host sends, as they are lent: two lists of numbers, side by side.
 
-ghost use Rattle.std.specs.Prelude.{◌≡◌, ◌+◌, ◌*◌, ◌≤◌, length};
+ghost use Rattle.std.specs.Prelude.{◌≡◌, ◌*◌, ◌≤◌, length};
 ghost use Rattle.score_rows.specs.Rows.{rows_of};
 
-// Four numbers and a flag for each row, and how many rows these are.
-// Kept: a count beside the lists: they are lent as they came, either may be longer than the rows, and the count is worked out once.
+// Four numbers and a flag for each row.
 #[derive(Clone, Copy)]
 pub struct Rows<'a> {
     pub numbers: &'a [f64],
     pub flags: &'a [u8],
-    pub count: usize,
-    ghost fours: { 4 * count ≤ length numbers.now },
-    ghost flagged: { count ≤ length flags.now },
+    ghost fours: { length numbers.now ≡ 4 * length flags.now },
 }
 
-// Some of them, side by side: n rows from row i on.
-// Kept: places in both lists and no slices: a block would hold two slices of its own lengths, four numbers to a flag, and a count again.
+// At most 16 of them, side by side.
 #[derive(Clone, Copy)]
 pub struct Block<'a> {
     pub rows: Rows<'a>,
-    pub i: usize,
-    pub n: usize,
-    ghost inside: { i + n ≤ rows.count },
-    ghost few: { n ≤ 16 },
+    ghost few: { length rows.flags.now ≤ 16 },
 }
 
-// The rows of two lists: they end where one of the lists does.
+// The rows of two lists, cut to where one of the lists ends.
+#[tactic(auto, using(crate::proofs::Steps::rows_cut))]
 pub fn rows_of<'a>(numbers: &'a [f64], flags: &'a [u8]) -> Rows<'a>
-    ensures count { result.count ≡ length (rows_of numbers.now flags.now) }
-    ensures numbers { result.numbers.now ≡ numbers.now }
-    ensures flags { result.flags.now ≡ flags.now }
+    ensures { rows_of result.numbers.now result.flags.now ≡ rows_of numbers.now flags.now }
 {
+    let n = (numbers.len() / 4).min(flags.len());
     Rows {
-        numbers,
-        flags,
-        count: (numbers.len() / 4).min(flags.len()),
+        numbers: &numbers[..4 * n],
+        flags: &flags[..n],
     }
 }

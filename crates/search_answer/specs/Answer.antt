@@ -9,13 +9,13 @@ use Rattle.seed_rules.specs.Layout.{written}
 use Rattle.score_outcome.specs.declared.Finding.{Finding}
 use Rattle.score_outcome.specs.Reasons.{Outcome}
 use Rattle.score_outcome.specs.Evaluation.{outcome_of, finding_refusal}
-use Rattle.score_best.specs.declared.Best.{Best}
+use Rattle.score_best.specs.Best.{or_best}
 use Rattle.score_best.specs.declared.Candidate.{Candidate}
 use Rattle.search_record.specs.Record.{sound, entered, next_step, round_opened, ended}
+use Rattle.search_record.specs.declared.run.Reply.{Reply}
 use Rattle.search_record.specs.declared.run.Run.{Run}
 use Rattle.search_answer.specs.declared.Answered.{Answered}
 use Rattle.search_answer.specs.declared.Answered.TheVariants.{Scored, Skipped}
-use Rattle.search_answer.specs.declared.AnswerReply.{AnswerReply}
 
 -- the run and the lent list after a call
 pub record Left : Type 0 where
@@ -33,10 +33,6 @@ abbrev pub answer_refusal : Run → ℕ → Finding → List Float → List ℕ 
 answer_refusal r n f rows flags = elim (run_refusal r n) [ Ok _ ↦ finding_refusal f r.waiting.seed.sensor rows flags | Err refusal ↦ Err refusal ]
 
 -- ---- the end of a round
--- the round's best, or, if it has none, the run's
-abbrev pub or_best : Best → Best → Best
-or_best a b = cond a.found a b
-
 -- the seeds around a candidate, with its camera
 unfoldable pub next_seeds : Run → Candidate → List CandidateSeed
 next_seeds r c = let s = next_step r in next_list (offsets s) (y_offsets r.options.one_axis s) c.sensor c.camera.k r.options.max_abs_tilt
@@ -46,7 +42,7 @@ abbrev pub open_round : Run → List Float → List CandidateSeed → Left → L
 open_round r l [] rest = rest
 open_round r l (s ∷ ss) rest = left (round_opened r (length (s ∷ ss))) (written (s ∷ ss) l)
 
--- k further rounds are asked for: the next list that has a seed, or the end. An empty list ends its round at once.
+-- k further rounds are asked for: the next list that has a seed, around the round's best, or, if it has none, the run's; or the end. An empty list ends its round at once.
 unfoldable pub close_round : ℕ → Run → List Float → Left
 close_round zero r l = left (ended r) l
 close_round (suc k) r l =
@@ -69,7 +65,7 @@ outcome_for r f rows flags = outcome_of r.options.min_counted f r.waiting.seed.s
 
 -- what Answer replies, and the run and the list after it
 pub record AnswerLeft : Type 0 where
-  pub reply : AnswerReply
+  pub reply : Reply Answered
   pub list : List Float
 
 -- a refused Answer leaves the run and the list

@@ -1,8 +1,9 @@
 -- What Answer can rely on where none of its refusals holds, how a round ends, and what is entered. Assumes nothing.
-use Rattle.std.specs.Prelude.{ℕ, zero, suc, ◌+◌, ◌-◌, ◌≤◌, ◌<◌, ◌≡◌, refl, Bool, true, false, not, ◌&&◌, cond, List, [], ◌∷◌, ltb, eqb, length, Float, Result, Ok, Err, ⊤}
+use Rattle.std.specs.Prelude.{ℕ, zero, suc, ◌+◌, ◌-◌, ◌≤◌, ◌<◌, ◌≡◌, refl, Bool, true, false, not, ◌&&◌, cond, List, [], ◌∷◌, ltb, eqb, length, Float, Some, None, Result, Ok, Err, ⊤}
+use Rattle.std.proofs.lemmas.Option.{none-some, same_Some}
 use Rattle.std.proofs.Common.{sym, ap, ◌∙◌, arith}
 use borrow.Author.Tests.{ltb-false, eqb-true, not-false, lt-ltb, le-ltb}
-use Rattle.common.specs.Tests.{both_true}
+use Rattle.common.specs.Tests.{case, both_true}
 use Rattle.common.specs.declared.Refusal.{Refusal}
 use Rattle.common.specs.declared.Refusal.TheVariants.{NoSeedWaits, ShortList}
 use Rattle.common.specs.ChecksLaws.{refuses_none}
@@ -13,9 +14,10 @@ use Rattle.score_outcome.specs.declared.Finding.{Finding}
 use Rattle.score_outcome.specs.Reasons.{Outcome}
 use Rattle.score_outcome.specs.Evaluation.{finding_refusal}
 use Rattle.score_best.specs.declared.Best.{Best}
+use Rattle.score_best.specs.Best.{or_best, best_candidate}
 use Rattle.score_best.specs.declared.Candidate.{Candidate}
 use Rattle.search_record.specs.Record.{sound, entered, next_step, round_opened, ended}
-use Rattle.search_answer.specs.Answer.{Left, left, run_refusal, answer_refusal, or_best, next_seeds, open_round, close_round, enter_def, outcome_for, reply_of, answer_def}
+use Rattle.search_answer.specs.Answer.{Left, left, run_refusal, answer_refusal, next_seeds, open_round, close_round, enter_def, outcome_for, reply_of, answer_def}
 use Rattle.search_record.specs.declared.run.Run.{Run}
 
 -- ---- a number that is given where it isn't 0
@@ -32,6 +34,13 @@ pub next_seeds_are : (r : Run) (c : Candidate) (s : Float) (l m : List Float) (n
 unfolding next_seeds
 next_seeds_are r c s l m n is h = rw (← is) h
 
+-- ---- a best that has a candidate is found, and one that has none isn't
+found_is : (b : Best) (w : Candidate) → best_candidate b ≡ Some w → (b.found ≡ true) × (b.candidate ≡ w)
+found_is b w h = case b.found (λ f. (f, same_Some _ _ (simp f at h))) (λ f. absurd (none-some w (simp f at h)))
+
+none_is : (b : Best) → best_candidate b ≡ None → b.found ≡ false
+none_is b h = case b.found (λ f. absurd (none-some b.candidate (sym (simp f at h)))) (λ f. f)
+
 -- ---- the end of a round, one list at a time
 open_some : (r : Run) (l m : List Float) (n : ℕ) (ss : List CandidateSeed) (rest : Left) → Leaves six 6 ss l m n → (n ≡ 0 → ⊥) → open_round r l ss rest ≡ left (round_opened r n) m
 open_some r l m n [] rest h k = absurd (k h.count_is)
@@ -47,39 +56,40 @@ unfolding close_round
 close_last zero r l h = refl
 close_last (suc k) r l h = absurd (omega arith)
 
-pub close_none : (n : ℕ) (r : Run) (l : List Float) (b : Best) → 0 < n → b ≡ or_best r.round_best r.run_best → b.found ≡ false
+pub close_none : (n : ℕ) (r : Run) (l : List Float) → 0 < n → best_candidate (or_best r.round_best r.run_best) ≡ None
     → close_round n r l ≡ left (ended r) l
 unfolding close_round
-close_none zero r l b p e f = absurd (omega arith)
-close_none (suc k) r l b p e f = rw (← e, f)
+close_none zero r l p e = absurd (omega arith)
+close_none (suc k) r l p e = rw (none_is _ e)
 
-pub close_open : (n : ℕ) (r : Run) (l : List Float) (b : Best) (m : List Float) (len : ℕ) → 0 < n → b ≡ or_best r.round_best r.run_best → b.found ≡ true
-    → Leaves six 6 (next_seeds r b.candidate) l m len → (len ≡ 0 → ⊥) → close_round n r l ≡ left (round_opened r len) m
+pub close_open : (n : ℕ) (r : Run) (l : List Float) (w : Candidate) (m : List Float) (len : ℕ) → 0 < n → best_candidate (or_best r.round_best r.run_best) ≡ Some w
+    → Leaves six 6 (next_seeds r w) l m len → (len ≡ 0 → ⊥) → close_round n r l ≡ left (round_opened r len) m
 unfolding close_round
-close_open zero r l b m len p e f h z = absurd (omega arith)
-close_open (suc k) r l b m len p e f h z = rw (← e, f) (open_some r l m len (next_seeds r b.candidate) _ h z)
+close_open zero r l w m len p e h z = absurd (omega arith)
+close_open (suc k) r l w m len p e h z = let q = found_is _ w e in rw (q.0, q.1) (open_some r l m len (next_seeds r w) _ h z)
 
 pub opened_rounds : (r e : Run) (n : ℕ) → e ≡ round_opened r n → (e.options ≡ r.options) × (e.place.round ≡ r.place.round + 1)
 unfolding round_opened
 opened_rounds r e n is = (ap (λ (x : Run). x.options) is, ap (λ (x : Run). x.place.round) is)
 
-close_next : (n : ℕ) (r : Run) (l : List Float) (b : Best) (m : List Float) (len : ℕ) → 0 < n → b ≡ or_best r.round_best r.run_best → b.found ≡ true
-    → Leaves six 6 (next_seeds r b.candidate) l m len → len ≡ 0 → close_round n r l ≡ close_round (n - 1) (round_opened r 0) m
+close_next : (n : ℕ) (r : Run) (l : List Float) (w : Candidate) (m : List Float) (len : ℕ) → 0 < n → best_candidate (or_best r.round_best r.run_best) ≡ Some w
+    → Leaves six 6 (next_seeds r w) l m len → len ≡ 0 → close_round n r l ≡ close_round (n - 1) (round_opened r 0) m
 unfolding close_round
-close_next zero r l b m len p e f h z = absurd (omega arith)
-close_next (suc k) r l b m len p e f h z =
+close_next zero r l w m len p e h z = absurd (omega arith)
+close_next (suc k) r l w m len p e h z =
     let one_less : suc k - 1 ≡ k = omega arith in
-    let q = open_none r l m len (next_seeds r b.candidate) (close_round k (round_opened r 0) l) h z in
-    rw (← e, f, one_less, q.1) q.0
+    let f = found_is _ w e in
+    let q = open_none r l m len (next_seeds r w) (close_round k (round_opened r 0) l) h z in
+    rw (f.0, f.1, one_less, q.1) q.0
 
-pub close_empty : (r o : Run) (l : List Float) (b : Best) (m : List Float) (len : ℕ) → r.place.round < r.options.refine_rounds → b ≡ or_best r.round_best r.run_best
-    → b.found ≡ true → Leaves six 6 (next_seeds r b.candidate) l m len → len ≡ 0 → o ≡ round_opened r len
+pub close_empty : (r o : Run) (l : List Float) (w : Candidate) (m : List Float) (len : ℕ) → r.place.round < r.options.refine_rounds → best_candidate (or_best r.round_best r.run_best) ≡ Some w
+    → Leaves six 6 (next_seeds r w) l m len → len ≡ 0 → o ≡ round_opened r len
     → close_round (r.options.refine_rounds - r.place.round) r l ≡ close_round (o.options.refine_rounds - o.place.round) o m
 unfolding round_opened
-close_empty r o l b m len p e f h z is =
+close_empty r o l w m len p e h z is =
     let n = r.options.refine_rounds in
     let one_more : n - (r.place.round + 1) ≡ n - r.place.round - 1 = omega arith in
-    rw (is, z, one_more) (close_next (n - r.place.round) r l b m len (omega arith) e f h z)
+    rw (is, z, one_more) (close_next (n - r.place.round) r l w m len (omega arith) e h z)
 
 -- ---- Answer where none of its refusals holds
 pub record Answerable (r : Run) (n : ℕ) : Type 0 where

@@ -6,14 +6,13 @@ ghost use Rattle.std.specs.Prelude.{◌≡◌, true, ◌-◌, ◌≤◌, length}
 ghost use Rattle.seed_rules.specs.Layout.{Leaves, six};
 ghost use Rattle.seed_rules.specs.Rules.{offsets, y_offsets, next_list};
 ghost use Rattle.search_record.specs.Record.{sound};
-ghost use Rattle.search_answer.specs.Answer.{answer_refusal, or_best, close_round, enter_def, outcome_for, reply_of, answer_def};
+ghost use Rattle.search_answer.specs.Answer.{answer_refusal, close_round, enter_def, outcome_for, reply_of, answer_def};
 
 use camera_models::intrinsics::FxFyCxCy;
 use camera_tilt::sensor::ScheimpflugParams;
 use common::Refusal;
-use score_best::Best;
 use score_outcome::{Finding, Outcome, SkipReason};
-use search_record::run::{Options, Run, ended, entered, is_sound, next_step, opened};
+use search_record::run::{Options, Reply, Run, ended, entered, is_sound, next_step, opened};
 use seed_grids::local_seed_grid;
 
 // Kept: an outcome's two answers, Scored and Skipped, have these names in the papers.
@@ -34,11 +33,7 @@ impl From<Outcome> for Answered {
     }
 }
 
-#[derive(Clone, Copy)]
-pub struct AnswerReply {
-    pub reply: Result<Answered, Refusal>,
-    pub run: Run,
-}
+pub type AnswerReply = Reply<Answered>;
 
 // Answer's refusals, of which the first that holds is returned.
 // Kept: the record and its list are two values, here and below: C keeps them apart. A check reads no more of the list than its length.
@@ -54,20 +49,8 @@ fn answer_refusal(
     if !(is_sound(run) & run.waiting.is_waiting) {
         return Err(Refusal::NoSeedWaits);
     }
-    if list_len < run.place.demand {
-        return Err(Refusal::ShortList);
-    }
+    run.list_refusal(list_len)?;
     score_outcome::finding_refusal(finding, run.waiting.seed.sensor, rows, flags)
-}
-
-// The first best, or, if it has none, the second.
-fn or_else(first: Best, second: Best) -> Best
-    ensures { result ≡ or_best first second }
-{
-    if first.found {
-        return first;
-    }
-    second
 }
 
 // Writes the seeds at this step around the tilts, with the camera, and says how many there are. About one axis the y offset is 0 alone.
@@ -83,22 +66,16 @@ fn next_seeds(
     ensures { Leaves six 6 (next_list (offsets step) (y_offsets options.one_axis step) sensor reference_k options.max_abs_tilt) list.old list.new result }
 {
     let offsets = [-step, 0.0, step];
-    if options.one_axis {
-        let zero = [0.0];
-        return local_seed_grid(
-            reference_k,
-            sensor,
-            &offsets,
-            &zero,
-            options.max_abs_tilt,
-            list,
-        );
-    }
+    let y_offsets: &[f64] = if options.one_axis {
+        &offsets[1..2]
+    } else {
+        &offsets
+    };
     local_seed_grid(
         reference_k,
         sensor,
         &offsets,
-        &offsets,
+        y_offsets,
         options.max_abs_tilt,
         list,
     )
@@ -113,18 +90,11 @@ fn close_round(mut run: Run, list: &mut [f64]) -> Run
 {
     // Kept: `opened` counts the round in the record, by which the next step is chosen; a `for` would count it a second time.
     while run.place.round < run.options.refine_rounds {
-        let best = or_else(run.round_best, run.run_best);
-        if !best.found {
+        let Some(best) = run.round_best.or(run.run_best).candidate() else {
             break;
-        }
+        };
         let step = next_step(run);
-        let len = next_seeds(
-            run.options,
-            step,
-            best.candidate.camera.k,
-            best.candidate.sensor,
-            list,
-        );
+        let len = next_seeds(run.options, step, best.camera.k, best.sensor, list);
         run = opened(run, len);
         if len != 0 {
             return run;

@@ -1,12 +1,12 @@
 -- When seeds are left, and what the floor of a reply means: it is the lowest penalty of the seeds left, and none of them can score below it, whatever list is lent.
 -- Assumes nothing.
-use Rattle.std.specs.Prelude.{ℕ, suc, ◌-◌, ◌≤◌, ◌<◌, ◌≡◌, true, false, ltb, length, Float, Option, Some, None, Result, Ok, Err}
+use Rattle.std.specs.Prelude.{ℕ, suc, ◌-◌, ◌≤◌, ◌<◌, ◌≡◌, true, false, ltb, length, Float, Option, Some, None, Ok, Err}
 use Rattle.std.proofs.Common.{arith, ap, ◌∙◌}
 use mathlib.Core.List.{List, [], ◌∷◌, Memᴰ}
 use borrow.Author.Tests.{lt-ltb, le-ltb}
 use Rattle.std.specs.Float.Ieee.{lt}
-use Rattle.common.specs.declared.Refusal.{Refusal}
 use Rattle.common.specs.declared.Refusal.TheVariants.{ShortList}
+use Rattle.common.specs.Results.{same_Ok, err-ok}
 use Rattle.common.specs.Tests.{case}
 use Rattle.camera_models.specs.declared.math.Pt2.{Pt2}
 use Rattle.seed_rules.specs.declared.CandidateSeed.{CandidateSeed}
@@ -68,23 +68,17 @@ unfolding outlook_of
 outlook_floor b [] x h = cc
 outlook_floor b (s ∷ ss) x h = cc
 
-same_outlook : (o p : Outlook) → ◌≡◌ {A = Result Outlook Refusal} (Ok o) (Ok p) → o ≡ p
-same_outlook o p h = cc
-
-never : (e : Refusal) (o : Outlook) → ◌≡◌ {A = Result Outlook Refusal} (Err e) (Ok o) → ⊥
-never e o h = cc
-
 pub stop_floor : (r : Run) (l : List Float) (o : Outlook) → stop_def r l ≡ Ok o → (x : Float) → o.floor ≡ Some x → x ≡ floor_of (left_seeds r l)
 unfolding stop_def
 stop_floor r l o e x h =
     case (sound r)
     (λ s. case (ltb (length l) r.place.demand)
-    (λ t. absurd (never ShortList o (simp (s, t) at e)))
+    (λ t. absurd (err-ok ShortList o (simp (s, t) at e)))
     (λ t.
-    let q = same_outlook (outlook_of (best_so_far r) (left_seeds r l)) o (simp (s, t) at e) in
+    let q = same_Ok (outlook_of (best_so_far r) (left_seeds r l)) o (simp (s, t) at e) in
     outlook_floor (best_so_far r) (left_seeds r l) x (ap (λ (p : Outlook). p.floor) q ∙ h)))
     (λ s.
-    let q = same_outlook (nothing_left no_best) o (simp s at e) in
+    let q = same_Ok (nothing_left no_best) o (simp s at e) in
     let z : ◌≡◌ {A = Option Float} None (Some x) = ap (λ (p : Outlook). p.floor) q ∙ h in
     cc)
 

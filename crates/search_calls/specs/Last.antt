@@ -1,19 +1,19 @@
 -- The last answered candidate's line, as a function of the run's record, for every record. Definitions only.
-use Rattle.std.specs.Prelude.{Bool, ◌&&◌, cond, eqb, Option, Some, None, Ok, Err}
-use Rattle.score_outcome.specs.Reasons.{reason_numbered}
+use Rattle.std.specs.Prelude.{Bool, ◌&&◌, cond, leb, Option, Some, None}
+use Rattle.std.specs.Result.{result_ok}
 use Rattle.journal_line.specs.declared.Line.{Line}
-use Rattle.journal_line.specs.Outcome.{Recorded}
+use Rattle.journal_line.specs.Outcome.{Recorded, recorded_with}
 use Rattle.search_record.specs.Record.{sound}
 use Rattle.search_record.specs.declared.run.LastAnswer.{LastAnswer}
 use Rattle.search_record.specs.declared.run.Run.{Run}
 
--- a candidate was answered; a record that no call made has no line
+-- a candidate was answered; a record that no call made, or one with a reason above 4, has none
 unfoldable pub has_line : Run → Bool
-has_line r = sound r && r.last.found
+has_line r = sound r && r.last.found && leb r.last.skipped 4
 
 -- 0 says that it was scored, 1 to 4 the reason that it was skipped for; another number records nothing
 unfoldable pub recorded_in : LastAnswer → Option Recorded
-recorded_in a = cond (eqb a.skipped 0) (Some (Ok a.scored)) (elim (reason_numbered a.skipped) [ Ok reason ↦ Some (Err reason) | Err why ↦ None ])
+recorded_in a = result_ok (recorded_with a.skipped a.scored)
 
 -- 02, E2: the last answered line's fields, or nothing before the first answer
 unfoldable pub last_def : Run → Option Line

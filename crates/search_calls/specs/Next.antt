@@ -5,10 +5,10 @@ use Rattle.common.specs.declared.Refusal.{Refusal}
 use Rattle.common.specs.declared.Refusal.TheVariants.{NothingScored, SeedWaits, ShortList}
 use Rattle.seed_rules.specs.Layout.{seed_at}
 use Rattle.search_record.specs.Record.{sound, awaiting}
+use Rattle.search_record.specs.declared.run.Reply.{Reply}
 use Rattle.search_record.specs.declared.run.Run.{Run}
 use Rattle.search_calls.specs.declared.next.Handed.{Handed}
 use Rattle.search_calls.specs.declared.next.Handed.TheVariants.{Candidate, Over}
-use Rattle.search_calls.specs.declared.next.NextReply.{NextReply}
 
 -- 01, 'Next': 9 a seed is waiting, 10 the list is shorter than Start's 8 demands, 11 the run ended with no candidate scored. Before them
 -- 11 for a record that isn't sound.
@@ -29,7 +29,7 @@ reply_by (Ok _) over number = Ok (cond over Over (Candidate number))
 reply_by (Err refusal) over number = Err refusal
 
 -- The list's next seed is handed out under the next number, and the run keeps its six numbers. Once the run has a result: Over. A refused Next leaves the run.
-unfoldable pub next_def : Run → List Float → NextReply
+unfoldable pub next_def : Run → List Float → Reply Handed
 next_def r l = elim (next_refusal r (length l)) [
   | Ok _ ↦ cond r.place.over
       (record { reply = Ok Over; run = r })

@@ -4,7 +4,6 @@ ghost use Rattle.std.specs.Prelude.{◌≡◌};
 ghost use Rattle.search_calls.specs.Counts.{counts_def};
 
 use journal_line::Counts;
-use search_record::counts::no_counts;
 use search_record::run::{Run, is_sound};
 
 #[tactic(auto, unfolding(crate::specs::Counts::counts_def))]
@@ -12,7 +11,7 @@ pub fn counts(run: Run) -> Counts
     ensures { result ≡ counts_def run }
 {
     if !is_sound(run) {
-        return no_counts();
+        return Counts::default();
     }
     run.counts
 }

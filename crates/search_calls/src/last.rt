@@ -3,16 +3,16 @@
 ghost use Rattle.std.specs.Prelude.{◌≡◌};
 ghost use Rattle.search_calls.specs.Last.{has_line, recorded_in, last_def};
 
+use journal_line::outcome::recorded_with;
 use journal_line::{Line, Recorded};
-use score_outcome::SkipReason;
 use search_record::run::{LastAnswer, Run, is_sound};
 
-// Whether a candidate was answered.
+// Whether the run keeps a line: a candidate was answered, and scored or skipped for reason 1 to 4.
 #[tactic(auto, unfolding(crate::specs::Last::has_line))]
 fn has_line(run: Run) -> bool
     ensures { result ≡ has_line run }
 {
-    is_sound(run) & run.last.found
+    is_sound(run) & run.last.found & (run.last.skipped <= 4)
 }
 
 // What the kept answer's numbers record: scored, or skipped for reason 1 to 4.
@@ -20,13 +20,7 @@ fn has_line(run: Run) -> bool
 fn recorded_in(last: LastAnswer) -> Option<Recorded>
     ensures { result ≡ recorded_in last }
 {
-    if last.skipped == 0 {
-        return Some(Ok(last.scored));
-    }
-    match SkipReason::try_from(last.skipped) {
-        Ok(reason) => Some(Err(reason)),
-        Err(_) => None,
-    }
+    recorded_with(last.skipped, last.scored).ok()
 }
 
 #[tactic(auto, unfolding(crate::specs::Last::last_def))]

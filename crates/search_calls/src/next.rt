@@ -4,7 +4,7 @@ ghost use Rattle.std.specs.Prelude.{◌≡◌};
 ghost use Rattle.search_calls.specs.Next.{next_refusal, next_def, seed_lent, seed_part};
 
 use common::Refusal;
-use search_record::run::{Run, awaiting, is_sound};
+use search_record::run::{Reply, Run, awaiting, is_sound};
 
 // What Next hands out: the candidate's number, or Over (01's term: the run is over and has a result).
 // Kept: the papers name Over, which is a reply and no absence.
@@ -14,11 +14,7 @@ pub enum Handed {
     Over,
 }
 
-#[derive(Clone, Copy)]
-pub struct NextReply {
-    pub reply: Result<Handed, Refusal>,
-    pub run: Run,
-}
+pub type NextReply = Reply<Handed>;
 
 // Next's refusals, of which the first that holds is returned.
 // Kept: the record and its list are two values, here and below: C keeps them apart. A check reads no more of the list than its length.
@@ -31,9 +27,7 @@ fn next_refusal(run: Run, list_len: usize) -> Result<(), Refusal>
     if run.waiting.is_waiting {
         return Err(Refusal::SeedWaits);
     }
-    if list_len < run.place.demand {
-        return Err(Refusal::ShortList);
-    }
+    run.list_refusal(list_len)?;
     if run.place.over & !run.run_best.found {
         return Err(Refusal::NothingScored);
     }
@@ -66,7 +60,7 @@ pub fn next(run: Run, list: &[f64]) -> NextReply
 fn is_seed_lent(run: Run, list_len: usize) -> bool
     ensures { result ≡ seed_lent run list_len }
 {
-    is_sound(run) & run.waiting.is_waiting & (run.place.demand <= list_len)
+    is_sound(run) & run.waiting.is_waiting & run.list_refusal(list_len).is_ok()
 }
 
 // The waiting seed's six numbers as they stand in the caller's list, or an empty part.

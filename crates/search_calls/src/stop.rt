@@ -10,7 +10,8 @@ use score_floor::{counted_penalty, floor_between};
 use search_record::run::{Run, is_sound};
 
 // The run's best, if found; the floor of the seeds left, where there are any; and whether this round can gain nothing.
-// Kept: `best` is the record's own Best, handed on as it stands; an Option would be made here and taken apart again by its callers.
+// Kept: `best` is a Best, as the record keeps it and C's reply has it, with every number 0 where there is none: an Option would be made of the one
+// and taken apart for the other.
 #[derive(Clone, Copy)]
 pub struct Outlook {
     pub best: Best,
@@ -23,10 +24,7 @@ pub struct Outlook {
 fn best_so_far(run: Run) -> Best
     ensures { result ≡ best_so_far run }
 {
-    if !run.run_best.found {
-        return no_best();
-    }
-    run.run_best
+    run.run_best.or(no_best())
 }
 
 // No seed of this round's list is left.
@@ -70,9 +68,7 @@ pub fn stop(run: Run, list: &[f64]) -> Result<Outlook, Refusal>
     if !is_sound(run) {
         return Ok(nothing_left(no_best()));
     }
-    if list.len() < run.place.demand {
-        return Err(Refusal::ShortList);
-    }
+    run.list_refusal(list.len())?;
     let best = best_so_far(run);
     if run.place.len <= run.place.at {
         return Ok(nothing_left(best));

@@ -1,10 +1,13 @@
--- What a sound record's numbers can be, and where its waiting seed stands. Assumes nothing.
-use Rattle.std.specs.Prelude.{ℕ, ◌+◌, ◌*◌, ◌≤◌, ◌<◌, ◌≡◌, refl, Bool, true, false, ◌&&◌, leb, ltb, eqb}
+-- What a sound record's numbers can be, where its waiting seed stands, and how long a list it takes. Assumes nothing.
+use Rattle.std.specs.Prelude.{ℕ, ◌+◌, ◌*◌, ◌≤◌, ◌<◌, ◌≡◌, refl, Bool, true, false, ◌&&◌, cond, leb, ltb, eqb, Result, Ok, Err, ⊤}
 use Rattle.std.proofs.Common.{sym, ◌∙◌, true≢false, arith, leb-true, ltb-true, ltb-false, eqb-true, le-leb, eq-eqb, ne_eqb}
 use Rattle.common.specs.Tests.{case, both_true}
+use Rattle.common.specs.declared.Refusal.{Refusal}
+use Rattle.common.specs.declared.Refusal.TheVariants.{ShortList}
+use Rattle.common.specs.ChecksLaws.{refuses_none}
 use Rattle.journal_line.specs.declared.Counts.{Counts}
 use Rattle.journal_line.specs.Report.{total}
-use Rattle.search_record.specs.Record.{sound, has_place, add_up}
+use Rattle.search_record.specs.Record.{sound, has_place, add_up, list_refusal}
 use Rattle.search_record.specs.declared.run.Run.{Run}
 use Rattle.search_record.specs.declared.run.Place.{Place}
 use Rattle.search_record.specs.declared.run.Waiting.{Waiting}
@@ -95,6 +98,17 @@ open_at r b = open_place r.place r.waiting b.has_place_lem
 pub waiting_at : (r : Run) → Bounds r → r.waiting.is_waiting ≡ true → r.place.at < r.place.len
 waiting_at r b h = open_at r b (waits_open r.place r.waiting b.has_place_lem h)
 
--- the six numbers of the seed in place lie within the list
+-- ---- a list that isn't refused is as long as the run demands; one that is, is shorter, and the refusal is 10
+pub demand_fits : (r : Run) (n : ℕ) → list_refusal r n ≡ Ok tt → r.place.demand ≤ n
+demand_fits r n h = ltb-false n r.place.demand (refuses_none _ ShortList _ h).0
+
+refused_by : (b : Bool) (r e : Refusal) → ◌≡◌ {A = Result ⊤ Refusal} (cond b (Err r) (Ok tt)) (Err e) → (b ≡ true) × (e ≡ r)
+refused_by true r e h = (refl, cc)
+refused_by false r e h = cc
+
+pub too_short : (r : Run) (n : ℕ) (e : Refusal) → list_refusal r n ≡ Err e → (n < r.place.demand) × (e ≡ ShortList)
+too_short r n e h = let k = refused_by (ltb n r.place.demand) ShortList e h in (ltb-true n r.place.demand k.0, k.1)
+
+-- ---- the six numbers of the seed in place lie within the list
 pub in_list : (r : Run) (n : ℕ) → Bounds r → r.place.at < r.place.len → r.place.demand ≤ n → 6 * r.place.at + 6 ≤ n
 in_list r n b h k = omega (arith, b.list_fits)

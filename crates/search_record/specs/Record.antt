@@ -1,5 +1,8 @@
 -- The run's record as the calls change it, for every record, sound or not. Definitions only.
-use Rattle.std.specs.Prelude.{ℕ, ◌+◌, ◌*◌, Bool, true, false, not, ◌&&◌, cond, leb, ltb, eqb, Float, Ok, Err}
+use Rattle.std.specs.Prelude.{ℕ, ◌+◌, ◌*◌, Bool, true, false, not, ◌&&◌, cond, [], ◌∷◌, leb, ltb, eqb, Float, Result, Ok, Err, ⊤}
+use Rattle.common.specs.Checks.{◌when◌, first_refusal}
+use Rattle.common.specs.declared.Refusal.{Refusal}
+use Rattle.common.specs.declared.Refusal.TheVariants.{ShortList}
 use Rattle.float.specs.Binary64.{◌*₆₄◌}
 use Rattle.float.specs.Literals.{plus_zero, half₆₄}
 use Rattle.camera_tilt.specs.declared.sensor.ScheimpflugParams.{ScheimpflugParams}
@@ -39,6 +42,10 @@ sound r =
     && leb 54 p.demand
     && leb p.demand 3072
     && has_place p r.waiting)
+
+-- ---- 10: a list of n numbers is shorter than Start's 8 demands
+abbrev pub list_refusal : Run → ℕ → Result ⊤ Refusal
+list_refusal r n = first_refusal ((ShortList when ltb n r.place.demand) ∷ [])
 
 -- ---- the seed that waits
 abbrev pub no_seed : CandidateSeed

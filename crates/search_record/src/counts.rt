@@ -1,20 +1,13 @@
 // How many candidates were scored and how many skipped for each reason, as the run's record keeps it.
 
 ghost use Rattle.std.specs.Prelude.{◌≡◌, ◌≤◌};
-ghost use Rattle.journal_line.specs.Counts.{no_counts, with_count};
+ghost use Rattle.journal_line.specs.Counts.{with_count};
 ghost use Rattle.journal_line.specs.Report.{total};
 ghost use Rattle.search_record.specs.Record.{add_up};
 
 use journal_line::total::total_if_small;
 use journal_line::{Counts, Recorded};
 use score_outcome::SkipReason;
-
-// Nothing is counted.
-pub fn no_counts() -> Counts
-    ensures { result ≡ no_counts }
-{
-    Counts::default()
-}
 
 // One more skip for this reason.
 // Kept: the bound on the counts is asked for, here and below, and is no ghost field of theirs: C hands in counts of any size.

@@ -2,20 +2,21 @@
 
 ghost use Rattle.std.specs.Prelude.{◌≡◌, ◌<◌, ◌≤◌};
 ghost use Rattle.journal_line.specs.Report.{total};
-ghost use Rattle.search_record.specs.Record.{sound, has_place, no_answer, last_answer, next_step};
+ghost use Rattle.search_record.specs.Record.{sound, has_place, list_refusal, last_answer, next_step};
 
 use crate::counts::{add_up, with_count};
 use camera_models::math::Pt2;
 use camera_tilt::sensor::ScheimpflugParams;
+use common::Refusal;
 use journal_line::outcome::recorded_as;
-use journal_line::{Counts, Recorded, ScoredFields};
+use journal_line::{Counts, Line, ScoredFields};
 use score_best::{Best, Candidate};
 use score_outcome::Outcome;
 use seed_rules::CandidateSeed;
 
 // What the search was asked for. The first three are the Rust's options, by their names. A run about one axis has no tilt about y. `min_counted` is the
 // share of an answer's rows, in per cent, that a mean has to rest on.
-#[derive(Clone, Copy)]
+#[derive(Clone, Copy, Default)]
 pub struct Options {
     pub refine_rounds: usize,
     pub refine_step: f64,
@@ -28,7 +29,7 @@ pub struct Options {
 // 0 in round 0. Of the list's `len` seeds the first `at` are answered. `number` is the next candidate's, counted over the run.
 // `round` is 01's, from 0; `over` says that the run is over, with a result or with 11.
 // Kept: lengths and places in a list that isn't here, since the record holds numbers alone and the list is lent (no heap).
-#[derive(Clone, Copy)]
+#[derive(Clone, Copy, Default)]
 pub struct Place {
     pub demand: usize,
     pub round: usize,
@@ -61,7 +62,7 @@ pub struct LastAnswer {
 }
 
 // The run's record (01's term), which each call takes, and which Start, Next and Answer return.
-#[derive(Clone, Copy)]
+#[derive(Clone, Copy, Default)]
 pub struct Run {
     pub options: Options,
     pub center: Pt2,
@@ -71,6 +72,13 @@ pub struct Run {
     pub run_best: Best,
     pub last: LastAnswer,
     pub counts: Counts,
+}
+
+// What Next and Answer return: the reply or why there is none, and the run after the call.
+#[derive(Clone, Copy)]
+pub struct Reply<T> {
+    pub reply: Result<T, Refusal>,
+    pub run: Run,
 }
 
 // An open run has a seed left in its list, and where the run is over, none waits.
@@ -102,36 +110,35 @@ pub fn is_sound(run: Run) -> bool
         & has_place(run.place, run.waiting)
 }
 
-// No seed waits.
-pub fn nobody() -> Waiting
-    ensures { result ≡ Rattle.search_record.specs.Record.nobody }
-{
-    Waiting::default()
-}
-
-// No candidate is answered.
-pub fn no_answer() -> LastAnswer
-    ensures { result ≡ no_answer }
-{
-    LastAnswer::default()
-}
-
-// The candidate with this number, handed out in this round, as it is recorded.
-fn last_answer(number: usize, round: usize, seed: CandidateSeed, recorded: Recorded) -> LastAnswer
-    ensures { result ≡ last_answer number round seed recorded }
-{
-    let mut last = LastAnswer {
-        found: true,
-        number,
-        round,
-        seed,
-        ..LastAnswer::default()
-    };
-    match recorded {
-        Ok(fields) => last.scored = fields,
-        Err(reason) => last.skipped = reason.into(),
+impl Run {
+    // 10 where a lent list of this length is shorter than the run demands.
+    pub fn list_refusal(self, list_len: usize) -> Result<(), Refusal>
+        ensures { result ≡ list_refusal self list_len }
+    {
+        if list_len < self.place.demand {
+            return Err(Refusal::ShortList);
+        }
+        Ok(())
     }
-    last
+}
+
+impl From<Line> for LastAnswer {
+    ghost from_gives = { λ line last. last ≡ last_answer line.number line.round line.seed line.outcome };
+
+    fn from(line: Line) -> LastAnswer {
+        let mut last = LastAnswer {
+            found: true,
+            number: line.number,
+            round: line.round,
+            seed: line.seed,
+            ..LastAnswer::default()
+        };
+        match line.outcome {
+            Ok(fields) => last.scored = fields,
+            Err(reason) => last.skipped = reason.into(),
+        }
+        last
+    }
 }
 
 // The run with a seed that waits for its answer.
@@ -188,14 +195,15 @@ pub fn entered(mut run: Run, outcome: Outcome) -> Run
         outcome,
     );
     let recorded = recorded_as(outcome);
-    run.last = last_answer(
-        run.place.number,
-        run.place.round,
-        run.waiting.seed,
-        recorded,
-    );
+    run.last = Line {
+        number: run.place.number,
+        round: run.place.round,
+        seed: run.waiting.seed,
+        outcome: recorded,
+    }
+    .into();
     run.counts = with_count(run.counts, recorded);
-    run.waiting = nobody();
+    run.waiting = Waiting::default();
     let at = run.place.at + 1;
     run.place.at = at;
     let number = run.place.number + 1;

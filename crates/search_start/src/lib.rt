@@ -2,21 +2,24 @@
 
 #![tactic(auto)]
 
-ghost use Rattle.std.specs.Prelude.{◌≡◌, ◌/◌, ◌≤◌, length};
+ghost use Rattle.std.specs.Prelude.{◌≡◌, length, Bool};
 ghost use Rattle.common.specs.Checks.{first_refusal};
 ghost use Rattle.common.specs.Each.{every};
+ghost use Rattle.seed_rules.specs.declared.CandidateSeed.{CandidateSeed};
 ghost use Rattle.seed_rules.specs.Layout.{all_seeds};
-ghost use Rattle.search_start.specs.Start.{positive, good_seed, only_zero, untilted_seed, too_many, demand_of, opening_of, options_checks, last_checks, further_checks, start_refusal, start_reply, start_list};
+ghost use Rattle.search_start.specs.StartLaws.{Sizes};
+ghost use Rattle.search_start.specs.Start.{positive, good_seed, only_zero, untilted_seed, too_many, start_demand, opening_of, options_checks, lists_checks, last_checks, further_checks, start_reply, start_list};
 
 use camera_models::intrinsics::FxFyCxCy;
 use camera_models::math::Pt2;
 use common::Refusal;
-use search_record::counts::no_counts;
-use search_record::run::{Options, Place, Run, no_answer, nobody};
+use search_record::run::{Options, Place, Run};
 use seed_rules::CandidateSeed;
 
 // What Start takes: how many views there are, the options, the typed tilts, the decomposition's seeds in sixes, the camera that typed tilts get, and
 // the centre that scores take.
+// Kept: the definitions take the seven one by one, as 01 names them. They are of lists; this record borrows slices, whose references are no part of
+// what Start gives, and a third record, of lists, would have to be made of this one in each clause.
 #[derive(Clone, Copy)]
 pub struct Inputs<'a> {
     pub views: usize,
@@ -48,10 +51,15 @@ fn is_good_seed(max_abs_tilt: f64, seed: CandidateSeed) -> bool
         & seed_lists::checks::in_bound(max_abs_tilt, seed.sensor)
 }
 
-fn all_good_seeds(max_abs_tilt: f64, decomposition: &[f64]) -> bool
-    ensures { result ≡ every (good_seed max_abs_tilt) (all_seeds decomposition.now) }
+// Whether each seed of a decomposition passes the test.
+fn all_seeds<F: Fn(CandidateSeed) -> bool>(decomposition: &[f64], test: F) -> bool
+    requires { F.IsAlwaysCallable test }
+    ensures { (f : CandidateSeed → Bool) → ((s : CandidateSeed) (b : Bool) → F.post test s b → b ≡ f s) → result ≡ every f (all_seeds decomposition.now) }
 {
-    decomposition.chunks_exact(6).all(|six| is_good_seed(max_abs_tilt, seed_lists::seed_at(six, 0)))
+    decomposition
+        .chunks_exact(6)
+        .map(|six| seed_lists::seed_at(six, 0))
+        .all(test)
 }
 
 // A single value, a zero of either sign.
@@ -72,36 +80,28 @@ fn is_untilted_seed(seed: CandidateSeed) -> bool
     seed.sensor.tilt_y == 0.0
 }
 
-// Kept: beside all_good_seeds, which differs by the test alone: with the test passed in, each would be a call that says which one it is.
-fn all_untilted_seeds(decomposition: &[f64]) -> bool
-    ensures { result ≡ every untilted_seed (all_seeds decomposition.now) }
-{
-    decomposition
-        .chunks_exact(6)
-        .all(|six| is_untilted_seed(seed_lists::seed_at(six, 0)))
-}
-
-// More seeds or rounds than a run can have, or a decomposition that isn't in sixes.
-#[tactic(auto, unfolding(crate::specs::Start::too_many))]
-fn is_too_many(x: usize, y: usize, decomposition: usize, rounds: usize) -> bool
-    ensures { result ≡ too_many x y decomposition rounds }
-{
-    (16 < x) | (16 < y) | (256 < decomposition / 6) | (16 < rounds) | (decomposition % 6 != 0)
-}
-
-// What the lent list must hold: a later round's nine seeds, and every seed that round 0 can have.
-#[tactic(auto, unfolding(crate::specs::Start::demand_of))]
-fn demand_of(decomposition: usize, x: usize, y: usize) -> usize
-    requires decomposition_bound { decomposition / 6 ≤ 256 }
-    requires x_bound { x ≤ 16 }
-    requires y_bound { y ≤ 16 }
-    ensures { result ≡ demand_of (decomposition / 6) x y }
-{
-    let n = 6 * (decomposition / 6 + x * y);
-    if n < 54 {
-        return 54;
+impl Inputs<'_> {
+    // More seeds or rounds than a run can have, or a decomposition that isn't in sixes.
+    #[tactic(auto, unfolding(crate::specs::Start::too_many))]
+    fn is_too_many(self) -> bool
+        ensures { let i = self.entry in result ≡ too_many (length i.tilt_x_seeds.now) (length i.tilt_y_seeds.now) (length i.decomposition.now) i.options.refine_rounds }
+    {
+        (16 < self.tilt_x_seeds.len())
+            | (16 < self.tilt_y_seeds.len())
+            | (256 < self.decomposition.len() / 6)
+            | (16 < self.options.refine_rounds)
+            | (self.decomposition.len() % 6 != 0)
     }
-    n
+
+    // What the lent list must hold: a later round's nine seeds, and every seed that round 0 can have.
+    #[tactic(auto, unfolding(crate::specs::Start::demand_of))]
+    fn demand(self) -> usize
+        requires { Sizes (length self.tilt_x_seeds.now) (length self.tilt_y_seeds.now) (length self.decomposition.now) self.options.refine_rounds }
+        ensures { let i = self.entry in result ≡ start_demand i.views i.options i.tilt_x_seeds.now i.tilt_y_seeds.now i.decomposition.now }
+    {
+        let grid = self.tilt_x_seeds.len() * self.tilt_y_seeds.len();
+        (6 * (self.decomposition.len() / 6 + grid)).max(54)
+    }
 }
 
 // Start's first refusals: those of the options and of the lists' lengths.
@@ -109,12 +109,10 @@ fn options_refusal(inputs: Inputs) -> Result<(), Refusal>
     ensures { let i = inputs.entry in result ≡ first_refusal (options_checks i.views i.options (length i.tilt_x_seeds.now) (length i.tilt_y_seeds.now) (length i.decomposition.now)) }
 {
     let options = inputs.options;
-    let x = inputs.tilt_x_seeds.len();
-    let y = inputs.tilt_y_seeds.len();
     if inputs.views < 3 {
         return Err(Refusal::TooFewViews);
     }
-    if (x == 0) | (y == 0) {
+    if inputs.tilt_x_seeds.is_empty() | inputs.tilt_y_seeds.is_empty() {
         return Err(Refusal::NoTilts);
     }
     if !is_positive(options.max_abs_tilt) {
@@ -123,7 +121,7 @@ fn options_refusal(inputs: Inputs) -> Result<(), Refusal>
     if (0 < options.refine_rounds) & !is_positive(options.refine_step) {
         return Err(Refusal::BadStep);
     }
-    if is_too_many(x, y, inputs.decomposition.len(), options.refine_rounds) {
+    if inputs.is_too_many() {
         return Err(Refusal::TooMany);
     }
     Ok(())
@@ -137,7 +135,7 @@ fn last_refusal(inputs: Inputs) -> Result<(), Refusal>
     if options.one_axis & !is_only_zero(inputs.tilt_y_seeds) {
         return Err(Refusal::TwoAxes);
     }
-    if options.one_axis & !all_untilted_seeds(inputs.decomposition) {
+    if options.one_axis & !all_seeds(inputs.decomposition, is_untilted_seed) {
         return Err(Refusal::TiltedSeed);
     }
     if 100 < options.min_counted {
@@ -157,49 +155,42 @@ fn further_refusal(inputs: Inputs) -> Result<(), Refusal>
     last_refusal(inputs)
 }
 
-// Start's refusals, of which the first that holds is returned, of a lent list with this many numbers.
-fn start_refusal(inputs: Inputs, list_len: usize) -> Result<(), Refusal>
-    ensures { let i = inputs.entry in result ≡ start_refusal i.views i.options i.tilt_x_seeds.now i.tilt_y_seeds.now i.decomposition.now list_len }
+// Start's refusals after those of the options, of a lent list with this many numbers, where a run demands this many.
+fn lists_refusal(inputs: Inputs, demand: usize, list_len: usize) -> Result<(), Refusal>
+    requires { demand ≡ start_demand inputs.views inputs.options inputs.tilt_x_seeds.now inputs.tilt_y_seeds.now inputs.decomposition.now }
+    ensures { let i = inputs.entry in result ≡ first_refusal (lists_checks i.views i.options i.tilt_x_seeds.now i.tilt_y_seeds.now i.decomposition.now list_len) }
 {
-    let x = inputs.tilt_x_seeds.len();
-    let y = inputs.tilt_y_seeds.len();
-    let numbers = inputs.decomposition.len();
-    options_refusal(inputs)?;
-    if !all_good_seeds(inputs.options.max_abs_tilt, inputs.decomposition) {
+    let max_abs_tilt = inputs.options.max_abs_tilt;
+    if !all_seeds(
+        inputs.decomposition,
+        |seed| is_good_seed(max_abs_tilt, seed),
+    ) {
         return Err(Refusal::BadSeed);
     }
     if !(float::all_finite(inputs.tilt_x_seeds) & float::all_finite(inputs.tilt_y_seeds)) {
         return Err(Refusal::TiltNotFinite);
     }
-    if list_len < demand_of(numbers, x, y) {
+    if list_len < demand {
         return Err(Refusal::SmallBuffer);
     }
     further_refusal(inputs)
 }
 
-// The accepted run with this many seeds in round 0's list. It is over at once where there are none.
-#[tactic(auto, unfolding(crate::specs::Start::opening_of))]
+// The accepted run with this many seeds in round 0's list: over at once where there are none, and with nothing handed out or answered yet.
+#[tactic(auto, unfolding(crate::specs::Start::opening_of, score_best::specs::Best::no_best))]
 fn opening(options: Options, center: Pt2, demand: usize, len: usize) -> Run
     ensures { result ≡ opening_of options center demand len }
 {
-    let none = score_best::no_best();
     Run {
         options,
         center,
         place: Place {
             demand,
-            round: 0,
-            step: 0.0,
             len,
-            at: 0,
-            number: 0,
             over: len == 0,
+            ..Place::default()
         },
-        waiting: nobody(),
-        round_best: none,
-        run_best: none,
-        last: no_answer(),
-        counts: no_counts(),
+        ..Run::default()
     }
 }
 
@@ -207,12 +198,9 @@ pub fn start(inputs: Inputs, list: &mut [f64]) -> Result<Run, Refusal>
     ensures value { let i = inputs.entry in result ≡ start_reply i.views i.options i.tilt_x_seeds.now i.tilt_y_seeds.now i.decomposition.now i.base i.center list.old }
     ensures list_after { let i = inputs.entry in list.new ≡ start_list i.views i.options i.tilt_x_seeds.now i.tilt_y_seeds.now i.decomposition.now i.base i.center list.old }
 {
-    start_refusal(inputs, list.len())?;
-    let demand = demand_of(
-        inputs.decomposition.len(),
-        inputs.tilt_x_seeds.len(),
-        inputs.tilt_y_seeds.len(),
-    );
+    options_refusal(inputs)?;
+    let demand = inputs.demand();
+    lists_refusal(inputs, demand, list.len())?;
     let len = seed_grids::initial_seed_grid(
         inputs.decomposition,
         inputs.tilt_x_seeds,

@@ -3,73 +3,70 @@
 
 #![tactic(auto)]
 
-ghost use Rattle.std.specs.Prelude.{◌≡◌, map, ◌+◌, ◌*◌, ◌/◌, ◌≤◌, length};
+ghost use Rattle.std.specs.Prelude.{◌≡◌, map, ◌+◌, ◌*◌, ◌/◌, ◌≤◌, length, Float};
 ghost use Rattle.seed_rules.specs.Layout.{six, two, read_from, seeds_of, all_seeds, Leaves};
+ghost use Rattle.seed_lists.specs.Pushed.{Pushed};
 ghost use Rattle.seed_rules.specs.Merge.{merged_into, merged};
 ghost use Rattle.seed_rules.specs.Rules as rules;
-ghost use Rattle.seed_rules.specs.Rules.{tilts, pairs, tilt_along, entries_within, seed_grid, initial_list, next_list};
+ghost use Rattle.seed_rules.specs.Rules.{tilts, pairs, entries_within, seed_grid, initial_list, next_list};
 
 use camera_models::intrinsics::FxFyCxCy;
 use camera_tilt::sensor::ScheimpflugParams;
 use seed_lists::{Entries, Entry};
 use seed_rules::CandidateSeed;
 
-// ---- the pairs of two axes
-
-// The tilts along one axis: typed ones, or offsets from a centre's tilt.
-// Kept: the centre as an Option: as closures the two axes would be two more types of both functions below, and their contracts would ask what each gives.
-#[derive(Clone, Copy)]
-struct Axis<'a> {
-    center: Option<f64>,
-    numbers: &'a [f64],
-}
-
-fn tilt_along(center: Option<f64>, number: f64) -> f64
-    ensures { result ≡ tilt_along center number }
-{
-    match center {
-        Some(tilt) => tilt + number,
-        None => number,
-    }
-}
+// ---- the pairs of two axes. The tilts along an axis are what a closure gives for its numbers: typed tilts as they are, or offsets added to a centre's tilt.
 
 // One x tilt with every y tilt, each pair within the bound as an entry.
-fn push_row<E: Entry>(
+fn push_row<E: Entry, Y: Fn(f64) -> f64>(
     list: &mut Entries<E>,
     beside: E::Beside,
     tilt_x: f64,
-    y_axis: Axis,
+    y_numbers: &[f64],
+    along_y: &Y,
     max_abs_tilt: f64,
 )
-    requires { E.width * (list.old.count + length y_axis.numbers.now) ≤ length list.old.numbers.now }
+    requires callable { Y.IsAlwaysCallable along_y.now }
+    requires room { E.width * (list.old.count + length y_numbers.now) ≤ length list.old.numbers.now }
     ensures same_reference { list.new.numbers.ghost_name ≡ list.old.numbers.ghost_name }
     ensures same_length { length list.new.numbers.now ≡ length list.old.numbers.now }
-    ensures pushed { Leaves E.numbers E.width (merged_into E.near (read_from E.first E.width list.old.count list.old.numbers.now) (entries_within (E.tilted beside) max_abs_tilt (map (tilts tilt_x) (map (tilt_along y_axis.entry.center) y_axis.entry.numbers.now)))) list.old.numbers.now list.new.numbers.now list.new.count }
+    ensures few { list.new.count ≤ list.old.count + length y_numbers.now }
+    ensures pushed { (f : Float → Float) → ((n t : Float) → Y.post along_y.now n t → t ≡ f n) → Leaves E.numbers E.width (merged_into E.near (read_from E.first E.width list.old.count list.old.numbers.now) (entries_within (E.tilted beside) max_abs_tilt (map (tilts tilt_x) (map f y_numbers.now)))) list.old.numbers.now list.new.numbers.now list.new.count }
 {
-    for number in y_axis.numbers {
+    for number in y_numbers {
         let tilts = ScheimpflugParams {
             tilt_x,
-            tilt_y: tilt_along(y_axis.center, *number),
+            tilt_y: along_y(*number),
         };
         list.push_in_bound(beside, tilts, max_abs_tilt);
     }
 }
 
 // Every x tilt with every y tilt, x outer: those within the bound, merged. Says how many there are.
-fn push_pairs<E: Entry>(
+fn push_pairs<E: Entry, X: Fn(f64) -> f64, Y: Fn(f64) -> f64>(
     numbers: &mut [f64],
     beside: E::Beside,
-    x_axis: Axis,
-    y_axis: Axis,
+    x_numbers: &[f64],
+    along_x: X,
+    y_numbers: &[f64],
+    along_y: Y,
     max_abs_tilt: f64,
 ) -> usize
-    requires { E.width * (length x_axis.numbers.now * length y_axis.numbers.now) ≤ length numbers.old }
-    ensures { Leaves E.numbers E.width (merged E.near (entries_within (E.tilted beside) max_abs_tilt (pairs (map (tilt_along x_axis.entry.center) x_axis.entry.numbers.now) (map (tilt_along y_axis.entry.center) y_axis.entry.numbers.now)))) numbers.old numbers.new result }
+    requires x_callable { X.IsAlwaysCallable along_x }
+    requires y_callable { Y.IsAlwaysCallable along_y }
+    requires room { E.width * (length x_numbers.now * length y_numbers.now) ≤ length numbers.old }
+    ensures { (f g : Float → Float) → ((n t : Float) → X.post along_x n t → t ≡ f n) → ((n t : Float) → Y.post along_y n t → t ≡ g n) → Leaves E.numbers E.width (merged E.near (entries_within (E.tilted beside) max_abs_tilt (pairs (map f x_numbers.now) (map g y_numbers.now)))) numbers.old numbers.new result }
 {
     let mut list = Entries::<E>::new(numbers);
-    for number in x_axis.numbers {
-        let tilt_x = tilt_along(x_axis.center, *number);
-        push_row(&mut list, beside, tilt_x, y_axis, max_abs_tilt);
+    for number in x_numbers {
+        push_row(
+            &mut list,
+            beside,
+            along_x(*number),
+            y_numbers,
+            &along_y,
+            max_abs_tilt,
+        );
     }
     list.count
 }
@@ -88,15 +85,15 @@ pub fn local_seed_grid(
     requires { 6 * (length offsets_x.now * length offsets_y.now) ≤ length seeds.old }
     ensures { Leaves six 6 (next_list offsets_x.now offsets_y.now center reference_k max_abs_tilt) seeds.old seeds.new result }
 {
-    let x_axis = Axis {
-        center: Some(center.tilt_x),
-        numbers: offsets_x,
-    };
-    let y_axis = Axis {
-        center: Some(center.tilt_y),
-        numbers: offsets_y,
-    };
-    push_pairs::<CandidateSeed>(seeds, reference_k, x_axis, y_axis, max_abs_tilt)
+    push_pairs::<CandidateSeed, _, _>(
+        seeds,
+        reference_k,
+        offsets_x,
+        |offset| center.tilt_x + offset,
+        offsets_y,
+        |offset| center.tilt_y + offset,
+        max_abs_tilt,
+    )
 }
 
 // ---- round 0's list
@@ -106,19 +103,20 @@ fn seed_grid(x_seeds: &[f64], y_seeds: &[f64], max_abs_tilt: f64, grid: &mut [f6
     requires { 2 * (length x_seeds.now * length y_seeds.now) ≤ length grid.old }
     ensures { Leaves two 2 (seed_grid x_seeds.now y_seeds.now max_abs_tilt) grid.old grid.new result }
 {
-    let x_axis = Axis {
-        center: None,
-        numbers: x_seeds,
-    };
-    let y_axis = Axis {
-        center: None,
-        numbers: y_seeds,
-    };
-    push_pairs::<ScheimpflugParams>(grid, (), x_axis, y_axis, max_abs_tilt)
+    push_pairs::<ScheimpflugParams, _, _>(
+        grid,
+        (),
+        x_seeds,
+        |tilt| tilt,
+        y_seeds,
+        |tilt| tilt,
+        max_abs_tilt,
+    )
 }
 
 // Offers the first entries of other numbers as seeds, in their order.
-// Kept: the numbers beside their count: both lists are only read here, and a struct of borrowed numbers and a count would serve these two calls alone.
+// Kept: the numbers beside their count: of a slice cut to them the count would be a quotient by the entries' width, which the trait has for contracts
+// alone; and a struct of borrowed numbers and a count would serve these two calls alone.
 fn push_entries<F: Entry>(
     list: &mut Entries<CandidateSeed>,
     from: &[f64],
@@ -126,9 +124,7 @@ fn push_entries<F: Entry>(
     base_k: FxFyCxCy,
 )
     requires { (F.width * number ≤ length from.now) × (6 * (list.old.count + number) ≤ length list.old.numbers.now) }
-    ensures same_reference { list.new.numbers.ghost_name ≡ list.old.numbers.ghost_name }
-    ensures same_length { length list.new.numbers.now ≡ length list.old.numbers.now }
-    ensures pushed { Leaves six 6 (merged_into rules.near (seeds_of list.old.count list.old.numbers.now) (map (F.seeded base_k) (read_from F.first F.width number from.now))) list.old.numbers.now list.new.numbers.now list.new.count }
+    ensures { Pushed six 6 (merged_into rules.near (seeds_of list.old.count list.old.numbers.now) (map (F.seeded base_k) (read_from F.first F.width number from.now))) list.old list.new }
 {
     for i in 0..number {
         list.push(F::at(from, i).as_seed(base_k));

@@ -17,12 +17,14 @@ fn closer(limit: f64, x: f64, y: f64) -> bool
     d < limit && -d < limit
 }
 
+#[tactic(auto, unfolding(seed_rules::specs::Rules::tilt_near))]
 pub fn tilt_near(s: ScheimpflugParams, t: ScheimpflugParams) -> bool
     ensures { result ≡ tilt_near s t }
 {
     closer(1e-12, s.tilt_x, t.tilt_x) && closer(1e-12, s.tilt_y, t.tilt_y)
 }
 
+#[tactic(auto, unfolding(seed_rules::specs::Rules::camera_near))]
 fn camera_near(k: FxFyCxCy, l: FxFyCxCy) -> bool
     ensures { result ≡ camera_near k l }
 {
@@ -33,6 +35,7 @@ fn camera_near(k: FxFyCxCy, l: FxFyCxCy) -> bool
 }
 
 // The tilts first: seeds of one list mostly differ there.
+#[tactic(auto, unfolding(seed_rules::specs::Rules::near))]
 pub fn near(s: CandidateSeed, t: CandidateSeed) -> bool
     ensures { result ≡ rules.near s t }
 {
@@ -43,6 +46,7 @@ pub fn near(s: CandidateSeed, t: CandidateSeed) -> bool
     tilt_near(s_sensor, t_sensor) && camera_near(s_k, t_k)
 }
 
+#[tactic(auto, unfolding(seed_rules::specs::Rules::in_bound, seed_rules::specs::Rules::within))]
 pub fn in_bound(max_abs_tilt: f64, t: ScheimpflugParams) -> bool
     ensures { result ≡ in_bound max_abs_tilt t }
 {

@@ -11,7 +11,8 @@ ghost use Rattle.std.proofs.lemmas.List.Edits.{sets};
 ghost use Rattle.camera_models.specs.declared.intrinsics.FxFyCxCy.{FxFyCxCy};
 ghost use Rattle.camera_tilt.specs.declared.sensor.ScheimpflugParams.{ScheimpflugParams};
 ghost use Rattle.seed_rules.specs.declared.CandidateSeed.{CandidateSeed};
-ghost use Rattle.seed_rules.specs.Layout.{six, seed_at, two, tilts_at, read_from, Leaves};
+ghost use Rattle.seed_lists.specs.Pushed.{Pushed};
+ghost use Rattle.seed_rules.specs.Layout.{six, seed_at, two, tilts_at, read_from};
 ghost use Rattle.seed_rules.specs.LayoutLaws.{Layout, seeds_layout, tilts_layout};
 ghost use Rattle.seed_rules.specs.Merge.{newest_near, push, merged_into};
 ghost use Rattle.seed_rules.specs.Rules as rules;
@@ -67,26 +68,13 @@ pub trait Entry: Copy {
     ghost wide: { 0 < width };
 }
 
-// Kept: each number is read from its place in the list; through an array of the six each would be written twice.
 pub fn seed_at(seeds: &[f64], i: usize) -> CandidateSeed
     requires { 6 * i + 6 ≤ length seeds.now }
     ensures { result ≡ seed_at seeds.now i }
 {
-    let at = 6 * i;
-    let reference_k = FxFyCxCy {
-        fx: seeds[at],
-        fy: seeds[at + 1],
-        cx: seeds[at + 2],
-        cy: seeds[at + 3],
-    };
-    let sensor = ScheimpflugParams {
-        tilt_x: seeds[at + 4],
-        tilt_y: seeds[at + 5],
-    };
-    CandidateSeed {
-        reference_k,
-        sensor,
-    }
+    let mut numbers = [0.0; 6];
+    numbers.copy_from_slice(&seeds[6 * i..6 * i + 6]);
+    numbers.into()
 }
 
 impl Entry for CandidateSeed {
@@ -202,25 +190,20 @@ impl<'a, E: Entry> Entries<'a, E> {
     }
 
     // The newest of the kept entries that is near this one: a decomposition's seeds lie close to their predecessors.
+    // Its place is given, though push asks only whether there is one: 02's E4 names the newest, and a yes or no would be the same from either end.
     fn find_near(&self, entry: E) -> Option<usize>
         requires { E.width * self.now.count ≤ length self.now.numbers.now }
         ensures { result ≡ newest_near E.near 0 (read_from E.first E.width self.now.count self.now.numbers.now) entry }
     {
-        for i in (0..self.count).rev() {
-            if E::at(self.numbers, i).is_near(entry) {
-                return Some(i);
-            }
-        }
-        None
+        (0..self.count)
+            .rev()
+            .find(|i| E::at(self.numbers, *i).is_near(entry))
     }
 
-    // Kept: this contract and those that call it each say that reference and length stay: a ghost field with both would itself have to be said to stay.
     // Puts an entry behind the kept ones, unless one of them is near it.
     pub fn push(&mut self, entry: E)
         requires { E.width * self.old.count + E.width ≤ length self.old.numbers.now }
-        ensures same_reference { self.new.numbers.ghost_name ≡ self.old.numbers.ghost_name }
-        ensures same_length { length self.new.numbers.now ≡ length self.old.numbers.now }
-        ensures pushed { Leaves E.numbers E.width (push E.near (read_from E.first E.width self.old.count self.old.numbers.now) entry) self.old.numbers.now self.new.numbers.now self.new.count }
+        ensures { Pushed E.numbers E.width (push E.near (read_from E.first E.width self.old.count self.old.numbers.now) entry) self.old self.new }
     {
         if self.find_near(entry).is_some() {
             return;
@@ -232,9 +215,7 @@ impl<'a, E: Entry> Entries<'a, E> {
     // The same for tilts, dropped too where they lie beyond the bound.
     pub fn push_in_bound(&mut self, beside: E::Beside, tilts: ScheimpflugParams, max_abs_tilt: f64)
         requires { E.width * self.old.count + E.width ≤ length self.old.numbers.now }
-        ensures same_reference { self.new.numbers.ghost_name ≡ self.old.numbers.ghost_name }
-        ensures same_length { length self.new.numbers.now ≡ length self.old.numbers.now }
-        ensures pushed { Leaves E.numbers E.width (merged_into E.near (read_from E.first E.width self.old.count self.old.numbers.now) (entries_within (E.tilted beside) max_abs_tilt (tilts ∷ []))) self.old.numbers.now self.new.numbers.now self.new.count }
+        ensures { Pushed E.numbers E.width (merged_into E.near (read_from E.first E.width self.old.count self.old.numbers.now) (entries_within (E.tilted beside) max_abs_tilt (tilts ∷ []))) self.old self.new }
     {
         if in_bound(max_abs_tilt, tilts) {
             self.push(E::with_tilts(beside, tilts));

@@ -1,5 +1,5 @@
 -- 01's rules about seeds, on lists of values: nearness, the bound, round 0's list, a later round's list. Definitions only.
-use Rattle.std.specs.Prelude.{Bool, ◌&&◌, cond, Option, Some, None, List, [], ◌∷◌, ◌++◌, map, Float}
+use Rattle.std.specs.Prelude.{Bool, ◌&&◌, cond, List, [], ◌∷◌, ◌++◌, map, Float}
 use Rattle.std.specs.Float.Ieee.{neg, lt, le, eq}
 use Rattle.float.specs.Float.{abs_of}
 use Rattle.float.specs.Literals.{plus_zero, ten_to_minus9, ten_to_minus12}
@@ -74,11 +74,6 @@ offsets s = neg s ∷ plus_zero ∷ s ∷ []
 
 unfoldable pub y_offsets : Bool → Float → List Float
 y_offsets one_axis s = cond one_axis (plus_zero ∷ []) (offsets s)
-
--- a tilt of an axis: a typed one, or the centre's with an offset added
-abbrev pub tilt_along : Option Float → Float → Float
-tilt_along None y = y
-tilt_along (Some centre) d = centre +₆₄ d
 
 abbrev pub moved : Float → List Float → List Float
 moved centre ds = map (λ d. centre +₆₄ d) ds

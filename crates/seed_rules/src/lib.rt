@@ -3,7 +3,7 @@
 #![tactic(auto)]
 
 ghost use Rattle.std.specs.Prelude.{◌≡◌};
-ghost use Rattle.seed_rules.specs.Layout.{six};
+ghost use Rattle.seed_rules.specs.Layout.{six, seed_at};
 
 use camera_models::intrinsics::FxFyCxCy;
 use camera_tilt::sensor::ScheimpflugParams;
@@ -24,5 +24,24 @@ impl From<CandidateSeed> for [f64; 6] {
         let k = seed.reference_k;
         let t = seed.sensor;
         [k.fx, k.fy, k.cx, k.cy, t.tilt_x, t.tilt_y]
+    }
+}
+
+impl From<[f64; 6]> for CandidateSeed {
+    ghost from_gives = { λ numbers seed. seed ≡ seed_at numbers 0 };
+
+    fn from(numbers: [f64; 6]) -> CandidateSeed {
+        CandidateSeed {
+            reference_k: FxFyCxCy {
+                fx: numbers[0],
+                fy: numbers[1],
+                cx: numbers[2],
+                cy: numbers[3],
+            },
+            sensor: ScheimpflugParams {
+                tilt_x: numbers[4],
+                tilt_y: numbers[5],
+            },
+        }
     }
 }

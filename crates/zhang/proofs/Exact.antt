@@ -46,7 +46,7 @@ zero_over x y s t b j v w p k =
     num_zero (x /₆₄ y) (unlike s t) s 0 0 (num_div x y s t 0 b j j 0 0 (num_zero x s s 0 j v) w p (sym (zero-mul b)) (sym (zero-add j)) (omega arith) (omega arith))
 
 -- ---- signs
-unlike_first : (t : Bool) → unlike false t ≡ t
+pub unlike_first : (t : Bool) → unlike false t ≡ t
 unlike_first true = refl
 unlike_first false = refl
 

@@ -1,6 +1,6 @@
 -- 02, E12: each camera whose four numbers share a power of two gets six numbers from which the closed form gives the four back; every other one is refused.
 -- The six are computed exactly, and zhang's `recovered` does the rest. Assumes nothing.
-use Rattle.std.proofs.Common.{◌≡◌, ℕ, ◌+◌, ◌*◌, ◌^◌, ◌≤◌, Bool, true, false, not, pos, sym, refl, add-zero, mul-le-mul, zero-add, mul-one, arith, Float, Ok, Err}
+use Rattle.std.proofs.Common.{◌≡◌, ℕ, ◌+◌, ◌*◌, ◌^◌, ◌≤◌, Bool, false, not, pos, sym, refl, add-zero, mul-le-mul, zero-add, mul-one, arith, Float, Ok, Err}
 use Rattle.std.specs.Float.{binary64}
 use Rattle.std.specs.Float.Ieee.{unlike, of_bits, of_int, neg}
 use mathlib.Core.Option.{Option, none, some}
@@ -9,7 +9,7 @@ use Rattle.float.specs.Literals.{plus_zero}
 use Rattle.float.specs.Sign.{unlike_false, unlike_itself}
 use Rattle.float.specs.Whole.{Num, held, round_is, neg_is, num_mul, num_div, num_add}
 use Rattle.camera_models.specs.declared.intrinsics.FxFyCxCy.{FxFyCxCy}
-use Rattle.zhang.proofs.Exact.{signed, Conic-of, Recovered, recovered}
+use Rattle.zhang.proofs.Exact.{unlike_first, signed, Conic-of, Recovered, recovered}
 use Rattle.zhang.specs.Zhang.{from_homographies}
 use Rattle.common.specs.declared.Refusal.TheVariants.{NoPlate}
 use Rattle.zhang_plate.specs.Plate.{unit_from, conic_with, plate_of}
@@ -21,10 +21,6 @@ use Rattle.zhang_plate.proofs.Lowest.{found, missed}
 power_is : (k : ℕ) → k ≤ 8 → Num (of_int binary64 (pos (2 ^ k))) false 1 k
 unfolding of_int
 power_is k h = round_is false (1 * 2 ^ k) (2 ^ k) 1 (held 1 k (omega arith) (omega arith)) (omega arith) (omega arith)
-
-unlike_first : (t : Bool) → t ≡ unlike false t
-unlike_first true = refl
-unlike_first false = refl
 
 module _ (k : ℕ) (f : FxFyCxCy) (few : k ≤ 8) (a : Units k f) where
   unit : Float
@@ -52,7 +48,7 @@ module _ (k : ℕ) (f : FxFyCxCy) (few : k ≤ 8) (a : Units k f) where
   turned : (x y : Float) (s : Bool) (n m : ℕ) → n ≤ 256 → m ≤ 256 → Num x s n k → Num y false (m * m) 0 → Num (neg (x *₆₄ y)) (unlike false (not s)) (n * (m * m)) k
   turned x y s n m h g v w =
       let l : n * (m * m) ≤ 256 * (256 * 256) = mul-le-mul h (mul-le-mul g g) in
-      signed (neg (x *₆₄ y)) (not s) (unlike false (not s)) (n * (m * m)) k (unlike_first (not s))
+      signed (neg (x *₆₄ y)) (not s) (unlike false (not s)) (n * (m * m)) k (sym (unlike_first (not s)))
       (neg_is (x *₆₄ y) s (n * (m * m) * 2 ^ k)
       (signed (x *₆₄ y) (unlike s false) s (n * (m * m)) k (unlike_false s) (num_mul x y s false n (m * m) k 0 (n * (m * m)) k v w refl (sym (add-zero k)) (omega arith) (omega arith))))
 

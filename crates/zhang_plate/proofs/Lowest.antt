@@ -1,6 +1,6 @@
 -- The search for the lowest unit: what it finds is one, and where it finds none there is none. Assumes nothing.
 use Rattle.std.proofs.Common.{◌≡◌, ℕ, zero, suc, ◌+◌, ◌*◌, ◌^◌, ◌<◌, ◌≤◌, true, false, eqb, sym, ap, ◌∙◌, true≢false, add-one, arith, pow-add, eqb-true}
-use mathlib.Core.Option.{none, some}
+use Rattle.std.proofs.Math.Option.{none, some, none-ne-some, some-injective}
 use borrow.Author.Tests.{eqb-false}
 use Rattle.common.specs.Tests.{case}
 use Rattle.camera_models.specs.declared.intrinsics.FxFyCxCy.{FxFyCxCy}
@@ -28,18 +28,12 @@ pub record Lowest (n k u : ℕ) (f : FxFyCxCy) : Type 0 where
   pub is : u ≡ 2 ^ j
   pub test : shared_unit (2 ^ j) f ≡ true
 
-unwrap : (a b : ℕ) → some a ≡ some b → a ≡ b
-unwrap a b h = cc
-
-none_some : (a : ℕ) {P : Type 0} → none ≡ some a → P
-none_some a h = absurd (let z : ◌≡◌ {A = ℕ} 0 1 = cc in omega arith)
-
 pub found : (n k u : ℕ) (f : FxFyCxCy) → unit_from n (2 ^ k) f ≡ some u → Lowest n k u f
 unfolding unit_from
-found zero k u f h = none_some u h
+found zero k u f h = absurd (none-ne-some u h)
 found (suc n) k u f h =
     case (shared_unit (2 ^ k) f)
-    (λ t. record { j = k; below = omega arith; is = sym (unwrap (2 ^ k) u (sym (here n (2 ^ k) f t) ∙ h)); test = t })
+    (λ t. record { j = k; below = omega arith; is = sym (some-injective (2 ^ k) u (sym (here n (2 ^ k) f t) ∙ h)); test = t })
     (λ t. let l = found n (suc k) u f (sym (next n k f t) ∙ h) in record { j = l.j; below = omega (arith, l.below); is = l.is; test = l.test })
 
 pub missed : (n k j : ℕ) (f : FxFyCxCy) → unit_from n (2 ^ k) f ≡ none → k ≤ j → j < k + n → shared_unit (2 ^ j) f ≡ true → ⊥
@@ -47,7 +41,7 @@ unfolding unit_from
 missed zero k j f h l u t = omega arith
 missed (suc n) k j f h l u t =
     case (shared_unit (2 ^ k) f)
-    (λ r. none_some (2 ^ k) (sym h ∙ here n (2 ^ k) f r))
+    (λ r. none-ne-some (2 ^ k) (sym h ∙ here n (2 ^ k) f r))
     (λ r. case (eqb k j)
     (λ e. true≢false (sym t ∙ ap (λ (i : ℕ). shared_unit (2 ^ i) f) (sym (eqb-true k j e)) ∙ r))
     (λ e. let d = eqb-false k j e in missed n (suc k) j f (sym (next n k f r) ∙ h) (omega arith) (omega arith) t))

@@ -1,5 +1,5 @@
 -- The code's test of one number is the definition's: a whole number is tested by itself, and what has a fraction or is too large fails. Assumes nothing.
-use Rattle.std.proofs.Common.{◌≡◌, ℕ, ◌+◌, ◌*◌, ◌/◌, ◌%◌, ◌^◌, ◌<◌, ◌≤◌, Bool, true, false, not, ◌&&◌, ◌||◌, T, eqb, leb, ℤ, pos, sym, refl, ap, ◌∙◌, true≢false, lt_of_lt_of_le, mul-le-mul_right, mul_assoc, div-lt_iff_lt-mul, mul-le-mul, mul-one, mul_right_comm, arith, le→leb, lt→ltb, pow_mono, ltb-false, ltb-true, eq-eqb, ne_eqb, eqb-true, leb-true, Float}
+use Rattle.std.proofs.Common.{◌≡◌, ℕ, ◌+◌, ◌*◌, ◌/◌, ◌%◌, ◌^◌, ◌<◌, ◌≤◌, Bool, true, false, ◌&&◌, ◌||◌, T, eqb, leb, ℤ, pos, sym, refl, ap, ◌∙◌, true≢false, lt_of_lt_of_le, mul-le-mul_right, mul_assoc, div-lt_iff_lt-mul, mul-le-mul, mul-one, mul_right_comm, arith, le→leb, lt→ltb, pow_mono, ltb-false, ltb-true, eq-eqb, ne_eqb, eqb-true, leb-true, Float}
 use Rattle.std.specs.Float.{nan, inf, fin, binary64}
 use Rattle.std.specs.Float.Ieee.{up, down, of_bits, of_int, lt, eq, ne, to_unsigned, in_float}
 use native.Mathlib.Nat.{mul-div_left, mul-mod_left, mul-div-mul_right, min-eq_left, eq_of_mul-eq-mul_right}
@@ -143,13 +143,13 @@ module _ (u : ℕ) (high : u ≤ 256) where
       (equal_is (of_int binary64 (pos n)) n m e (float_is n (small_cut (fin s m e) h)) (not-false (eq (of_int binary64 (pos n)) (fin false m e)) k))
 
 -- ---- the same over the code's values: a is the size, and n its whole part
-module _ (u : ℕ) (high : u ≤ 256) (x a : Float) (is-abs : a ≡ abs_of x) where
-  pub too_large : not (lt a limit) ≡ true → false ≡ times_unit u x
-  too_large h = sym (fails_large u high x (rw is-abs at (not-true (lt a limit) h)))
+module _ (x a : Float) (is-abs : a ≡ abs_of x) where
+  pub too_large : (u : ℕ) → u ≤ 256 → lt a limit ≡ false → false ≡ times_unit u x
+  too_large u high h = sym (fails_large u high x (rw is-abs at h))
 
-  module _ (below : not (lt a limit) ≡ false) where
+  module _ (below : lt a limit ≡ true) where
     size_below : lt (abs_of x) limit ≡ true
-    size_below = rw is-abs at (not-false (lt a limit) below)
+    size_below = rw is-abs at below
 
     pub castable : T (lt (fin true 1 (pos 0)) a) × T (lt a (fin false 1 (pos 64)))
     castable = rw is-abs (in_range x size_below)
@@ -162,9 +162,9 @@ module _ (u : ℕ) (high : u ≤ 256) (x a : Float) (is-abs : a ≡ abs_of x) wh
       unfolding in_float
       counted = le→leb n (2 ^ 53) (let l : n ≤ 65536 = rw cut_of (small_cut x size_below) in omega arith)
 
-      pub has_fraction : ne (of_int binary64 (pos n)) a ≡ true → false ≡ times_unit u x
-      has_fraction h = sym (fails_fraction u high x size_below (rw (cut_of, is-abs) at h))
+      module _ (u : ℕ) (high : u ≤ 256) where
+        pub has_fraction : ne (of_int binary64 (pos n)) a ≡ true → false ≡ times_unit u x
+        has_fraction h = sym (fails_fraction u high x size_below (rw (cut_of, is-abs) at h))
 
-      module _ (no_fraction : ne (of_int binary64 (pos n)) a ≡ false) where
-        pub counts : (eqb (n % u) 0 && leb (n / u) 256) ≡ times_unit u x
-        counts = sym (rw cut_of (whole_number u high x size_below (rw (cut_of, is-abs) at no_fraction)))
+        pub counts : ne (of_int binary64 (pos n)) a ≡ false → (eqb (n % u) 0 && leb (n / u) 256) ≡ times_unit u x
+        counts h = sym (rw cut_of (whole_number u high x size_below (rw (cut_of, is-abs) at h)))

@@ -11,6 +11,7 @@ use common::Refusal;
 use zhang::Conic;
 
 // Whether x is a whole number of units, at most 256 of them, of either sign.
+#[tactic(auto, using(crate::proofs::WholeNumber::too_large, crate::proofs::WholeNumber::has_fraction, crate::proofs::WholeNumber::counts))]
 fn times_unit(x: f64, unit: u64) -> bool
     requires { (1 ≤ unit) × (unit ≤ 256) }
     ensures { result ≡ times_unit unit x }
@@ -67,6 +68,7 @@ fn conic_with(k: FxFyCxCy, unit: f64) -> Conic
 }
 
 // The six numbers of a camera, by the lowest power of two that its four share.
+#[tactic(auto, using(crate::proofs::Turns::shifted, crate::proofs::Turns::in_range, crate::proofs::Turns::stops, crate::proofs::Turns::goes_on, crate::proofs::Turns::ends))]
 pub fn known_plate(k: FxFyCxCy) -> Result<Conic, Refusal>
     ensures { result ≡ plate_of k }
 {

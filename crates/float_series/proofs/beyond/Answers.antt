@@ -17,4 +17,4 @@ outside (fin true m e) = or-false _
 outside (fin false m e) = refl
 
 pub returns : goal.returns
-returns c = rw c.is_nan.ensures (outside c.args.x)
+returns c = rw c.is_nan.ensures.value (outside c.args.x)

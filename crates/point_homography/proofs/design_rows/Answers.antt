@@ -9,17 +9,17 @@ use Rattle.point_homography.proofs.design_rows.Goals as goal
 pub put_rows-requires : goal.put_rows-requires
 put_rows-requires c =
     let a = c.args in
-    let f = fine a.src.now a.dst.now (length a.a.now) (sym c.check_rows.ensures ∙ c.in_ok-check_rows.was) in
+    let f = fine a.pairs.src.now a.pairs.dst.now (length a.a.now) (sym c.check.ensures ∙ c.in_ok-check.was) in
     (f.count, f.space)
 
 pub returns-clause-written : goal.returns-clause-written
 unfolding rows_into
 returns-clause-written c =
     let a = c.args in
-    let clear : rows_refusal a.src.now a.dst.now (length a.a.now) ≡ Ok tt = sym c.check_rows.ensures ∙ c.in_ok-check_rows.was in
-    let f = fine a.src.now a.dst.now (length a.a.now) clear in
-    let ts = similarity_of a.src.now in
-    let td = similarity_of a.dst.now in
-    let w = design_rows ts td a.src.now a.dst.now in
-    let n : length w ≡ length a.src.now / 2 * 18 = rows_length ts td a.src.now a.dst.now f.count in
+    let clear : rows_refusal a.pairs.src.now a.pairs.dst.now (length a.a.now) ≡ Ok tt = sym c.check.ensures ∙ c.in_ok-check.was in
+    let f = fine a.pairs.src.now a.pairs.dst.now (length a.a.now) clear in
+    let ts = similarity_of a.pairs.src.now in
+    let td = similarity_of a.pairs.dst.now in
+    let w = design_rows ts td a.pairs.src.now a.pairs.dst.now in
+    let n : length w ≡ length a.pairs.src.now / 2 * 18 = rows_length ts td a.pairs.src.now a.pairs.dst.now f.count in
     rw (c.put_rows.ensures, c.normalizing-ts.ensures, c.normalizing-td.ensures, clear, rows_into) (sets_front a.a.now w (omega (arith, n, f.space)))

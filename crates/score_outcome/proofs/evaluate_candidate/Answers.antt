@@ -2,6 +2,7 @@
 use Rattle.std.proofs.Common.{◌≡◌, refl, sym, ap, ◌∙◌, List, ℕ, Float, length}
 use Rattle.float.specs.Float.{is_finite}
 use Rattle.camera_tilt.specs.Matrix.{Matrix}
+use Rattle.camera_tilt.specs.Sensor.{tilt_projection_matrix}
 use Rattle.score_camera.specs.declared.pinhole.PinholeCamera.{PinholeCamera}
 use Rattle.score_camera.specs.Camera.{damped_camera, valid_camera}
 use Rattle.score_rows.specs.Rows.{rows_of, tilt_matrix, error_sum, mean_of}
@@ -14,8 +15,8 @@ use Rattle.score_outcome.proofs.evaluate_candidate.Goals as goal
 
 -- ---- what the calls say of the definition's parts
 module _ (s : SolvedCamera) (rows : List Float) (flags : List ℕ) where
-  errors : (k : PinholeCamera) (h : Matrix) (e : ErrorSum) → k ≡ damped_camera s.camera → h ≡ tilt_matrix s.trig → e ≡ error_sum k h (rows_of rows flags) → errors_with s rows flags ≡ e
-  unfolding errors_with
+  errors : (k : PinholeCamera) (h : Matrix) (e : ErrorSum) → k ≡ damped_camera s.camera → h ≡ tilt_projection_matrix s.trig → e ≡ error_sum k h (rows_of rows flags) → errors_with s rows flags ≡ e
+  unfolding errors_with tilt_matrix
   errors k h e p q r = rw (← p, ← q, ← r)
 
   counted : (share : ℕ) (e : ErrorSum) → errors_with s rows flags ≡ e → enough_with share s rows flags ≡ enough share e.count (length flags)
@@ -39,7 +40,7 @@ pub returns-then-not-is_enough : goal.returns-then-not-is_enough
 returns-then-not-is_enough c =
     let a = c.args in
     let valid = ap valid_camera (sym c.damped_camera-camera.ensures) ∙ sym c.validate_camera.ensures ∙ c.if-not-validate_camera.false in
-    let e = errors a.solved a.rows.now a.flags.now _ _ _ c.damped_camera-camera.ensures c.tilt_matrix.ensures c.reproj_error_sum-errors.ensures in
+    let e = errors a.solved a.rows.now a.flags.now _ _ _ c.damped_camera-camera.ensures c.tilt_projection_matrix-h.ensures c.reproj_error_sum-errors.ensures in
     let few = counted a.solved a.rows.now a.flags.now a.share _ e ∙ sym c.is_enough.ensures ∙ c.if-not-is_enough.true in
     sym (few_skips a.share a.solved a.sensor a.center a.rows.now a.flags.now valid few)
 
@@ -47,7 +48,7 @@ pub returns-then-not-is_finite : goal.returns-then-not-is_finite
 returns-then-not-is_finite c =
     let a = c.args in
     let valid = ap valid_camera (sym c.damped_camera-camera.ensures) ∙ sym c.validate_camera.ensures ∙ c.if-not-validate_camera.false in
-    let e = errors a.solved a.rows.now a.flags.now _ _ _ c.damped_camera-camera.ensures c.tilt_matrix.ensures c.reproj_error_sum-errors.ensures in
+    let e = errors a.solved a.rows.now a.flags.now _ _ _ c.damped_camera-camera.ensures c.tilt_projection_matrix-h.ensures c.reproj_error_sum-errors.ensures in
     let m = mean a.solved a.rows.now a.flags.now _ e ∙ sym c.mean_reproj_error-mean.ensures in
     let infinite = ap is_finite m ∙ sym c.is_finite.ensures ∙ c.if-not-is_finite.true in
     sym (infinite_skips a.share a.solved a.sensor a.center a.rows.now a.flags.now valid infinite)
@@ -56,7 +57,7 @@ pub returns : goal.returns
 returns c =
     let a = c.args in
     let valid = ap valid_camera (sym c.damped_camera-camera.ensures) ∙ sym c.validate_camera.ensures ∙ c.if-not-validate_camera.false in
-    let e = errors a.solved a.rows.now a.flags.now _ _ _ c.damped_camera-camera.ensures c.tilt_matrix.ensures c.reproj_error_sum-errors.ensures in
+    let e = errors a.solved a.rows.now a.flags.now _ _ _ c.damped_camera-camera.ensures c.tilt_projection_matrix-h.ensures c.reproj_error_sum-errors.ensures in
     let m = mean a.solved a.rows.now a.flags.now _ e ∙ sym c.mean_reproj_error-mean.ensures in
     let many = counted a.solved a.rows.now a.flags.now a.share _ e ∙ sym c.is_enough.ensures ∙ c.if-not-is_enough.false in
     let finite = ap is_finite m ∙ sym c.is_finite.ensures ∙ c.if-not-is_finite.false in

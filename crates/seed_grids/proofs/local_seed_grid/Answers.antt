@@ -1,7 +1,10 @@
 -- `seed_grids::local_seed_grid` meets its contract. Assumes nothing.
+use Rattle.std.proofs.Common.{rules}
+use Rattle.float.specs.Binary64.{◌+₆₄◌}
 use Rattle.seed_rules.specs.Rules.{next_list}
 use Rattle.seed_grids.proofs.local_seed_grid.Goals as goal
 
 pub returns : goal.returns
 unfolding next_list
-returns c = c.push_pairs.ensures
+returns c =
+    let k = c.args.center in c.push_pairs.ensures (λ d. k.tilt_x +₆₄ d) (λ d. k.tilt_y +₆₄ d) (λ d t p. search rules) (λ d t p. search rules)

@@ -35,10 +35,10 @@ loop-i-preserved g c =
           ∙ ap (λ (s : CandidateSeed). xs ++ (s ∷ [])) (ap seeded (sym c.at.ensures) ∙ sym c.as_seed.ensures))),
     )
 
-pub returns-clause-pushed : goal.returns-clause-pushed
-returns-clause-pushed g c =
+pub returns : goal.returns
+returns g c =
     let f = g.F.Entry in
     let a = c.args in
     let ks = read_from f.first f.width a.number a.from.now in
     let e : take c.loop-i.i ks ≡ ks = take_all c.loop-i.i ks (rw read_length (search rules)) in
-    rw e at c.loop-i.invariant.2.leaves
+    record { same_reference = search rules; same_length = search rules; pushed = rw e at c.loop-i.invariant.2.leaves }

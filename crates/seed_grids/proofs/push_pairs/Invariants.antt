@@ -1,14 +1,18 @@
 -- `seed_grids::push_pairs`: the loop's invariant: the first of the x tilts have been offered with every y tilt.
-use Rattle.std.proofs.Common.{◌≡◌, [], map, ◌*◌, ◌≤◌, length, take}
-use Rattle.seed_rules.specs.Rules.{pairs, tilt_along, entries_within}
-use Rattle.seed_rules.proofs.Steps.{Merging}
+use Rattle.std.proofs.Common.{◌≡◌, map, ◌*◌, ◌≤◌, length, take}
+use Rattle.std.specs.Prelude.{Float}
+use Rattle.seed_rules.specs.Layout.{Leaves}
+use Rattle.seed_rules.specs.Merge.{merged}
+use Rattle.seed_rules.specs.Rules.{pairs, entries_within}
 use Rattle.seed_grids.proofs.push_pairs.Given as goal
 
 abbrev pub invariant-loop-number : goal.invariant-loop-number
 invariant-loop-number g l =
     let e = g.E.Entry in
     let i = l.number-index in
-    let offered = pairs (map (tilt_along l.x_axis.center) (take i l.number-items)) (map (tilt_along l.y_axis.center) l.y_axis.numbers.now) in
-    (i ≤ length l.number-items)
+    (i ≤ length l.x_numbers)
     × (l.list.numbers.ghost_name ≡ l.initial.list.numbers.ghost_name)
-    × Merging e.numbers e.width e.near [] (entries_within (e.tilted l.beside) l.max_abs_tilt offered) l.initial.list.numbers.now l.list.numbers.now l.list.count (i * length l.y_axis.numbers.now)
+    × (l.list.count ≤ i * length l.y_numbers)
+    × (length l.list.numbers.now ≡ length l.initial.list.numbers.now)
+    × ((f h : Float → Float) → ((n t : Float) → goal.X-post g l.along_x n t → t ≡ f n) → ((n t : Float) → goal.Y-post g l.along_y n t → t ≡ h n)
+    → Leaves e.numbers e.width (merged e.near (entries_within (e.tilted l.beside) l.max_abs_tilt (pairs (map f (take i l.x_numbers)) (map h l.y_numbers)))) l.initial.list.numbers.now l.list.numbers.now l.list.count)

@@ -1,10 +1,12 @@
 -- `seed_grids::push_row` meets its contract. Assumes nothing.
-use Rattle.std.proofs.Common.{◌≡◌, refl, ◌∙◌, [], ◌∷◌, map, suc, ◌+◌, ◌≤◌, add-zero, add-one, arith, mul-le-mul_left, rules, length, get_or, take, take_all}
+use Rattle.std.proofs.Common.{◌≡◌, refl, ◌∙◌, [], ◌∷◌, map, suc, ◌+◌, ◌≤◌, add-one, arith, mul-le-mul_left, rules, length, get_or, take, take_all}
 use Rattle.std.proofs.Math.Nat.{mul-suc}
 use Rattle.std.specs.Float.{nan}
 use Rattle.seed_rules.specs.Layout.{read_from}
+use Rattle.seed_rules.specs.LayoutLaws.{read_length}
 use Rattle.seed_rules.specs.Merge.{keep}
-use Rattle.seed_rules.specs.Rules.{tilts, tilt_along, entries_within}
+use Rattle.seed_rules.proofs.MergeLaws.{merged_length}
+use Rattle.seed_rules.specs.Rules.{tilts, entries_within}
 use Rattle.seed_rules.proofs.RulesLaws.{within_length, axis_row_more}
 use Rattle.seed_rules.proofs.Steps.{merging_start, merging_more}
 use Rattle.seed_grids.proofs.push_row.Goals as goal
@@ -13,15 +15,16 @@ pub loop-number-init : goal.loop-number-init
 unfolding keep
 loop-number-init g c =
     let a = c.args in
-    (search rules, refl, rw add-zero (merging_start g.met.E.Entry.lies g.E.Entry.near a.list.now.numbers.now a.list.now.count (let h : a.list.now.count ≤ a.list.now.count + length a.y_axis.numbers.now = omega arith in omega (arith, mul-le-mul_left g.E.Entry.width h))))
+    let h : a.list.now.count ≤ a.list.now.count + length a.y_numbers.now = omega arith in
+    (search rules, refl, omega arith, refl, λ f is. (merging_start g.met.E.Entry.lies g.E.Entry.near a.list.now.numbers.now a.list.now.count (omega (arith, mul-le-mul_left g.E.Entry.width h, c.requires.room))).leaves)
 
 pub push_in_bound-requires : goal.push_in_bound-requires
 push_in_bound-requires g c =
     let w = g.E.Entry.width in
     let n = c.loop-number.list.count in
-    let few = c.loop-number.invariant.2.few in
-    let h : suc n ≤ c.args.list.now.count + length c.args.y_axis.numbers.now = search rules in
-    omega (arith, mul-le-mul_left w h, mul-suc w n)
+    let k = c.loop-number.invariant in
+    let h : suc n ≤ c.args.list.now.count + length c.args.y_numbers.now = omega (arith, k.2, c.loop-number-test.true) in
+    omega (arith, mul-le-mul_left w h, mul-suc w n, c.requires.room, k.3)
 
 pub loop-number-preserved : goal.loop-number-preserved
 loop-number-preserved g c =
@@ -29,22 +32,33 @@ loop-number-preserved g c =
     let a = c.args in
     let j = c.loop-number.number-index in
     let l = a.list.now.numbers.now in
-    let ds = a.y_axis.numbers.now in
-    let f = tilt_along a.y_axis.center in
+    let n = c.loop-number.list.count in
+    let ds = a.y_numbers.now in
     let of = e.tilted a.beside in
     let max = a.max_abs_tilt in
-    let one = tilts a.tilt_x (f (get_or ds j nan)) ∷ [] in (
-      search rules,
-      c.push_in_bound.ensures.same_reference ∙ c.loop-number.invariant.1,
-      rw (add-one j)
+    let k = c.loop-number.invariant in
+    let p = c.push_in_bound.ensures in
+    let one = tilts a.tilt_x c.along_y.result ∷ [] in
+    let few : c.push_in_bound.new.self.count ≤ a.list.now.count + (j + 1) =
+    rw p.pushed.count_is (omega (arith, k.2, merged_length e.near (read_from e.first e.width n c.loop-number.list.numbers.now) (entries_within of max one), read_length e.first e.width n c.loop-number.list.numbers.now, within_length of max one)) in (
+      omega (arith, c.loop-number-test.true),
+      p.same_reference ∙ k.1,
+      few,
+      p.same_length ∙ k.3,
+      λ f is.
+          let q : c.along_y.result ≡ f (get_or ds j nan) = is _ _ c.along_y.ensures in
+          rw (add-one j)
           (merging_more g.met.E.Entry.lies e.near (read_from e.first e.width a.list.now.count l) (entries_within of max (map (tilts a.tilt_x) (map f (take j ds)))) (entries_within of max one)
           (entries_within of max (map (tilts a.tilt_x) (map f (take (suc j) ds))))
-          l c.loop-number.list.numbers.now c.push_in_bound.new.self.numbers.now c.loop-number.list.count c.push_in_bound.new.self.count (a.list.now.count + j) (a.list.now.count + suc j)
-          c.loop-number.invariant.2 (rw c.tilt_along.ensures at c.push_in_bound.ensures.pushed) (search rules) (omega (arith, within_length of max one)) (axis_row_more of max f a.tilt_x ds j (search rules))),
+          l c.loop-number.list.numbers.now c.push_in_bound.new.self.numbers.now n c.push_in_bound.new.self.count (a.list.now.count + j) (a.list.now.count + suc j)
+          (record { leaves = k.4 f is; few = k.2; same = k.3 }) p.pushed p.same_length (omega (arith, within_length of max one)) (rw q (axis_row_more of max f a.tilt_x ds j c.loop-number-test.true))).leaves,
     )
 
+pub returns-clause-few : goal.returns-clause-few
+returns-clause-few g c = omega (arith, c.loop-number.invariant.2, c.loop-number.invariant.0)
+
 pub returns-clause-pushed : goal.returns-clause-pushed
-returns-clause-pushed g c =
-    let ds = c.args.y_axis.numbers.now in
+returns-clause-pushed g c f is =
+    let ds = c.args.y_numbers.now in
     let e : take c.loop-number.number-index ds ≡ ds = take_all c.loop-number.number-index ds (search rules) in
-    rw e at c.loop-number.invariant.2.leaves
+    rw e at (c.loop-number.invariant.4 f is)

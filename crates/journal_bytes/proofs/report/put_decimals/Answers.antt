@@ -1,6 +1,8 @@
 -- `journal_bytes::report::put_decimals` meets its contract: what is left to store, from here, is the whole. Assumes nothing.
-use Rattle.std.proofs.Common.{refl, arith, length-set, rules}
-use Rattle.journal_bytes.proofs.Stores.{decimals_turn, decimals_end, no_decimals, at_decimals_end}
+use Rattle.std.proofs.Common.{ℕ, ◌+◌, refl, sym, ap, ◌∙◌, arith, length-set, rules}
+use Rattle.journal_line.specs.Line.{decimal}
+use Rattle.journal_line.proofs.DigitLaws.{decimal_length}
+use Rattle.journal_bytes.proofs.Stores.{fields_turn, fields_end, at_fields_end, fields_stored}
 use Rattle.journal_bytes.proofs.report.put_decimals.Goals as goal
 
 pub loop-n-init : goal.loop-n-init
@@ -12,18 +14,19 @@ put_decimal-place-requires c = simp length-set (omega arith)
 pub loop-n-preserved : goal.loop-n-preserved
 loop-n-preserved c =
     let l = c.loop-n in
-    let a = c.args in
-    let p = c.put_decimal-place in (
+    let ns = c.args.ns.now in
+    let p = c.put_decimal-place in
+    let at_next = sym (p.ensures.0 ∙ ap (λ (w : ℕ). l.place + 1 + w) (sym (decimal_length _))) in (
       search rules,
-      decimals_end l.place p.result l.n-index a.ns.now _ (search rules) p.ensures.0 _ l.invariant.1,
-      decimals_turn l.place p.result l.n-index a.ns.now _ (search rules) p.ensures.0 l.out _ l.invariant.2 _ p.ensures.1.now_is,
+      fields_end decimal ns l.n-index l.place p.result _ _ (search rules) at_next l.invariant.1,
+      fields_turn decimal ns l.n-index l.out _ l.place p.result _ (search rules) at_next l.invariant.2 _ p.ensures.1.now_is,
     )
 
 pub returns : goal.returns
 returns c =
     let l = c.loop-n in
     let ns = c.args.ns.now in (
-      at_decimals_end l.n-index ns (search rules) l.place _ l.invariant.1,
-      record { now_is = no_decimals l.n-index ns (search rules) l.out _ l.place l.invariant.2; same_long = l.auto.out },
+      at_fields_end decimal ns l.n-index l.place _ (search rules) l.invariant.1,
+      fields_stored decimal ns l.n-index l.out _ _ l.place (search rules) l.invariant.2 l.auto.out,
       search rules,
     )

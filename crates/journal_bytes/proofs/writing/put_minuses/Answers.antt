@@ -1,20 +1,17 @@
--- `journal_bytes::writing::put_minuses` meets its contract: what is left to store, from here, is the whole. Assumes nothing.
-use Rattle.std.proofs.Common.{add-zero, arith, length-set, rules}
-use Rattle.journal_bytes.proofs.Stores.{minus_turn, no_minuses}
+-- `journal_bytes::writing::put_minuses` meets its contract: the sixteen bytes that are copied are the eight fields. Assumes nothing.
+use Rattle.std.proofs.Common.{◌+◌, ◌-◌, List, ℕ, sym, ◌∙◌, arith, [], replicate, ◌∷◌}
+use Rattle.std.proofs.lemmas.Slice.{put_mid-paste}
+use lib.Seq.{sets-eq, length-sets}
+use Rattle.journal_line.specs.Steps.{comma_fields}
 use Rattle.journal_bytes.proofs.writing.put_minuses.Goals as goal
 
-pub loop-i-init : goal.loop-i-init
-loop-i-init c = rw add-zero
-
-pub bounds-out-place-in-loop-i : goal.bounds-out-place-in-loop-i
-bounds-out-place-in-loop-i c = simp length-set (omega arith)
-
-pub loop-i-preserved : goal.loop-i-preserved
-loop-i-preserved c =
-    let l = c.loop-i in
-    minus_turn l.out _ c.args.at l.i (search rules) l.invariant
+abbrev minuses : List ℕ
+minuses = comma_fields (replicate 8 (45 ∷ []))
 
 pub returns : goal.returns
+unfolding comma_fields
 returns c =
-    let l = c.loop-i in
-    record { now_is = no_minuses l.out _ _ l.i (search rules) l.invariant; same_long = l.auto.out }
+    let a = c.args in
+    let now = put_mid-paste a.at (a.at + 16 - a.at) a.out.now c.copy_from_slice.new.self minuses 16 c.copy_from_slice.ensures.after (omega arith) (omega arith)
+    ∙ sym (sets-eq minuses a.out.now a.at (omega arith)) in
+    record { now_is = now; same_long = rw now (length-sets a.out.now a.at minuses) }

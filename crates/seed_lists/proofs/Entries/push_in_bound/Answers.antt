@@ -4,15 +4,15 @@ use Rattle.seed_rules.specs.Merge.{keep, merged_into}
 use Rattle.seed_rules.proofs.Steps.{merging_start}
 use Rattle.seed_lists.proofs.Entries.push_in_bound.Goals as goal
 
-pub returns-then-in_bound-clause-pushed : goal.returns-then-in_bound-clause-pushed
+pub returns-then-in_bound : goal.returns-then-in_bound
 unfolding keep merged_into
-returns-then-in_bound-clause-pushed g c =
+returns-then-in_bound g c =
     let e = sym c.in_bound.ensures ∙ c.if-in_bound.true in
-    simp (e, ← c.with_tilts.ensures) c.push.ensures.pushed
+    simp (e, ← c.with_tilts.ensures) c.push.ensures
 
-pub returns-else-in_bound-clause-pushed : goal.returns-else-in_bound-clause-pushed
+pub returns-else-in_bound : goal.returns-else-in_bound
 unfolding keep
-returns-else-in_bound-clause-pushed g c =
+returns-else-in_bound g c =
     let a = c.args in
     let e = sym c.in_bound.ensures ∙ c.if-in_bound.false in
-    simp e (merging_start g.met.E.Entry.lies g.E.Entry.near a.self.now.numbers.now a.self.now.count (search rules)).leaves
+    record { same_reference = search rules; same_length = search rules; pushed = simp e (merging_start g.met.E.Entry.lies g.E.Entry.near a.self.now.numbers.now a.self.now.count (search rules)).leaves }

@@ -1,0 +1,69 @@
+-- The floor as the code finds it: the lowest so far, from the first seed on, and the seeds from chunks of six numbers. Assumes nothing.
+use Rattle.std.specs.Prelude.{◌≡◌, ℕ, zero, suc, ◌+◌, ◌*◌, ◌-◌, ◌/◌, ◌<◌, ◌≤◌, List, length, [], ◌∷◌, get_or, take, drop, refl, Float}
+use Rattle.std.proofs.Common.{sym, ap, ◌∙◌, true≢false, arith, drop-drop, get_or-drop, length-drop}
+use Rattle.std.proofs.lemmas.List.{get_or-take, drop-take, length-take-le}
+use Rattle.std.specs.List.{fold}
+use Rattle.std.specs.Float.{nan, inf, fin}
+use Rattle.std.specs.Float.Ieee.{lt, is_nan, div, of_bits}
+use Rattle.std.proofs.Math.Bool.{true, false}
+use Rattle.float.specs.Float.{min_of}
+use Rattle.float.specs.Literals.{infinity}
+use Rattle.float_laws.specs.Lower.{min_number, min_assoc}
+use Rattle.seed_rules.specs.declared.CandidateSeed.{CandidateSeed}
+use Rattle.seed_rules.specs.Layout.{read_from, seeds_of, all_seeds}
+use Rattle.score_floor.specs.Floor.{counted_penalty, floor_of, seeds_from, seeds_between}
+use Rattle.score_floor.proofs.FloorLaws.{counted_number, floor_number, min_infinity}
+
+abbrev pub lower : Float → CandidateSeed → Float
+lower p s = min_of p (counted_penalty s.sensor)
+
+fold_lower : (ss : List CandidateSeed) (p : Float) → is_nan p ≡ false → fold lower p ss ≡ min_of p (floor_of ss)
+unfolding floor_of
+fold_lower [] p n = sym (min_infinity p n)
+fold_lower (s ∷ ss) p n =
+    let q = counted_penalty s.sensor in
+    let o = counted_number s.sensor in
+    fold_lower ss (min_of p q) (min_number p q n o) ∙ min_assoc p q (floor_of ss) n o
+
+infinity_min : (p : Float) → is_nan p ≡ false → min_of infinity p ≡ p
+unfolding min_of is_nan lt div of_bits
+infinity_min nan n = absurd (true≢false n)
+infinity_min (inf false) n = refl
+infinity_min (inf true) n = refl
+infinity_min (fin s m e) n = refl
+
+-- the order doesn't matter, nor does it for zeros: the first of the lowest is taken both ways
+floor_is : (ss : List CandidateSeed) → fold lower infinity ss ≡ floor_of ss
+unfolding is_nan div of_bits
+floor_is ss = fold_lower ss infinity refl ∙ infinity_min (floor_of ss) (floor_number ss)
+
+-- ---- the numbers of n seeds from place i on are read as these seeds
+module _ (l : List Float) (i m : ℕ) where
+  number : (k : ℕ) → k < 6 → get_or (take (6 * suc m) (drop (6 * i) l)) k nan ≡ get_or l (6 * i + k) nan
+  number k h = get_or-take (6 * suc m) (drop (6 * i) l) k nan (omega arith) ∙ get_or-drop (6 * i) l k nan
+
+  next : drop 6 (take (6 * suc m) (drop (6 * i) l)) ≡ take (6 * m) (drop (6 * suc i) l)
+  next =
+      let e : 6 * suc m ≡ 6 + 6 * m = omega arith in
+      let f : 6 * i + 6 ≡ 6 * suc i = omega arith in
+      rw (e, drop-take 6 (6 * m) (drop (6 * i) l)) (ap (take (6 * m)) (drop-drop 6 (6 * i) l ∙ ap (λ (k : ℕ). drop k l) f))
+
+from_is : (l : List Float) (i n : ℕ) → seeds_of n (take (6 * n) (drop (6 * i) l)) ≡ seeds_from l i n
+unfolding read_from seeds_from
+from_is l i zero = refl
+from_is l i (suc m) =
+    let a = number l i m in
+    let z : 6 * i + 0 ≡ 6 * i = omega arith in
+    rw (a 0 (omega arith), a 1 (omega arith), a 2 (omega arith), a 3 (omega arith), a 4 (omega arith), a 5 (omega arith), z, next l i m, from_is l (suc i) m)
+
+between_is : (l : List Float) (from to : ℕ) → from ≤ to → 6 * to ≤ length l → all_seeds (take (6 * to - 6 * from) (drop (6 * from) l)) ≡ seeds_between l from to
+between_is l from to h k =
+    let n = to - from in
+    let e : 6 * to - 6 * from ≡ 6 * n = omega arith in
+    let f : length (take (6 * n) (drop (6 * from) l)) ≡ 6 * n = length-take-le (6 * n) (drop (6 * from) l) (omega (arith, length-drop (6 * from) l)) in
+    let g : 6 * n / 6 ≡ n = omega arith in
+    rw (e, f, g) (from_is l from n)
+
+pub floor_by_chunks : (l : List Float) (from to : ℕ) → from ≤ to → 6 * to ≤ length l
+    → fold lower infinity (all_seeds (take (6 * to - 6 * from) (drop (6 * from) l))) ≡ floor_of (seeds_between l from to)
+floor_by_chunks l from to h k = floor_is _ ∙ ap floor_of (between_is l from to h k)

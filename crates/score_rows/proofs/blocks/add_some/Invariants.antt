@@ -1,7 +1,0 @@
--- `score_rows::blocks::add_some`: the loop's invariant: the sum and count have the first j rows of the block.
-use Rattle.std.proofs.Common.{◌≡◌}
-use Rattle.score_rows.specs.Steps.{add_bits}
-use Rattle.score_rows.proofs.blocks.add_some.Given as goal
-
-abbrev pub invariant-loop-j : goal.invariant-loop-j
-invariant-loop-j l = l.sum ≡ add_bits l.initial.sum l.block.rows.flags.now l.bits l.block.i l.j
