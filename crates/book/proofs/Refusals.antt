@@ -7,11 +7,11 @@ use Rattle.common.specs.Each.{every}
 use Rattle.common.specs.Checks.{Check, ◌when◌, first_refusal}
 use Rattle.common.specs.declared.Refusal.{Refusal}
 use Rattle.common.specs.declared.Refusal.TheVariants as refusal
-use Rattle.float.specs.Float.{is_finite}
+use Rattle.float.specs.Float.{is_finite, within}
 use Rattle.float.specs.Literals.{plus_zero, half₆₄}
 use Rattle.seed_rules.specs.declared.CandidateSeed.{CandidateSeed}
-use Rattle.seed_rules.specs.Rules.{within, in_bound, untilted_y}
-use Rattle.seed_rules.proofs.Bound.{within_order}
+use Rattle.seed_rules.specs.Rules.{in_bound, untilted_y}
+use Rattle.float.proofs.Bound.{within_order}
 use Rattle.seed_rules.specs.Layout.{all_seeds}
 use Rattle.search_start.specs.Start.{positive, good_seed, only_zero, untilted_seed, too_many, demand_of, start_checks}
 use Rattle.book.specs.Book.{Inputs, demand}

@@ -18,7 +18,7 @@ use Rattle.score_outcome.specs.declared.SkipReason.TheVariants.{HostFailed, BadC
 use Rattle.score_outcome.specs.Evaluation.{finding_refusal}
 use Rattle.score_best.specs.declared.Candidate.{Candidate}
 use Rattle.score_best.specs.declared.Best.{Best}
-use Rattle.score_best.specs.Best.{Chosen, nothing, chosen, best_of, first_unbeaten, no_best, held, or_best, candidate_of}
+use Rattle.score_best.specs.Best.{Chosen, nothing, chosen, best_of, first_unbeaten, no_best, best_candidate, held, or_best, candidate_of}
 use Rattle.score_best.proofs.Order.{best_snoc}
 use Rattle.search_record.specs.declared.run.Run.{Run}
 use Rattle.journal_line.specs.declared.Counts.{Counts}
@@ -139,22 +139,22 @@ left_is b l f h k =
         rw (add-one (length b.answered), seeds_there b.list l (suc (length b.answered)) f (omega arith))
         (sym (drop-cons b.list (length b.answered) no_seed k))
 
-best_is : (b : Book) → best_so_far (run_of b) ≡ held (run_best_of b)
+best_is : (b : Book) → best_so_far (run_of b) ≡ best_candidate (held (run_best_of b))
 unfolding best_so_far
 best_is b = case_chosen (run_best_of b) (λ e. simp (run-bests, e)) (λ w e. simp (run-bests, e))
 
-outlook_read : (c : Chosen) (ss : List CandidateSeed) → stopped_reply (Ok (outlook_of (held c) ss)) ≡ stopped c (rest_of ss c)
+outlook_read : (c : Chosen) (ss : List CandidateSeed) → stopped_reply (Ok (outlook_of (best_candidate (held c)) ss)) ≡ stopped c (rest_of ss c)
 unfolding outlook_of rest_of no_best
 outlook_read nothing [] = refl
 outlook_read nothing (s ∷ ss) = refl
 outlook_read (chosen w) [] = refl
 outlook_read (chosen w) (s ∷ ss) = refl
 
-rest_read : (b : Book) → stopped_reply (Ok (outlook_of (held (run_best_of b)) (left_in b))) ≡ stopped (run_best_of b) (rest_in b)
+rest_read : (b : Book) → stopped_reply (Ok (outlook_of (best_candidate (held (run_best_of b))) (left_in b))) ≡ stopped (run_best_of b) (rest_in b)
 rest_read b = outlook_read (run_best_of b) (left_in b)
 
 pub stop_is : (i : Inputs) (b : Book) (l : List Float) (n : ℕ) → State i b l
-    → stop_def (run_of b) (take n l) ≡ cond (ltb n (demand b.inputs)) (Err ShortList) (Ok (outlook_of (held (run_best_of b)) (left_in b)))
+    → stop_def (run_of b) (take n l) ≡ cond (ltb n (demand b.inputs)) (Err ShortList) (Ok (outlook_of (best_candidate (held (run_best_of b))) (left_in b)))
 unfolding stop_def
 stop_is i b l n f =
     let d = short (demand b.inputs) l n f.there.long in

@@ -3,13 +3,12 @@ use Rattle.std.proofs.Common.{ℕ, zero, suc, ◌≤◌, ◌<◌, arith, ◌≡�
 use Rattle.std.specs.Float.Ieee.{lt}
 use borrow.Author.Tests.{not-true}
 use Rattle.common.specs.Tests.{case}
-use Rattle.std.specs.Prelude.{None, Result, Ok, Err}
+use Rattle.std.specs.Prelude.{Option, None, Result, Ok, Err}
 use Rattle.common.specs.declared.Refusal.{Refusal}
 use Rattle.common.specs.declared.Refusal.TheVariants.{ShortList}
 use Rattle.seed_rules.specs.declared.CandidateSeed.{CandidateSeed}
 use Rattle.score_best.specs.declared.Candidate.{Candidate}
-use Rattle.score_best.specs.declared.Best.{Best}
-use Rattle.score_best.specs.Best.{Chosen, nothing, chosen, best_of, no_best, held}
+use Rattle.score_best.specs.Best.{Chosen, nothing, chosen, best_of, no_best, best_candidate, held}
 use Rattle.score_floor.specs.Floor.{floor_of}
 use Rattle.search_calls.specs.declared.stop.Outlook.{Outlook}
 use Rattle.search_calls.specs.Stop.{outlook_of, stop_def}
@@ -32,25 +31,25 @@ after_append b [] ds = refl
 after_append b (c ∷ cs) ds = after_append (book_call b c).book cs ds
 
 -- ---- what the reply says
-same_outlook : (n : ℕ) (c : Chosen) (ss : List CandidateSeed) (d : ℕ) (o : Outlook) → cond (ltb n d) (Err ShortList) (Ok (outlook_of (held c) ss)) ≡ Ok o → outlook_of (held c) ss ≡ o
+same_outlook : (n : ℕ) (c : Chosen) (ss : List CandidateSeed) (d : ℕ) (o : Outlook) → cond (ltb n d) (Err ShortList) (Ok (outlook_of (best_candidate (held c)) ss)) ≡ Ok o → outlook_of (best_candidate (held c)) ss ≡ o
 same_outlook n c ss d o h =
     case (ltb n d)
     (λ s. let k : ◌≡◌ {A = Result Outlook Refusal} (Err ShortList) (Ok o) = simp s at h in cc)
-    (λ s. let k : ◌≡◌ {A = Result Outlook Refusal} (Ok (outlook_of (held c) ss)) (Ok o) = simp s at h in cc)
+    (λ s. let k : ◌≡◌ {A = Result Outlook Refusal} (Ok (outlook_of (best_candidate (held c)) ss)) (Ok o) = simp s at h in cc)
 
 pub record Gains (c : Chosen) (ss : List CandidateSeed) : Type 0 where
   pub best : Candidate
   pub is_best : c ≡ chosen best
   pub high : lt (floor_of ss) best.score ≡ false
 
-no_gain_lem : (c : Chosen) (ss : List CandidateSeed) → (outlook_of (held c) ss).no_gain ≡ true → Gains c ss
+no_gain_lem : (c : Chosen) (ss : List CandidateSeed) → (outlook_of (best_candidate (held c)) ss).no_gain ≡ true → Gains c ss
 unfolding outlook_of no_best
 no_gain_lem c [] h = absurd (true≢false (sym h))
 no_gain_lem nothing (s ∷ ss) h = absurd (true≢false (sym h))
 no_gain_lem (chosen w) (s ∷ ss) h = record { best = w; is_best = refl; high = not-true (lt (floor_of (s ∷ ss)) w.score) h }
 
 -- nothing is left just where the run is over
-floor_there : (b : Best) (ss : List CandidateSeed) → ((outlook_of b ss).floor ≡ None) ↔ (ss ≡ [])
+floor_there : (b : Option Candidate) (ss : List CandidateSeed) → ((outlook_of b ss).floor ≡ None) ↔ (ss ≡ [])
 unfolding outlook_of
 floor_there b [] = ((λ h. refl), (λ h. refl))
 floor_there b (s ∷ ss) = ((λ h. cc), (λ h. let z : ◌≡◌ {A = ℕ} 0 1 = cc in absurd (omega arith)))
@@ -104,7 +103,7 @@ module _ (i : Inputs) (b : Book) (l : List Float) (cs : List Call) (t : State i 
       let k = list_after (run_of b) l cs in
       let f : stop_def (run_of c) (take n k) ≡ Ok o = rw w.run_is at e in
       let q = same_outlook n (run_best_of c) (left_in c) (demand c.inputs) o (sym (stop_is i c k n w.state) ∙ f) in
-      let there = floor_there (held (run_best_of c)) (left_in c) in
+      let there = floor_there (best_candidate (held (run_best_of c))) (left_in c) in
       let done = left_over i c w.state.good in
       record {
         nothing_left = rw (w.run_is, run_over c, ← q) ((λ h. done.0 (there.0 h)), (λ h. there.1 (done.1 h)));

@@ -5,12 +5,12 @@ use Rattle.std.specs.Float.Ieee.{lt, le, eq, is_nan}
 use Rattle.common.specs.Tests.{case, both_true}
 use Rattle.common.specs.Checks.{Check, ◌when◌, first_refusal}
 use Rattle.common.specs.declared.Refusal.TheVariants.{BeyondHalf}
-use Rattle.float.specs.Float.{abs_of}
+use Rattle.float.specs.Float.{abs_of, within}
 use Rattle.float.specs.Order.{lt_cotrans, le_not_lt, le_number}
 use Rattle.float_series.specs.Answer.{beyond_half}
 use Rattle.float.specs.Literals.{half₆₄}
 use Rattle.camera_tilt.specs.declared.sensor.ScheimpflugParams.{ScheimpflugParams}
-use Rattle.seed_rules.specs.Rules.{within, in_bound}
+use Rattle.seed_rules.specs.Rules.{in_bound}
 use Rattle.score_outcome.specs.declared.Finding.{Finding}
 use Rattle.score_outcome.specs.declared.Finding.TheVariants.{Failed, Solved}
 use Rattle.score_outcome.specs.Evaluation.{row_checks, solved_refusal, finding_refusal}

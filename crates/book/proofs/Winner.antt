@@ -6,9 +6,10 @@ use mathlib.Core.List.{Memᴰ}
 use Rattle.common.specs.Tests.{both_true}
 use Rattle.common.specs.All.{all_append, all_left, all_right, all_map}
 use Rattle.common.specs.Each.{All}
+use Rattle.float.specs.Float.{within}
 use Rattle.float.specs.Order.{lt_irrefl, lt_not_eq, le_of_not_lt}
-use Rattle.seed_rules.specs.Rules.{within, in_bound, untilted_y}
-use Rattle.seed_rules.proofs.Bound.{within_order}
+use Rattle.seed_rules.specs.Rules.{in_bound, untilted_y}
+use Rattle.float.proofs.Bound.{within_order}
 use Rattle.score_best.specs.declared.Candidate.{Candidate}
 use Rattle.score_best.specs.Best.{beats, chosen, best_of}
 use Rattle.score_best.proofs.Order.{HasNumber, lower_beats, beats_number, Leads, found_leads}

@@ -1,8 +1,7 @@
 -- The run beside the book: a list of calls, each given the run and the seed list as the calls before left them, by the very definitions
 -- that the entry points' contracts name. Definitions only.
-use Rattle.std.specs.Prelude.{cond, List, [], ◌∷◌, ◌++◌, take, drop, Float, Option, Some, None, Result, Ok, Err}
+use Rattle.std.specs.Prelude.{List, [], ◌∷◌, ◌++◌, take, drop, Float, Option, Some, None, Result, Ok, Err}
 use Rattle.common.specs.declared.Refusal.{Refusal}
-use Rattle.score_best.specs.declared.Best.{Best}
 use Rattle.score_best.specs.declared.Candidate.{Candidate}
 use Rattle.score_best.specs.Best.{Chosen, nothing, chosen}
 use Rattle.search_record.specs.declared.run.Run.{Run}
@@ -40,8 +39,8 @@ resulted_reply (Err refusal) = refused refusal
 abbrev pub progress_reply : ProgressReply → Reply
 progress_reply p = bar (record { round = p.round; rounds = p.rounds; answered = p.answered; total = p.total; in_run = p.answered_in_run })
 
-abbrev pub chosen_of : Best → Chosen
-chosen_of b = cond b.found (chosen b.candidate) nothing
+abbrev pub chosen_of : Option Candidate → Chosen
+chosen_of b = elim b [ Some w ↦ chosen w | None ↦ nothing ]
 
 abbrev pub rest_said : Outlook → Rest
 rest_said o = elim o.floor [ Some x ↦ floor x o.no_gain | None ↦ nothing_left ]

@@ -1,26 +1,27 @@
 -- An outcome that may be entered can stand as a recorded line, and its line gives it back; a line that is read and follows a book is that of the entry which it
 -- makes. Assumes nothing.
-use Rattle.std.proofs.Common.{◌≡◌, refl, sym, ap, ◌∙◌, Bool, true, false, not, ◌&&◌, true≢false, List, [], ◌∷◌, eqb-true, eq-eqb, eqb, leb, Float, Ok, Err}
+use Rattle.std.proofs.Common.{◌≡◌, refl, sym, ap, ◌∙◌, true, false, not, ◌&&◌, true≢false, List, [], ◌∷◌, eqb-true, eq-eqb, eqb, leb, Float, Ok, Err}
+use Rattle.std.proofs.lemmas.Bool.{and_from}
 use Rattle.std.specs.Float.{binary64}
 use Rattle.std.specs.Float.Ieee.{of_bits, lt, is_nan}
 use borrow.Author.Tests.{not-true}
 use lib.Ieee.Fits.{add-fits}
 use Rattle.common.specs.Tests.{both_true}
 use Rattle.float.specs.Binary64.{◌+₆₄◌}
-use Rattle.float.specs.Float.{bits_of, is_finite}
+use Rattle.float.specs.Float.{bits_of, is_finite, within}
 use Rattle.float.specs.Bits.{bits_back}
 use Rattle.float.specs.Literals.{plus_zero}
 use Rattle.camera_models.specs.declared.math.Pt2.{Pt2}
 use Rattle.camera_tilt.specs.declared.sensor.ScheimpflugParams.{ScheimpflugParams}
 use Rattle.seed_rules.specs.declared.CandidateSeed.{CandidateSeed}
-use Rattle.seed_rules.specs.Rules.{within}
 use Rattle.seed_rules.specs.Layout.{six, seed_at}
 use Rattle.score_camera.specs.declared.pinhole.PinholeCamera.{PinholeCamera}
-use Rattle.score_camera.specs.Camera.{tangential_bound, finite_intrinsics, finite_distortion, valid_camera}
+use Rattle.score_camera.specs.Camera.{tangential_bound, valid_camera}
 use Rattle.score_camera.specs.Penalties.{distortion_penalty, tilt_penalty, centre_penalty, score_of}
 use Rattle.score_outcome.specs.declared.Scoring.{Scoring}
 use Rattle.score_outcome.specs.Reasons.{Outcome}
 use Rattle.score_outcome.specs.Facts.{ScoredFacts}
+use Rattle.score_outcome.proofs.Facts.{valid_numbers}
 use Rattle.journal_line.specs.declared.ScoredFields.{ScoredFields}
 use Rattle.journal_line.specs.Outcome.{Recorded}
 use Rattle.journal_line.specs.declared.Line.{Line}
@@ -31,10 +32,6 @@ use Rattle.book.specs.Book.{Inputs, Book, number, current, line_of}
 use Rattle.book.proofs.Moves.{entry, Stands}
 use Rattle.book_journal.specs.Replay.{follows}
 use Rattle.book_journal.specs.History.{AllFit}
-
--- ---- tests put together
-both : {a b : Bool} → a ≡ true → b ≡ true → (a && b) ≡ true
-both e f = rw e f
 
 -- ---- bit by bit
 same_real_lem : (x y : Float) → Fits x → Fits y → same_real x y ≡ true → x ≡ y
@@ -57,7 +54,7 @@ same_reals_lem (x ∷ xs) (y ∷ ys) f g h =
 same_self : (xs : List Float) → same_reals xs xs ≡ true
 unfolding same_reals
 same_self [] = refl
-same_self (x ∷ xs) = both (real_same x x refl) (same_self xs)
+same_self (x ∷ xs) = and_from _ _ (real_same x x refl) (same_self xs)
 
 same_seed : (s t : CandidateSeed) → AllFit (six s) → AllFit (six t) → same_reals (six s) (six t) ≡ true → s ≡ t
 same_seed s t f g h = ap (λ (l : List Float). seed_at l 0) (same_reals_lem (six s) (six t) f g h)
@@ -77,8 +74,8 @@ scored_passes : (center : Pt2) (t : ScheimpflugParams) (s : Scoring) → ScoredF
 unfolding can_be_scored is_mean within
 scored_passes center t s f =
     let c : (scoring_in (fields_of s)).camera ≡ s.camera = ap (λ (z : Scoring). z.camera) (scoring_back s f.k1_zero f.k2_zero f.k3_zero) in
-    both
-    (both (both (both (ap valid_camera c ∙ f.camera_valid) f.p1_within) f.p2_within) (both f.mean_finite (ap not f.mean_not_below)))
+    and_from _ _
+    (and_from _ _ (and_from _ _ (and_from _ _ (ap valid_camera c ∙ f.camera_valid) f.p1_within) f.p2_within) (and_from _ _ f.mean_finite (ap not f.mean_not_below)))
     (real_same s.score (score_of s.mean (scoring_in (fields_of s)).camera t center) (f.score_is ∙ ap (λ (x : PinholeCamera). score_of s.mean x t center) (sym c)))
 
 passes : (i : Inputs) (t : ScheimpflugParams) (o : Outcome) → Stands i t o → can_stand i.center t (recorded_as o) ≡ true
@@ -92,34 +89,26 @@ score_fits mean c t center = add-fits binary64 (mean +₆₄ distortion_penalty 
 
 scored_stands : (center : Pt2) (t : ScheimpflugParams) (m : ScoredFields) → is_nan m.score ≡ false → AllFit (recorded_numbers (Ok m)) → can_stand center t (Ok m) ≡ true
     → ScoredFacts t center (scoring_in m)
-unfolding can_be_scored is_mean valid_camera finite_intrinsics finite_distortion within
+unfolding can_be_scored is_mean within
 scored_stands center t m n f h =
     let c = (scoring_in m).camera in
-    let k = m.k in
     let score = both_true (valid_camera c && within tangential_bound m.p1 && within tangential_bound m.p2 && is_mean m.mean) (same_real m.score (score_of m.mean c t center)) h in
     let means = both_true (valid_camera c && within tangential_bound m.p1 && within tangential_bound m.p2) (is_mean m.mean) score.0 in
     let mean = both_true (is_finite m.mean) (not (lt m.mean plus_zero)) means.1 in
     let small2 = both_true (valid_camera c && within tangential_bound m.p1) (within tangential_bound m.p2) means.0 in
     let small1 = both_true (valid_camera c) (within tangential_bound m.p1) small2.0 in
-    let y = both_true (finite_intrinsics k && finite_distortion c.dist && lt plus_zero k.fx) (lt plus_zero k.fy) small1.0 in
-    let x = both_true (finite_intrinsics k && finite_distortion c.dist) (lt plus_zero k.fx) y.0 in
-    let numbers = both_true (finite_intrinsics k) (finite_distortion c.dist) x.0 in
-    let cy = both_true (is_finite k.fx && is_finite k.fy && is_finite k.cx) (is_finite k.cy) numbers.0 in
-    let cx = both_true (is_finite k.fx && is_finite k.fy) (is_finite k.cx) cy.0 in
-    let focal = both_true (is_finite k.fx) (is_finite k.fy) cx.0 in
-    let p2 = both_true (is_finite plus_zero && is_finite plus_zero && is_finite plus_zero && is_finite m.p1) (is_finite m.p2) numbers.1 in
-    let p1 = both_true (is_finite plus_zero && is_finite plus_zero && is_finite plus_zero) (is_finite m.p1) p2.0 in
+    let numbers = valid_numbers c small1.0 in
     record {
       camera_valid = small1.0;
-      fx_finite = focal.0;
-      fy_finite = focal.1;
-      fx_above = x.1;
-      fy_above = y.1;
+      fx_finite = numbers.fx_finite;
+      fy_finite = numbers.fy_finite;
+      fx_above = numbers.fx_above;
+      fy_above = numbers.fy_above;
       k1_zero = refl;
       k2_zero = refl;
       k3_zero = refl;
-      p1_finite = p1.1;
-      p2_finite = p2.1;
+      p1_finite = numbers.p1_finite;
+      p2_finite = numbers.p2_finite;
       p1_within = small1.1;
       p2_within = small2.1;
       mean_finite = mean.0;
@@ -147,7 +136,7 @@ module _ (b : Book) where
   pub entry_follows : (o : Outcome) → b.over ≡ false → Stands b.inputs (current b).sensor o → follows b (line_of (entry b o)) ≡ true
   unfolding follows
   entry_follows o g s =
-      both (both (both (both (ap not g) (eq-eqb (number b) (number b) refl)) (eq-eqb b.round b.round refl)) (same_self (six (current b)))) (passes b.inputs (current b).sensor o s)
+      and_from _ _ (and_from _ _ (and_from _ _ (and_from _ _ (ap not g) (eq-eqb (number b) (number b) refl)) (eq-eqb b.round b.round refl)) (same_self (six (current b)))) (passes b.inputs (current b).sensor o s)
 
   -- and a line that follows is that of the entry which it makes
   pub record Follower (m : Line) : Type 0 where

@@ -3,11 +3,11 @@ use Rattle.std.specs.Prelude.{ℕ, ◌≡◌, refl, false, List, [], ◌∷◌, 
 use Rattle.std.specs.Float.{binary64}
 use Rattle.std.specs.Float.Ieee.{of_bits, to_bits, of_fields, of_int, add, sub, mul, div, neg, lt, le, eq, is_nan, sum, round, units, odd, size, span, climb}
 use Rattle.common.specs.Each.{every}
-use Rattle.float.specs.Float.{bits_of, abs_of, is_finite, min_of, max_of}
+use Rattle.float.specs.Float.{bits_of, abs_of, is_finite, min_of, max_of, within}
 use Rattle.camera_models.specs.declared.intrinsics.FxFyCxCy.{FxFyCxCy}
 use Rattle.seed_rules.specs.declared.CandidateSeed.{CandidateSeed}
 use Rattle.seed_rules.specs.Merge.{keep, has_near, push, merged_into}
-use Rattle.seed_rules.specs.Rules.{closer, tilt_near, camera_near, near, within, in_bound, pairs, seed_grid, initial_list, offsets, y_offsets, next_list}
+use Rattle.seed_rules.specs.Rules.{closer, tilt_near, camera_near, near, in_bound, pairs, seed_grid, initial_list, offsets, y_offsets, next_list}
 use Rattle.seed_rules.specs.Layout.{laid, six, read_from}
 use Rattle.score_camera.specs.Camera.{finite_intrinsics, finite_distortion, valid_camera}
 use Rattle.score_camera.specs.Penalties.{distortion_penalty, tilt_penalty, centre_penalty, score_of}

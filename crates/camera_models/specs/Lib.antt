@@ -1,4 +1,5 @@
 pub mod Constants
+pub mod Math
 pub mod Intrinsics
 pub mod Distortion
 pub mod NoDistortion

@@ -1,5 +1,8 @@
 ghost use Rattle.std.specs.Prelude.{◌≡◌};
 ghost use Rattle.camera_models.specs.Distortion.{squared_norm};
+ghost use Rattle.camera_models.specs.Math.{minus_point};
+
+use std::ops::Sub;
 
 // A point of the plane, as the models take and return it.
 #[repr(C)]
@@ -15,5 +18,18 @@ impl Pt2 {
         ensures { result ≡ squared_norm self }
     {
         self.x * self.x + self.y * self.y
+    }
+}
+
+impl Sub for Pt2 {
+    type Output = Pt2;
+
+    ghost sub_gives = { λ p q difference. difference ≡ minus_point p q };
+
+    fn sub(self, rhs: Pt2) -> Pt2 {
+        Pt2 {
+            x: self.x - rhs.x,
+            y: self.y - rhs.y,
+        }
     }
 }

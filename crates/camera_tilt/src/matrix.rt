@@ -1,6 +1,7 @@
 // Matrices of three rows and columns: product, determinant, cofactor inverse.
 // Each function equals its formula, rounded operation by operation, for every input.
-// Kept: the three entries of a row, and the inverse's three rows, are written out: a closure over the index would have to say again that it is below 3.
+// Kept: the three entries of a row, and the inverse's three rows, are written out: in `[0, 1, 2].map(|i| inverse_row(m, i))` the closure would have
+// to say again, by a `requires`, that i is below 3, and a proof would follow that `map` calls it with such an i alone. Three calls need neither.
 // Kept: the index of a column or a cofactor is a plain number below 3: as a type of its own it would be made from a literal at each call, and taken apart at each read.
 
 ghost use Rattle.std.specs.Prelude.{◌≡◌, ◌<◌};

@@ -31,10 +31,12 @@ pub struct TiltTrig {
 fn rotation(trig: TiltTrig) -> [[f64; 3]; 3]
     ensures { result ≡ product_of (rot_y trig.sin_y trig.cos_y) (rot_x trig.sin_x trig.cos_x) }
 {
-    let sin_x = trig.sin_x;
-    let cos_x = trig.cos_x;
-    let sin_y = trig.sin_y;
-    let cos_y = trig.cos_y;
+    let TiltTrig {
+        sin_x,
+        cos_x,
+        sin_y,
+        cos_y,
+    } = trig;
     let rot_x = [[1.0, 0.0, 0.0], [0.0, cos_x, sin_x], [0.0, -sin_x, cos_x]];
     let rot_y = [[cos_y, 0.0, -sin_y], [0.0, 1.0, 0.0], [sin_y, 0.0, cos_y]];
     product(rot_y, rot_x)

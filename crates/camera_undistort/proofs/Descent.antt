@@ -9,7 +9,8 @@ use Rattle.common.specs.Tests.{both_true}
 use Rattle.float.specs.Float.{is_finite}
 use Rattle.float.specs.Literals.{plus_zero}
 use Rattle.camera_models.specs.Distortion.{squared_norm, distorted}
-use Rattle.camera_undistort.specs.Undistortion.{estimate_at, minus_point, halved, squared_residual, singular, newton_step, improves, trials, small_step, after_trials, newton_turn, then_by, newton, last_step, undistorted}
+use Rattle.camera_models.specs.Math.{minus_point}
+use Rattle.camera_undistort.specs.Undistortion.{estimate_at, halved, squared_residual, singular, newton_step, improves, trials, small_step, after_trials, newton_turn, then_by, newton, last_step, undistorted}
 use Rattle.camera_models.specs.declared.math.Pt2.{Pt2}
 use Rattle.camera_models.specs.declared.distortion.BrownConrady5.{BrownConrady5}
 use Rattle.camera_undistort.specs.declared.Estimate.{Estimate}

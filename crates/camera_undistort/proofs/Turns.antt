@@ -1,6 +1,7 @@
 -- What one trial and one turn find, and what they leave to the others. Assumes nothing.
 use Rattle.std.proofs.Common.{◌≡◌, refl, sym, true, false, ℕ, zero, suc, Some, None}
-use Rattle.camera_undistort.specs.Undistortion.{estimate_at, minus_point, halved, improves, trials, newton_turn, newton}
+use Rattle.camera_models.specs.Math.{minus_point}
+use Rattle.camera_undistort.specs.Undistortion.{estimate_at, halved, improves, trials, newton_turn, newton}
 use Rattle.camera_models.specs.declared.math.Pt2.{Pt2}
 use Rattle.camera_models.specs.declared.distortion.BrownConrady5.{BrownConrady5}
 use Rattle.camera_undistort.specs.declared.Estimate.{Estimate}

@@ -5,6 +5,7 @@ use Rattle.float.specs.Float.{is_finite}
 use Rattle.float.specs.Literals.{plus_zero, one₆₄, half₆₄}
 use Rattle.float.specs.Binary64.{◌+₆₄◌, ◌-₆₄◌, ◌*₆₄◌, ◌/₆₄◌}
 use Rattle.camera_models.specs.Constants.{tolerance}
+use Rattle.camera_models.specs.Math.{minus_point}
 use Rattle.camera_models.specs.Distortion.{squared_norm, distorted, jacobian_at}
 use Rattle.camera_models.specs.declared.math.Pt2.{Pt2}
 use Rattle.camera_models.specs.declared.distortion.BrownConrady5.{BrownConrady5}
@@ -13,9 +14,6 @@ use Rattle.camera_undistort.specs.declared.Estimate.{Estimate}
 use Rattle.camera_undistort.specs.declared.Trial.{Trial}
 use Rattle.camera_undistort.specs.declared.Turn.{Turn}
 use Rattle.camera_undistort.specs.declared.Turn.TheVariants.{Ended, Last, Further}
-
-abbrev pub minus_point : Pt2 → Pt2 → Pt2
-minus_point p q = record { x = p.x -₆₄ q.x; y = p.y -₆₄ q.y }
 
 abbrev pub halved : Pt2 → Pt2
 halved p = record { x = p.x *₆₄ half₆₄; y = p.y *₆₄ half₆₄ }

@@ -4,7 +4,7 @@
 #![tactic(auto)]
 
 ghost use Rattle.std.specs.Prelude.{◌≡◌};
-ghost use Rattle.camera_undistort.specs.Undistortion.{minus_point, halved, estimate_at, jacobian_determinant, singular, newton_step, improves, trials, small_step, after_trials, newton_turn, last_step, newton_undistorted, undistorted};
+ghost use Rattle.camera_undistort.specs.Undistortion.{halved, estimate_at, jacobian_determinant, singular, newton_step, improves, trials, small_step, after_trials, newton_turn, last_step, newton_undistorted, undistorted};
 
 use camera_models::distortion::{BrownConrady5, Jacobian, distort_with_jacobian};
 use camera_models::math::Pt2;
@@ -46,7 +46,7 @@ impl Estimate {
         if is_singular(self.jacobian) {
             return self.point;
         }
-        difference(self.point, self.newton_step())
+        self.point - self.newton_step()
     }
 }
 
@@ -58,6 +58,8 @@ pub struct Trial {
 }
 
 // What a turn of Newton's method accepts: nothing, the last estimate, or one that another turn follows.
+// Kept: the three by name. A ControlFlow has two cases: its Break would hold the last estimate, which after a turn that accepts nothing is
+// the caller's own, so `after_trials`, which needs no estimate but the trial's, would take that one along and return it.
 #[derive(Clone, Copy)]
 pub enum Turn {
     Ended,
@@ -80,7 +82,7 @@ impl Inversion {
         let at = distort_with_jacobian(self.lens, p);
         Estimate {
             point: p,
-            error: difference(at.point, self.target),
+            error: at.point - self.target,
             jacobian: at.jacobian,
         }
     }
@@ -92,7 +94,7 @@ impl Inversion {
     {
         let mut step = first;
         for _ in 0..30u32 {
-            let estimate = self.estimate_at(difference(e.point, step));
+            let estimate = self.estimate_at(e.point - step);
             if estimate.is_better_than(e) {
                 return Some(Trial { estimate, step });
             }
@@ -133,15 +135,6 @@ impl Inversion {
             }
         }
         e.last_step()
-    }
-}
-
-fn difference(p: Pt2, q: Pt2) -> Pt2
-    ensures { result ≡ minus_point p q }
-{
-    Pt2 {
-        x: p.x - q.x,
-        y: p.y - q.y,
     }
 }
 
@@ -222,8 +215,7 @@ fn undistort_numbers(
 pub fn undistort(b: BrownConrady5, iters: u32, n_dist: Pt2) -> Pt2
     ensures { result ≡ undistorted b iters n_dist }
 {
-    let x = n_dist.x;
-    let y = n_dist.y;
+    let Pt2 { x, y } = n_dist;
     // Kept: two calls. With one alone the compiler would put the numbers' function in here, and callers would hand over structs after all:
     // 351 ns, measured as above.
     if iters == 0 {

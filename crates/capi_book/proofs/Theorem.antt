@@ -1,5 +1,6 @@
 -- The exported calls are the walk's, and so the book's. Assumes nothing.
-use Rattle.std.proofs.Common.{ℕ, suc, ◌≤◌, arith, ◌≡◌, refl, ap, ◌∙◌, Bool, true, false, cond, List, [], ◌∷◌, ◌++◌, map, le-leb, ne_eqb, eqb, length, take, drop, length-take, Float, sym, Option, Some, None, Result, Ok, Err}
+use Rattle.std.proofs.Common.{ℕ, suc, ◌≤◌, arith, ◌≡◌, refl, ap, ◌∙◌, Bool, List, [], ◌∷◌, map, le-leb, ne_eqb, length, take, drop, length-take, Float, sym, Option, Some, None, Result, Ok, Err}
+use Rattle.std.proofs.Math.Seq.{take-append_seam}
 use Rattle.common.specs.declared.Refusal.{Refusal}
 use Rattle.common.specs.declared.Refusal.TheVariants.{TooFewViews, NoTilts, BadBound, BadStep, TooMany, BadSeed, TiltNotFinite, SmallBuffer, SeedWaits, ShortList, NothingScored, NoSeedWaits, BadRows, NotOver, SingularTilt, DegenerateViews, BadLength, NoRoom, NoSpread, SourceNotFinite, DestinationNotFinite, TooFewPoints, CountsDiffer, SourceCollinear, DestinationCollinear, BeyondHalf, NotWritable, NotOfForm, NotTheRun, TwoAxes, TiltedSeed, ShareAboveAll, NoPlate}
 use Rattle.common.specs.Number.{number_of}
@@ -31,7 +32,7 @@ use Rattle.journal_replay.specs.declared.Report.{Report}
 use Rattle.journal_replay.specs.declared.Resumed.{Resumed}
 use Rattle.journal_replay.specs.Replay.{of_no_line, reply_by, ReplayLeft, replay_from}
 use Rattle.journal_replay.specs.Resume.{ResumeLeft, resume_from}
-use Rattle.capi_records.specs.Record.{flag_of, flat_run}
+use Rattle.capi_records.specs.Record.{flat_run}
 use Rattle.capi_records.specs.RoundTrip.{set_flag, run_back, line_back}
 use Rattle.capi_records.specs.Run.{flat_started, flat_handed, flat_answered, flat_result, flat_stopped, flat_last_line, finding_of, copied, copy_count}
 use Rattle.capi_records.specs.Replay.{flat_replayed, ended_number, flat_resumed}
@@ -109,20 +110,14 @@ result_read (Err e) = rw (refusal_read e)
 progress_read : (p : ProgressReply) → read_progress p ≡ progress_reply p
 progress_read p = refl
 
--- a flag as it was set
-flag_read : {A : Type 0} (b : Bool) (x y : A) → cond (eqb (flag_of b) 0) x y ≡ cond b y x
-flag_read true x y = refl
-flag_read false x y = refl
-
-outlook_read : (o : Outlook) → read_stop (flat_stopped (Ok o)) ≡ stopped_reply (Ok o)
-outlook_read o = go o o.floor refl
-  where
-    go : (o : Outlook) (x : Option Float) → o.floor ≡ x → read_stop (flat_stopped (Ok o)) ≡ stopped_reply (Ok o)
-    go o None e = rw (e, flag_read o.best.found) refl
-    go o (Some x) e = rw (e, flag_read o.best.found, set_flag o.no_gain) refl
+outlook_read : (b : Option Candidate) (x : Option Float) (g : Bool) → let o : Outlook = record { best = b; floor = x; no_gain = g } in read_stop (flat_stopped (Ok o)) ≡ stopped_reply (Ok o)
+outlook_read None None g = refl
+outlook_read (Some w) None g = refl
+outlook_read None (Some x) g = rw (set_flag g) refl
+outlook_read (Some w) (Some x) g = rw (set_flag g) refl
 
 stop_read : (x : Result Outlook Refusal) → read_stop (flat_stopped x) ≡ stopped_reply x
-stop_read (Ok o) = outlook_read o
+stop_read (Ok o) = outlook_read o.best o.floor o.no_gain
 stop_read (Err e) = rw (refusal_read e)
 
 last_read : (x : Option Line) → read_last (flat_last_line x) ≡ last_reply x
@@ -135,10 +130,6 @@ answer_read (Ok (answered.Skipped reason)) r = rw (reason_numbered_back reason)
 answer_read (Err e) r = rw (refusal_read e)
 
 -- the seed in a destination with room for it
-take_front : (w rest : List Float) → take (length w) (w ++ rest) ≡ w
-take_front [] rest = refl
-take_front (x ∷ w) rest = ap (λ (v : List Float). x ∷ v) (take_front w rest)
-
 seed_short : (r : Run) (l : List Float) → length (seed_part r l) ≤ 6
 unfolding seed_part
 seed_short r l = case (seed_lent r (length l)) (λ h. simp (h, length-take) (omega arith)) (λ h. simp h (omega arith))
@@ -146,7 +137,7 @@ seed_short r l = case (seed_lent r (length l)) (λ h. simp (h, length-take) (ome
 seed_read : (r : Run) (l to : List Float) → 6 ≤ length to → take (copy_count (seed_part r l) to) (copied (seed_part r l) to) ≡ seed_part r l
 seed_read r l to room =
     let w = seed_part r l in
-    simp (le-leb (length w) (length to) (let s = seed_short r l in omega arith)) (take_front w (drop (length w) to))
+    simp (le-leb (length w) (length to) (let s = seed_short r l in omega arith)) (take-append_seam w (drop (length w) to))
 
 -- ---- a call reads as the walk's, and leaves the flat record of its run and the same list
 record Same (a : FlatStep) (b : Step) : Type 0 where

@@ -54,6 +54,10 @@ no_line = record {
   p2 = plus_zero;
 }
 
+-- a scored line's fields, and 0 for the others
+abbrev pub flat_scored : ScoredFields → LineRecord
+flat_scored f = record { number = 0; round = 0; seed = no_line.seed; skipped = 0; score = f.score; mean = f.mean; k = f.k; p1 = f.p1; p2 = f.p2 }
+
 -- ---- the replies
 abbrev pub flat_written : Result ℕ Refusal → WriteReply
 flat_written (Ok n) = record { number = 0; len = n }

@@ -58,10 +58,10 @@ flat_result (Err e) = record { number = number_of e; candidate = no_best.candida
 abbrev pub flat_outlook : Outlook → StopFlat
 flat_outlook o = record {
   number = 0;
-  has_best = flag_of o.best.found;
+  has_best = flag_of (is_some o.best);
   has_floor = flag_of (is_some o.floor);
   no_gain = flag_of o.no_gain;
-  best = o.best.candidate;
+  best = unwrap_or o.best no_best.candidate;
   floor = unwrap_or o.floor plus_zero;
 }
 

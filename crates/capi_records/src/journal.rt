@@ -1,7 +1,7 @@
 // A line of the journal, and the replies of its writer and its reader.
 // Kept: the C interface names the structs of this file, field by field.
 ghost use Rattle.std.specs.Prelude.{◌≡◌};
-ghost use Rattle.capi_records.specs.Journal.{fields_in, line_from, flat_line, flat_written, flat_read};
+ghost use Rattle.capi_records.specs.Journal.{fields_in, flat_scored, line_from, flat_line, flat_written, flat_read};
 
 use crate::lists::refusal_number;
 use camera_models::intrinsics::FxFyCxCy;
@@ -59,6 +59,22 @@ impl From<LineRecord> for ScoredFields {
     }
 }
 
+// What a scored line records, with 0 for the line's other fields.
+impl From<ScoredFields> for LineRecord {
+    ghost from_gives = { λ fields flat. flat ≡ flat_scored fields };
+
+    fn from(fields: ScoredFields) -> LineRecord {
+        LineRecord {
+            score: fields.score,
+            mean: fields.mean,
+            k: fields.k,
+            p1: fields.p1,
+            p2: fields.p2,
+            ..LineRecord::default()
+        }
+    }
+}
+
 // A skip number that is no reason's is refused, as a line that the journal can't hold.
 impl TryFrom<LineRecord> for Line {
     type Error = Refusal;
@@ -80,25 +96,18 @@ impl From<Line> for LineRecord {
     ghost from_gives = { λ line flat. flat ≡ flat_line line };
 
     fn from(line: Line) -> LineRecord {
-        let flat = LineRecord {
+        let flat = match line.outcome {
+            Ok(fields) => fields.into(),
+            Err(reason) => LineRecord {
+                skipped: reason.into(),
+                ..LineRecord::default()
+            },
+        };
+        LineRecord {
             number: line.number,
             round: line.round,
             seed: line.seed,
-            ..LineRecord::default()
-        };
-        match line.outcome {
-            Ok(fields) => LineRecord {
-                score: fields.score,
-                mean: fields.mean,
-                k: fields.k,
-                p1: fields.p1,
-                p2: fields.p2,
-                ..flat
-            },
-            Err(reason) => LineRecord {
-                skipped: reason.into(),
-                ..flat
-            },
+            ..flat
         }
     }
 }

@@ -48,13 +48,7 @@ impl From<Result<Transform, Refusal>> for NormalizeReply {
     ghost from_gives = { λ normalized reply. reply ≡ flat_normalized normalized };
 
     fn from(normalized: Result<Transform, Refusal>) -> NormalizeReply {
-        // A transform of zeros is none, so the type has no default.
-        let zeros = Transform {
-            t00: 0.0,
-            t02: 0.0,
-            t12: 0.0,
-        };
-        let transform = normalized.unwrap_or(zeros);
+        let transform = normalized.unwrap_or_default();
         NormalizeReply {
             number: refusal_number(normalized),
             t00: transform.t00,

@@ -192,7 +192,6 @@ impl From<LastAnswer> for LastRecord {
     ghost from_gives = { λ answer last. last ≡ flat_last answer };
 
     fn from(answer: LastAnswer) -> LastRecord {
-        let scored = answer.scored;
         LastRecord {
             found: answer.found.into(),
             line: LineRecord {
@@ -200,11 +199,7 @@ impl From<LastAnswer> for LastRecord {
                 round: answer.round,
                 seed: answer.seed,
                 skipped: answer.skipped,
-                score: scored.score,
-                mean: scored.mean,
-                k: scored.k,
-                p1: scored.p1,
-                p2: scored.p2,
+                ..answer.scored.into()
             },
         }
     }

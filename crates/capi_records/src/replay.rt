@@ -62,7 +62,7 @@ impl From<Result<Standing, ReplayRefusal>> for ReplayFlat {
 impl From<Result<Resumed, Refusal>> for ResumeFlat {
     ghost from_gives = { λ resumed flat. flat ≡ flat_resumed resumed };
 
-    // Kept: a match, as what is resumed has no default to take the parts from, and one made here would name each field of run and report.
+    // Kept: a match, as `Report` has no default to take its parts from, and one made here would name its four fields.
     #[tactic(auto, unfolding(score_best::specs::Best::no_best))]
     fn from(resumed: Result<Resumed, Refusal>) -> ResumeFlat {
         match resumed {

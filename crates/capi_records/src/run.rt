@@ -131,13 +131,14 @@ impl From<Result<Candidate, Refusal>> for ResultFlat {
 impl From<Outlook> for StopFlat {
     ghost from_gives = { λ outlook flat. flat ≡ flat_outlook outlook };
 
+    #[tactic(auto, unfolding(score_best::specs::Best::no_best))]
     fn from(outlook: Outlook) -> StopFlat {
         StopFlat {
             number: 0,
-            has_best: outlook.best.found.into(),
+            has_best: outlook.best.is_some().into(),
             has_floor: outlook.floor.is_some().into(),
             no_gain: outlook.no_gain.into(),
-            best: outlook.best.candidate,
+            best: outlook.best.unwrap_or_default(),
             floor: outlook.floor.unwrap_or(0.0),
         }
     }

@@ -4,10 +4,10 @@ use Rattle.std.proofs.Common.{◌≤◌, ◌≡◌, refl, inr, true, List, lengt
 use Rattle.std.specs.Float.Ieee.{of_bits, add, sub, neg, lt, le, eq}
 use mathlib.Core.List.Memᴰ
 use Rattle.common.specs.Each.{All, every}
-use Rattle.float.specs.Float.{abs_of, is_finite}
+use Rattle.float.specs.Float.{abs_of, is_finite, within}
 use Rattle.float.specs.Literals.{plus_zero}
 use Rattle.seed_rules.specs.Merge.{keep, has_near, push, merged_into}
-use Rattle.seed_rules.specs.Rules.{closer, tilt_near, camera_near, near, within, in_bound, untilted_y, pairs, tilts, seed_grid, initial_list}
+use Rattle.seed_rules.specs.Rules.{closer, tilt_near, camera_near, near, in_bound, untilted_y, pairs, tilts, seed_grid, initial_list}
 use Rattle.seed_rules.specs.Layout.{read_from}
 use Rattle.search_start.specs.Start.{good_seed, only_zero, too_many, demand_of, start_reply}
 use Rattle.book.specs.Trace.{tilt_y_of, handed_in_round, handed, answers}

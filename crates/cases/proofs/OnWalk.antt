@@ -3,7 +3,7 @@ use Rattle.std.proofs.Common.{◌≡◌, refl, [], ◌∷◌, Ok, Err}
 use Rattle.common.specs.declared.Refusal.TheVariants.{NothingScored, ShareAboveAll}
 use Rattle.std.specs.Float.Ieee.{add, sub, mul, div, neg, lt, le, eq, is_nan, of_bits, of_int, sum, round, units, odd, size, span, climb}
 use Rattle.common.specs.Each.{every}
-use Rattle.float.specs.Float.{abs_of, is_finite, min_of, max_of, clamp_of}
+use Rattle.float.specs.Float.{abs_of, is_finite, min_of, max_of, clamp_of, within}
 use Rattle.root.specs.Root.{root_in, isqrt, root_of, root}
 use Rattle.float_series.specs.Series.{coefficient_of, horner_of, series_of}
 use Rattle.float_series.specs.Answer.{beyond_half}
@@ -11,7 +11,7 @@ use Rattle.camera_tilt.specs.Matrix.{product_of, first_other, second_other, mino
 use Rattle.camera_tilt.specs.Sensor.{tilt_projection_matrix, forward_depth, inverse_depth, apply_homography, apply_homography_inverse}
 use Rattle.camera_models.specs.Distortion.{radial_factor, tangential_x, tangential_y, distorted, jacobian_radial, radial_derivative, jacobian_at}
 use Rattle.seed_rules.specs.Merge.{keep, has_near, push, merged_into}
-use Rattle.seed_rules.specs.Rules.{closer, tilt_near, camera_near, near, within, in_bound, pairs, seed_grid, initial_list, untilted_y, offsets, y_offsets, next_list}
+use Rattle.seed_rules.specs.Rules.{closer, tilt_near, camera_near, near, in_bound, pairs, seed_grid, initial_list, untilted_y, offsets, y_offsets, next_list}
 use Rattle.seed_rules.specs.Layout.{laid, read_from}
 use Rattle.score_camera.specs.Camera.{damped, finite_intrinsics, finite_distortion, valid_camera}
 use Rattle.score_camera.specs.Penalties.{distortion_penalty, tilt_penalty, centre_penalty, score_of}

@@ -5,9 +5,9 @@ use Rattle.common.specs.declared.Refusal.TheVariants.{NoTilts, BadSeed, TiltNotF
 use Rattle.score_outcome.specs.declared.SkipReason.TheVariants.{HostFailed}
 use Rattle.std.specs.Float.Ieee.{of_bits, add, sub, neg, lt, le, eq}
 use Rattle.common.specs.Each.{All, every}
-use Rattle.float.specs.Float.{abs_of, is_finite}
+use Rattle.float.specs.Float.{abs_of, is_finite, within}
 use Rattle.seed_rules.specs.Merge.{keep, has_near, push, merged_into}
-use Rattle.seed_rules.specs.Rules.{closer, tilt_near, camera_near, near, within, in_bound, untilted_y, tilts, pairs, seed_with, offsets, y_offsets, next_list}
+use Rattle.seed_rules.specs.Rules.{closer, tilt_near, camera_near, near, in_bound, untilted_y, tilts, pairs, seed_with, offsets, y_offsets, next_list}
 use Rattle.seed_rules.specs.Layout.{read_from}
 use Rattle.score_best.specs.declared.Candidate.{Candidate}
 use Rattle.search_record.specs.declared.run.Run.{Run}

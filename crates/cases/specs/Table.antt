@@ -5,7 +5,7 @@ use Rattle.common.specs.declared.Refusal.TheVariants.{SingularTilt, DegenerateVi
 use Rattle.camera_models.specs.declared.intrinsics.FxFyCxCy.{FxFyCxCy}
 use Rattle.std.specs.Float.Ieee.{of_int, of_bits, add, sub, mul, div, neg, lt, le, eq, is_nan}
 use Rattle.common.specs.Each.{All}
-use Rattle.float.specs.Float.{abs_of, is_finite, min_of, max_of}
+use Rattle.float.specs.Float.{abs_of, is_finite, min_of, max_of, within}
 use Rattle.root.specs.Root.{root}
 use Rattle.camera_models.specs.declared.math.Pt2.{Pt2}
 use Rattle.camera_tilt.specs.Matrix.{Matrix, product_of, first_other, second_other, minor_of, determinant_of}
@@ -15,7 +15,7 @@ use Rattle.point_maps.specs.Centre.{extent_of, center_of, center_reply}
 use Rattle.zhang.specs.declared.Conic.{Conic}
 use Rattle.zhang.specs.Zhang.{definite, from_homographies}
 use Rattle.seed_rules.specs.Merge.{keep, has_near, push, merged_into}
-use Rattle.seed_rules.specs.Rules.{closer, tilt_near, near, within, in_bound, tilts, pairs, seed_grid, initial_list, offsets, next_list}
+use Rattle.seed_rules.specs.Rules.{closer, tilt_near, near, in_bound, tilts, pairs, seed_grid, initial_list, offsets, next_list}
 use Rattle.score_camera.specs.Penalties.{tilt_penalty}
 use Rattle.cases.specs.Case.{Case, sqrt, tilt, forward, backward, centre, conic, typed, around, penalty, Holds, whole, minus}
 use Rattle.cases.specs.Numbers.{bits, eighth, quarter, half}

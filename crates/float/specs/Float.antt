@@ -1,13 +1,17 @@
--- Rust's `abs`, `is_finite`, `min`, `max`, `clamp` and `to_bits`, and the sign, on the values of IEEE 754. Definitions only.
+-- Rust's `abs`, `is_finite`, `min`, `max`, `clamp` and `to_bits`, the sign, and the limit on a size, on the values of IEEE 754. Definitions only.
 use Rattle.std.specs.Prelude.{ℕ, Bool, true, false, cond, Float}
 use Rattle.std.specs.Float.{nan, inf, fin, binary64}
-use Rattle.std.specs.Float.Ieee.{lt, is_nan, to_bits}
+use Rattle.std.specs.Float.Ieee.{lt, le, is_nan, to_bits}
 
 -- the value with its sign cleared
 unfoldable pub abs_of : Float → Float
 abs_of nan = nan
 abs_of (inf s) = inf false
 abs_of (fin s m e) = fin false m e
+
+-- at most max in size: max itself is, and NaN isn't
+unfoldable pub within : Float → Float → Bool
+within max t = le (abs_of t) max
 
 -- whether the sign is a minus; NaN has none
 unfoldable pub sign_bit : Float → Bool

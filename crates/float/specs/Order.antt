@@ -148,11 +148,7 @@ pub le_not_lt : (x y : Float) → le x y ≡ true → lt y x ≡ false
 unfolding le lt eq
 le_not_lt nan y h = absurd (true≢false (sym h))
 le_not_lt (inf s) nan h = refl
-le_not_lt (inf true) (inf t) h = simp_and t
-  where
-    simp_and : (t : Bool) → (t && false) ≡ false
-    simp_and true = refl
-    simp_and false = refl
+le_not_lt (inf true) (inf t) h = and-false t
 le_not_lt (inf false) (inf true) h = absurd (true≢false (sym h))
 le_not_lt (inf false) (inf false) h = refl
 le_not_lt (inf true) (fin t n d) h = refl

@@ -1,8 +1,9 @@
 -- Exact arithmetic on whole numbers: where a result is a whole number that binary64 holds, an operation gives it. A zero's sign is left open. Assumes nothing.
 use Rattle.std.specs.Prelude.{◌≡◌, Bool, not, ◌&&◌, ◌||◌, cond, ltb, eqb, ℤ, Float}
+use mathlib.Core.Bool.{and-true, not-not}
 use Rattle.std.proofs.Math.Path.{refl, sym, ap}
 use Rattle.std.proofs.Common.{◌∙◌, subst, true≢false, le_trans, le_of_eq, lt_of_lt_of_le, mul_assoc, mul_comm, mul_left_comm, mul_right_comm, mul-one, add-zero, zero-add, mul-lt-mul_of_pos_right, mul-le-mul_right, arith, pow-add, pow_pos, pow_mono}
-use Rattle.std.proofs.Math.Bool.{true, false}
+use Rattle.std.proofs.Math.Bool.{true, false, or-true}
 use Rattle.std.specs.Bool.{beq}
 use Prim.Native.Nat.{ℕ, zero, suc, ◌+◌, ◌-◌, ◌*◌, ◌^◌, ◌≤◌, ◌<◌}
 use Rattle.std.proofs.Math.Nat.{mul-mul-mul_comm, mul-pos, add-mul, zero-mul, eq_of_mul-eq-mul_right}
@@ -127,10 +128,6 @@ module _ (D : ℕ) (d : 0 < D) where
       let p : 0 < suc c * D = mul-pos (omega arith) d in
       rw (e, le-ltb (a * D + suc c * D) (a * D) (omega arith), lt-ltb (a * D) (a * D + suc c * D) (omega arith))
       (resign (round binary64 (r && true) (a * D + suc c * D - a * D) D) (r && true) s (suc c) (λ n. and-true r ∙ f n) (round_is (r && true) (suc c) (a * D + suc c * D - a * D) D h d (omega arith)))
-    where
-      and-true : (b : Bool) → (b && true) ≡ b
-      and-true true = refl
-      and-true false = refl
 
   -- of the sign q, where x is the smaller
   more : (c : ℕ) (r q s : Bool) → q ≡ s → Held (suc c) → Is (differing r q (0 * D) (suc c * D)) s (suc c)
@@ -182,10 +179,6 @@ add_is (fin r m e) (fin q k d) s a b v w h =
 pub sub_is : (x y : Float) (s : Bool) (a b : ℕ) → Is x s a → Is y (not s) b → Held (a + b) → Is (sub binary64 x y) s (a + b)
 unfolding sub
 sub_is x y s a b v w h = add_is x (neg y) s a b v (resign (neg y) (not (not s)) s b (λ p. not-not s) (neg_is y (not s) b w)) h
-  where
-    not-not : (t : Bool) → not (not t) ≡ t
-    not-not true = refl
-    not-not false = refl
 
 -- a difference of two numbers of one sign, the first one not smaller
 pub sub_less : (x y : Float) (s : Bool) (b c : ℕ) → Is x s (b + c) → Is y s b → Held c → Is (sub binary64 x y) s c
@@ -268,10 +261,6 @@ is_equal (fin t m e) nan s n v w = absurd w
 is_equal (fin t m e) (inf q) s n v w = absurd w
 is_equal (fin t m e) (fin q k d) s zero v w =
     rw (left_part m 0 e d v.1, right_part k 0 e d w.1, zero-mul (down e * down d)) (or-true (beq t q))
-  where
-    or-true : (b : Bool) → (b || true) ≡ true
-    or-true true = refl
-    or-true false = refl
 is_equal (fin t m e) (fin q k d) s (suc n) v w =
     rw (left_part m (suc n) e d v.1, right_part k (suc n) e d w.1, eq-eqb (suc n * (down e * down d)) (suc n * (down e * down d)) refl, v.0 (omega arith), w.0 (omega arith)) (itself s)
   where

@@ -1,5 +1,5 @@
 // Rust's `abs`, `is_finite`, `min`, `max`, `clamp`, `to_bits` and `from_bits` on f64, each equal to a definition over the kit's IEEE 754 values,
-// and whether a list's numbers are all finite.
+// whether a list's numbers are all finite, and whether a number is within a limit.
 // `min` and `max` keep their first argument where zeros of two signs meet, which Rust leaves open.
 
 #![tactic(auto)]
@@ -7,7 +7,7 @@
 ghost use Rattle.std.specs.Prelude.{◌≡◌, cond};
 ghost use Rattle.std.specs.Float.{binary64};
 ghost use Rattle.std.specs.Float.Ieee.{is_nan, of_bits};
-ghost use Rattle.float.specs.Float.{abs_of, is_finite, min_of, max_of, clamp_of, bits_of};
+ghost use Rattle.float.specs.Float.{abs_of, within, is_finite, min_of, max_of, clamp_of, bits_of};
 ghost use Rattle.float.specs.Finite.{all_finite};
 
 // The magnitude: -0 becomes +0, and NaN stays.
@@ -16,6 +16,14 @@ pub fn abs(x: f64) -> f64
     ensures { result ≡ abs_of x }
 {
     x.abs()
+}
+
+// At most the limit in size: the limit itself is, and NaN isn't.
+#[tactic(auto, unfolding(crate::specs::Float::within))]
+pub fn within(limit: f64, x: f64) -> bool
+    ensures { result ≡ within limit x }
+{
+    abs(x) <= limit
 }
 
 // Whether x is neither an infinity nor NaN.

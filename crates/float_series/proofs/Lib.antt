@@ -1,2 +1,3 @@
 pub mod Ranges
 pub mod Theorem
+pub mod Tables

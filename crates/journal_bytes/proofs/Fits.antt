@@ -1,7 +1,6 @@
 -- What a program knows of a line that it holds: each number is a value of the format. Assumes nothing.
-use Rattle.std.proofs.Common.{Ok, Err, T, Float, true, ◌≡◌, sym, subst, List}
-use Rattle.std.specs.Float.{binary64}
-use Rattle.std.specs.Float.Ieee.{fits}
+use Rattle.std.proofs.Common.{Ok, Err, List}
+use Rattle.std.specs.Bool.{passes}
 use mir.Val.{Val}
 use denote.Laws.{Is}
 use denote.Struct.Laws as LL
@@ -29,21 +28,18 @@ use Rattle.score_outcome.proofs.SkipReason.TheLaws as S'
 use Rattle.journal_line.specs.contracts.Line as N
 use Rattle.journal_line.proofs.Line.TheLaws as N'
 
-fits_so : (x : Float) → fits binary64 x ≡ true → Fits x
-fits_so x e = subst T (sym e) tt
-
 seed_is : (s : CandidateSeed) (vs : List Val) → Is C.the_row s vs → All Fits (six s)
 seed_is s vs g =
     let f = LL.owed C.the_type C'.the_laws s vs g in
     let k = LL.owed K.the_type K'.the_laws s.reference_k _ f.0 in
     let p = LL.owed P.the_type P'.the_laws s.sensor _ f.1.0 in
-    (fits_so _ k.0.1, (fits_so _ k.1.0.1, (fits_so _ k.1.1.0.1, (fits_so _ k.1.1.1.0.1, (fits_so _ p.0.1, (fits_so _ p.1.0.1, tt))))))
+    (passes _ k.0.1, (passes _ k.1.0.1, (passes _ k.1.1.0.1, (passes _ k.1.1.1.0.1, (passes _ p.0.1, (passes _ p.1.0.1, tt))))))
 
 scored_is : (r : ScoredFields) (vs : List Val) → Is R.the_row r vs → All Fits (eight r)
 scored_is r vs g =
     let f = LL.owed R.the_type R'.the_laws r vs g in
     let k = LL.owed K.the_type K'.the_laws r.k _ f.1.1.0 in
-    (fits_so _ f.0.1, (fits_so _ f.1.0.1, (fits_so _ k.0.1, (fits_so _ k.1.0.1, (fits_so _ k.1.1.0.1, (fits_so _ k.1.1.1.0.1, (fits_so _ f.1.1.1.0.1, (fits_so _ f.1.1.1.1.0.1, tt))))))))
+    (passes _ f.0.1, (passes _ f.1.0.1, (passes _ k.0.1, (passes _ k.1.0.1, (passes _ k.1.1.0.1, (passes _ k.1.1.1.0.1, (passes _ f.1.1.1.0.1, (passes _ f.1.1.1.1.0.1, tt))))))))
 
 -- what a line records: its type's laws
 recorded_laws : EL.Laws (O.the_type R.the_row S.the_row)

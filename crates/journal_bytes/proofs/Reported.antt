@@ -1,8 +1,7 @@
 -- The parts of a report, stored one after the other, and the test before them. Assumes nothing.
-use Rattle.std.proofs.Common.{ℕ, Result, Ok, Err, ◌+◌, ◌≤◌, ◌≡◌, sym, ap, false, List, [], ◌∷◌, ◌++◌, map, arith, rules, le-ltb, ltb-false, ltb, length, length-append}
+use Rattle.std.proofs.Common.{ℕ, Ok, Err, ◌+◌, ◌≤◌, ◌≡◌, sym, ap, false, List, [], ◌∷◌, ◌++◌, map, arith, rules, le-ltb, ltb-false, ltb, length, length-append}
 use Rattle.std.specs.Option.{ok_or}
 use Rattle.common.specs.Tests.{both_false, case}
-use Rattle.common.specs.declared.Refusal.{Refusal}
 use Rattle.common.specs.declared.Refusal.TheVariants.{NotWritable}
 use Rattle.journal_line.specs.declared.Counts.{Counts}
 use Rattle.journal_line.specs.Line.{decimal_width, decimal}
@@ -22,16 +21,11 @@ unfolding refuses_report
 taken_so c o e = let b = both_false (ltb (length o) 24) (ltb 656 (total c)) e in (ltb-false (length o) 24 b.0, ltb-false 656 (total c) b.1)
 
 -- the sum that is given is the total
-number_in : Result ℕ Refusal → ℕ
-number_in (Ok n) = n
-number_in (Err e) = 657
-
 pub given_is : (c : Counts) (sum : ℕ) → Ok sum ≡ ok_or (small_total c) NotWritable → (ltb 656 (total c) ≡ false) × (sum ≡ total c)
-unfolding number_in
 given_is c sum e =
     case (ltb 656 (total c))
     (λ t. let f : Ok sum ≡ Err NotWritable = rw t at e in search rules)
-    (λ t. let f : Ok sum ≡ Ok (total c) = rw t at e in (t, ap number_in f))
+    (λ t. let f : Ok sum ≡ Ok (total c) = rw t at e in (t, cc))
 
 module _ (c : Counts) (o o₁ o₂ o₃ : List ℕ) (taken : refuses_report c o ≡ false) where
   accepts : (n : ℕ) → n ≡ length (report_bytes c) → Stored o 0 (report_bytes c) o₃ → (Ok n ≡ report_reply c o) × (o₃ ≡ report_into c o)

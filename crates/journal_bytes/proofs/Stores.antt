@@ -1,6 +1,7 @@
 -- Runs of stores to a buffer, one after the other. Assumes nothing.
-use Rattle.std.proofs.Common.{ℕ, suc, ◌+◌, ◌-◌, ◌*◌, ◌/◌, ◌%◌, ◌<◌, ◌≤◌, ◌≡◌, refl, sym, ap, ◌∙◌, subst, List, [], ◌∷◌, ◌++◌, map, add-zero, zero-add, add-one, arith, length, set, get_or, drop, replicate, length-append, drop_of_length-le, drop-cons}
+use Rattle.std.proofs.Common.{ℕ, suc, ◌+◌, ◌-◌, ◌*◌, ◌/◌, ◌%◌, ◌<◌, ◌≤◌, ◌≡◌, refl, sym, ap, ◌∙◌, subst, List, [], ◌∷◌, ◌++◌, map, add-zero, zero-add, add-one, arith, length, set, get_or, drop, replicate, length-append, drop_of_length-le}
 use lib.Seq.{sets, sets-eq, set_comm}
+use Rattle.std.proofs.lemmas.List.{at_drop_more}
 use Rattle.journal_line.specs.Line.{digit_byte, digits}
 use Rattle.journal_line.specs.Steps.{comma_fields, Stored}
 use Rattle.journal_line.proofs.DigitLaws.{digits_length}
@@ -59,9 +60,6 @@ field_then f fs l i j e = rw add-one (sym (sets_then f (comma_fields fs) (set l 
 
 -- one field for each of some values
 module _ {A : Type 0} (field : A → List ℕ) (xs : List A) (i : ℕ) where
-  drop_one : (z : A) → i < length xs → drop i xs ≡ get_or xs i z ∷ drop (i + 1) xs
-  drop_one z h = rw add-one (drop-cons xs i z h)
-
   -- a turn of a loop that stores them: the i-th, then those behind it
   pub fields_turn : (l whole : List ℕ) (place next : ℕ) (z : A) → i < length xs → place + 1 + length (field (get_or xs i z)) ≡ next
       → sets l place (comma_fields (map field (drop i xs))) ≡ whole
@@ -69,7 +67,7 @@ module _ {A : Type 0} (field : A → List ℕ) (xs : List A) (i : ℕ) where
       → sets m next (comma_fields (map field (drop (i + 1) xs))) ≡ whole
   fields_turn l whole place next z h e w m s =
       rw s (field_then (field (get_or xs i z)) (map field (drop (i + 1) xs)) l place next e
-      ∙ ap (λ (ys : List A). sets l place (comma_fields (map field ys))) (sym (drop_one z h)) ∙ w)
+      ∙ sym (at_drop_more (λ (ys : List A). sets l place (comma_fields (map field ys))) xs i z h) ∙ w)
 
   -- the place behind them all, in a turn and at the end
   pub fields_end : (place next end : ℕ) (z : A) → i < length xs → place + 1 + length (field (get_or xs i z)) ≡ next
@@ -77,7 +75,7 @@ module _ {A : Type 0} (field : A → List ℕ) (xs : List A) (i : ℕ) where
   unfolding comma_fields
   fields_end place next end z h e w =
       let x = get_or xs i z in
-      let f : place + length (comma_fields (map field (x ∷ drop (i + 1) xs))) ≡ end = ap (λ (ys : List A). place + length (comma_fields (map field ys))) (sym (drop_one z h)) ∙ w in
+      let f : place + length (comma_fields (map field (x ∷ drop (i + 1) xs))) ≡ end = sym (at_drop_more (λ (ys : List A). place + length (comma_fields (map field ys))) xs i z h) ∙ w in
       omega (arith, e, length-append (field x) (comma_fields (map field (drop (i + 1) xs))))
 
   pub at_fields_end : (place end : ℕ) → length xs ≤ i → place + length (comma_fields (map field (drop i xs))) ≡ end → place ≡ end

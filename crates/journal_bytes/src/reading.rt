@@ -32,6 +32,7 @@ fn digit_of(c: u8) -> u64
 }
 
 // The number of the first w bytes, to a base.
+// Kept: a loop over places: w may go past the end, where each byte reads as 0, and a fold over the bytes that are there would stop at the end.
 fn number_at(s: &[u8], base: u64, w: usize) -> u64
     requires { (base ≤ 16) × (w ≤ 16) }
     ensures { result ≡ number_at base w s.now }
@@ -155,7 +156,7 @@ pub fn count_newlines(s: &[u8]) -> usize
 }
 
 // The number of the line that stands at a place.
-// Kept: bytes and place are two parameters, here and in `read_line`: a caller from C hands in both, and the reader's struct would be made for each call.
+// Kept: bytes and place are two parameters, here and in `read_line`: the reader, whose struct this is, is a crate above, and the walk keeps its place in a local.
 fn not_of_form(bytes: &[u8], at: usize) -> Read
     requires { at ≤ length bytes.now }
     ensures { result ≡ Read.NotOfForm (line_number_of bytes.now at) }

@@ -133,8 +133,7 @@ fn is_recordable(outcome: Recorded) -> bool
 fn is_writable(line: Line) -> bool
     ensures { result ≡ writable line }
 {
-    let outcome = line.outcome;
-    (line.number <= 655) & (line.round <= 16) & is_recordable(outcome)
+    (line.number <= 655) & (line.round <= 16) & is_recordable(line.outcome)
 }
 
 // Number and round, parted by a comma; gives the place behind.
@@ -158,9 +157,7 @@ pub fn write_line(line: Line, out: &mut [u8]) -> Result<usize, Refusal>
         return Err(Refusal::NotWritable);
     }
     let at = put_head(out, line.number, line.round);
-    let seed = line.seed;
-    let numbers: [f64; 6] = seed.into();
+    let numbers: [f64; 6] = line.seed.into();
     put_reals(out, at, &numbers);
-    let outcome = line.outcome;
-    Ok(put_outcome(out, at + 102, outcome))
+    Ok(put_outcome(out, at + 102, line.outcome))
 }

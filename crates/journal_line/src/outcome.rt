@@ -34,11 +34,9 @@ impl From<ScoredFields> for Scoring {
     fn from(fields: ScoredFields) -> Scoring {
         let k = fields.k;
         let dist = BrownConrady5 {
-            k1: 0.0,
-            k2: 0.0,
-            k3: 0.0,
             p1: fields.p1,
             p2: fields.p2,
+            ..BrownConrady5::default()
         };
         Scoring {
             camera: PinholeCamera { k, dist },
@@ -100,6 +98,7 @@ pub fn outcome_in(recorded: Recorded) -> Outcome
 
 // What is recorded where 0 says scored and 1 to 4 the reason for a skip, as the structs of the C interface have it. Another number is refused, as a line
 // that the journal can't hold.
+// Kept: a number, and no reason: C hands it in and gets it back, in its line and in the run's record, also where it is no reason's. Here it is read.
 pub fn recorded_with(skipped: u8, fields: ScoredFields) -> Result<Recorded, Refusal>
     ensures { result ≡ recorded_with skipped fields }
 {

@@ -28,7 +28,7 @@ pub fn total_if_small(c: Counts) -> Option<usize>
     if five.iter().any(|n| 656 < *n) {
         return None;
     }
-    let sum = c.scored + c.host_failed + c.bad_camera + c.no_mean + c.no_number;
+    let sum: usize = five.iter().sum();
     if 656 < sum {
         return None;
     }

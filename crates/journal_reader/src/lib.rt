@@ -44,8 +44,8 @@ impl<'a> Reader<'a> {
 }
 
 // What stands at a place of a journal, for callers that keep bytes and place themselves.
-// Kept: beside `read_line`, which promises the same: by this function what C reads goes through the reader, to which nothing else in the library leads.
-// Kept: bytes and place are two parameters: a caller from C hands in both, and has no reader.
+// Kept: beside `read_line`, which promises the same: 01 names the form of the reader, and this is that form for a caller from C, who keeps bytes and place and
+// hands in both.
 pub fn read_at(bytes: &[u8], at: usize) -> Read
     ensures { result ≡ read_line bytes.now at }
 {

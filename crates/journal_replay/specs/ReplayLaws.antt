@@ -1,6 +1,7 @@
 -- What the code of replay and resume tests, as their definitions have it. Assumes nothing.
-use Rattle.std.specs.Prelude.{ℕ, ◌<◌, ◌≡◌, refl, ◌&&◌, List, [], ◌∷◌, ltb, eqb, length, drop, Float, Result, Ok, Err}
-use Rattle.std.proofs.Common.{ap, ◌∙◌, arith, lt-ltb}
+use Rattle.std.specs.Prelude.{ℕ, ◌+◌, ◌<◌, ◌≡◌, refl, Bool, true, false, not, ◌&&◌, ◌||◌, cond, List, [], ◌∷◌, ltb, eqb, length, drop, Float, Result, Ok, Err}
+use Rattle.std.specs.List.{list_any}
+use Rattle.std.proofs.Common.{ap, sym, ◌∙◌, arith, lt-ltb, ne_eqb, zero-add}
 use Rattle.journal_line.specs.Reading.{newlines}
 use Rattle.search_record.specs.declared.run.Run.{Run}
 use Rattle.search_calls.specs.declared.next.Handed.{Handed}
@@ -28,6 +29,20 @@ cut_line [] n h = refl
 cut_line (c ∷ cs) n h =
     let p : 0 < length (c ∷ cs) = omega arith in
     rw (lt-ltb 0 (length (c ∷ cs)) p, h)
+
+no_newline : (s : List ℕ) → not (list_any (λ c. eqb c 10) s) ≡ eqb (newlines s) 0
+unfolding newlines
+no_newline [] = refl
+no_newline (c ∷ s) = by_first (eqb c 10) _ _ (no_newline s)
+  where
+    by_first : (b x : Bool) (n : ℕ) → not x ≡ eqb n 0 → not (b || x) ≡ eqb (cond b 1 0 + n) 0
+    by_first true x n h = sym (ne_eqb (1 + n) 0 (λ q. omega arith))
+    by_first false x n h = rw zero-add h
+
+-- the same by a search for one
+pub cut_by_search : (s : List ℕ) → (not (eqb (length s) 0) && not (list_any (λ c. eqb c 10) s)) ≡ is_cut_line s
+cut_by_search [] = refl
+cut_by_search (c ∷ s) = rw (ne_eqb (length (c ∷ s)) 0 (λ q. omega arith)) (no_newline (c ∷ s))
 
 -- the report, from what stands behind the kept bytes
 pub report_by : (w : Walked) (s rest : List ℕ) (e : EndedBy) → rest ≡ drop w.bytes s → e ≡ ended_by_of w.stop rest

@@ -1,11 +1,10 @@
 -- 02, E5: a line's numbers beside the run's, and what a line records that can stand for an answer. Definitions only.
 use Rattle.std.specs.Prelude.{Bool, true, false, not, ◌&&◌, List, [], ◌∷◌, eqb, Float, Ok, Err}
 use Rattle.std.specs.Float.Ieee.{lt}
-use Rattle.float.specs.Float.{bits_of, is_finite}
+use Rattle.float.specs.Float.{bits_of, is_finite, within}
 use Rattle.float.specs.Literals.{plus_zero}
 use Rattle.camera_models.specs.declared.math.Pt2.{Pt2}
 use Rattle.camera_tilt.specs.declared.sensor.ScheimpflugParams.{ScheimpflugParams}
-use Rattle.seed_rules.specs.Rules.{within}
 use Rattle.score_camera.specs.Camera.{tangential_bound, valid_camera}
 use Rattle.score_camera.specs.Penalties.{score_of}
 use Rattle.journal_line.specs.declared.ScoredFields.{ScoredFields}

@@ -37,6 +37,7 @@ pub struct Walked {
 }
 
 // Where a run stands: the winner's number and score, or the seed that comes next in a run that isn't over.
+// Kept: a Result would call one of the two a failure, and neither is; 02 names both.
 #[derive(Clone, Copy)]
 pub enum Standing {
     Winner { number: usize, score: f64 },
@@ -59,6 +60,7 @@ impl From<Refusal> for ReplayRefusal {
 }
 
 // What ended the kept lines: a line without its newline, or what stopped the walk.
+// Kept: an Option of Stop would say by None that nothing ended them; a missing newline is a reason of its own, and each reason has its number.
 #[derive(Clone, Copy)]
 pub enum EndedBy {
     MissingNewline,

@@ -6,14 +6,13 @@ ghost use Rattle.journal_replay.specs.Resume.{is_cut_line, ended_by_of, resumed_
 use crate::walk::walk;
 use crate::{EndedBy, Report, Resumed, Stop, Walked};
 use common::Refusal;
-use journal_bytes::reading::count_newlines;
 use search_start::{Inputs, start};
 
 // Something is left, and no newline in it.
 fn is_cut_line(rest: &[u8]) -> bool
     ensures { result ≡ is_cut_line rest.now }
 {
-    (0 < rest.len()) & (count_newlines(rest) == 0)
+    !rest.is_empty() & !rest.contains(&b'\n')
 }
 
 // What ended the kept lines, where this is what stands behind them.

@@ -1,9 +1,8 @@
 // A line beside the run: what of it must be the run's own, bit by bit, and what it records that can stand for an answer.
 
 ghost use Rattle.std.specs.Prelude.{◌≡◌, ◌&&◌, map};
-ghost use Rattle.float.specs.Float.{bits_of};
+ghost use Rattle.float.specs.Float.{bits_of, within};
 ghost use Rattle.seed_rules.specs.Layout.{six};
-ghost use Rattle.seed_rules.specs.Rules.{within};
 ghost use Rattle.score_camera.specs.Camera.{tangential_bound, valid_camera};
 ghost use Rattle.journal_replay.specs.Stand.{same_real, same_reals, is_mean, can_be_scored, can_stand};
 ghost use Rattle.journal_replay.specs.Walk.{answers_waiting};
@@ -40,11 +39,10 @@ fn is_same_seed(a: CandidateSeed, b: CandidateSeed) -> bool
 }
 
 // At most 0.05 in size.
-#[tactic(auto, unfolding(seed_rules::specs::Rules::within))]
 fn is_damped(p: f64) -> bool
     ensures { result ≡ within tangential_bound p }
 {
-    float::abs(p) <= 0.05
+    float::within(0.05, p)
 }
 
 // A finite number that isn't below 0.
@@ -92,9 +90,8 @@ fn can_stand(center: Pt2, sensor: ScheimpflugParams, outcome: Recorded) -> bool
 pub fn answers_waiting(run: Run, line: Line) -> bool
     ensures { result ≡ answers_waiting run line }
 {
-    let outcome = line.outcome;
     (line.number == run.place.number)
         & (line.round == run.place.round)
         & is_same_seed(line.seed, run.waiting.seed)
-        & can_stand(run.center, run.waiting.seed.sensor, outcome)
+        & can_stand(run.center, run.waiting.seed.sensor, line.outcome)
 }

@@ -14,7 +14,7 @@ use Rattle.point_normalise.specs.Linalg.{move_by, similarity_of}
 use Rattle.point_normalise.specs.Hartley.{good_length}
 use Rattle.point_homography.specs.Line.{collinear_of}
 use Rattle.point_homography.specs.Rows.{all_finite, pair_rows, moved_rows, design_rows, design_conditions, rows_refusal, rows_reply, rows_into}
-use Rattle.point_normalise.specs.Walk.{pair_next, pair_chunk, pair_length, sets_append}
+use Rattle.point_normalise.specs.Walk.{pair_next, pair_length, sets_append}
 
 eighteen : (p q : Pt2) → length (pair_rows p q) ≡ 18
 unfolding pair_rows
@@ -33,15 +33,6 @@ module _ (ts td : Similarity) where
       let n : length v ≡ 18 = eighteen (move_by ts (point_at src i)) (move_by td (point_at dst i)) in
       let e : 9 * (i + 2) ≡ 9 * i + length v = omega arith in
       ap (λ (j : ℕ). sets (sets a (9 * i) v) j w) e ∙ sym (sets_append a (9 * i) v w) ∙ ap (sets a (9 * i)) (sym (pair_next (moved_rows ts td) src dst i h k))
-
-  -- one pair of chunks further
-  pub rows_chunk : (a : List Float) (i : ℕ) (p s q d : List Float) → length p ≡ 2 → length q ≡ 2
-      → sets (sets a (18 * i) (moved_rows ts td (point_at p 0) (point_at q 0))) (18 * (i + 1)) (design_rows ts td s d) ≡ sets a (18 * i) (design_rows ts td (p ++ s) (q ++ d))
-  rows_chunk a i p s q d h k =
-      let v = moved_rows ts td (point_at p 0) (point_at q 0) in
-      let n : length v ≡ 18 = eighteen (move_by ts (point_at p 0)) (move_by td (point_at q 0)) in
-      let e : 18 * (i + 1) ≡ 18 * i + length v = omega arith in
-      ap (λ (j : ℕ). sets (sets a (18 * i) v) j (design_rows ts td s d)) e ∙ sym (sets_append a (18 * i) v (design_rows ts td s d)) ∙ ap (sets a (18 * i)) (sym (pair_chunk (moved_rows ts td) p s q d h k))
 
 -- ---- what no refusal says of the lists
 pub record Fine (src dst : List Float) (room : ℕ) : Type 0 where

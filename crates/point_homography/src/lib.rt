@@ -18,9 +18,10 @@ fn first_distinct(points: &[f64], p0: Pt2) -> Option<Pt2>
     requires { 2 ≤ length points.now }
     ensures { result ≡ first_distinct p0 points.now }
 {
-    points[2..]
-        .chunks_exact(2)
-        .map(|xy| linalg::point_at(xy, 0))
+    let pairs = points[2..].as_chunks::<2>().0;
+    pairs
+        .iter()
+        .map(|&[x, y]| Pt2 { x, y })
         .find(|p| linalg::distance(*p, p0) > 1e-9)
 }
 
@@ -29,7 +30,9 @@ fn first_distinct(points: &[f64], p0: Pt2) -> Option<Pt2>
 fn cross(p0: Pt2, p1: Pt2, p2: Pt2) -> f64
     ensures { result ≡ cross_of p0 p1 p2 }
 {
-    (p1.x - p0.x) * (p2.y - p0.y) - (p1.y - p0.y) * (p2.x - p0.x)
+    let a = p1 - p0;
+    let b = p2 - p0;
+    a.x * b.y - a.y * b.x
 }
 
 // Whether p2 is neither in the place of p0 nor on the line through p0 and p1.
@@ -46,9 +49,8 @@ fn off_line(p0: Pt2, p1: Pt2, p2: Pt2) -> bool
 fn any_off_line(points: &[f64], p0: Pt2, p1: Pt2) -> bool
     ensures { result ≡ any_off p0 p1 points.now }
 {
-    points
-        .chunks_exact(2)
-        .any(|xy| off_line(p0, p1, linalg::point_at(xy, 0)))
+    let pairs = points.as_chunks::<2>().0;
+    pairs.iter().any(|&[x, y]| off_line(p0, p1, Pt2 { x, y }))
 }
 
 // Only three or more points are collinear.
@@ -102,10 +104,11 @@ impl<'a> Pairs<'a> {
         ensures { a.new ≡ sets a.old 0 (design_rows ts td self.entry.src.now self.entry.dst.now) }
     {
         // Kept: each pair's rows by their place: after a loop over chunks_exact_mut a proof knows how long `a` is and not what it holds.
-        let pairs = self.src.chunks_exact(2).zip(self.dst.chunks_exact(2));
-        for (i, (xy, uv)) in pairs.enumerate() {
-            let p = linalg::moved(ts, linalg::point_at(xy, 0));
-            let q = linalg::moved(td, linalg::point_at(uv, 0));
+        let from = self.src.as_chunks::<2>().0;
+        let to = self.dst.as_chunks::<2>().0;
+        for (i, (&[x, y], &[u, v])) in from.iter().zip(to).enumerate() {
+            let p = linalg::moved(ts, Pt2 { x, y });
+            let q = linalg::moved(td, Pt2 { x: u, y: v });
             a[18 * i..18 * i + 18].copy_from_slice(pair_rows(p, q).as_flattened());
         }
     }

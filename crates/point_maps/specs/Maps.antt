@@ -1,14 +1,14 @@
 -- The point maps: what becomes of one pixel, of a list of them, and of the destination, and when a map refuses. Definitions only.
-use Rattle.std.specs.Prelude.{ℕ, List, [], ◌∷◌, ◌++◌, ltb, length, drop, Result, Ok, Err, ⊤, Float}
-use Rattle.common.specs.Checks.{Check, ◌when◌, first_refusal}
+use Rattle.std.specs.Prelude.{ℕ, List, [], ◌∷◌, ◌++◌, length, drop, Result, Ok, Err, ⊤, Float}
+use Rattle.common.specs.Checks.{◌when◌, first_refusal}
 use Rattle.common.specs.declared.Refusal.{Refusal}
-use Rattle.common.specs.declared.Refusal.TheVariants.{BadLength, NoRoom, SingularTilt}
+use Rattle.common.specs.declared.Refusal.TheVariants.{SingularTilt}
 use Rattle.camera_models.specs.declared.math.Pt2.{Pt2}
 use Rattle.camera_models.specs.declared.intrinsics.FxFyCxCy.{FxFyCxCy}
 use Rattle.camera_models.specs.Intrinsics.{pixel_to_sensor, sensor_to_pixel}
 use Rattle.camera_tilt.specs.Matrix.{Matrix, inverse_of}
 use Rattle.camera_tilt.specs.Sensor.{is_singular, apply_homography_inverse}
-use Rattle.point_normalise.specs.Points.{bad_length, map_points}
+use Rattle.point_normalise.specs.Points.{length_checks, map_points}
 
 -- a pixel on the sensor, back through the tilt and the lens, and as a pixel again; a lens that is kept is the identity
 abbrev pub mapped_point : FxFyCxCy → (Pt2 → Pt2) → Matrix → Pt2 → Pt2
@@ -18,14 +18,7 @@ mapped_point k lens inverse p = sensor_to_pixel k (lens (apply_homography_invers
 abbrev pub written : (Pt2 → Pt2) → List Float → List Float → List Float
 written f points to = map_points f points ++ drop (length points) to
 
--- a length that is odd or above 400 points, too short a destination
-abbrev pub length_checks : ℕ → ℕ → List Check
-length_checks numbers room =
-    (BadLength when bad_length numbers)
-    ∷ (NoRoom when ltb room numbers)
-    ∷ []
-
--- and then a tilt without an inverse
+-- what the lengths say, and then a tilt without an inverse
 abbrev pub refusal_of : Matrix → ℕ → ℕ → Result ⊤ Refusal
 refusal_of h numbers room = first_refusal (length_checks numbers room ++ ((SingularTilt when is_singular h) ∷ []))
 

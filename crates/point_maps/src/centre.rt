@@ -22,7 +22,7 @@ pub struct Extent {
 fn widened(e: Extent, p: Pt2) -> Extent
     ensures { result ≡ widen e p }
 {
-    if float::is_finite(p.x) && float::is_finite(p.y) {
+    if float::all_finite(&[p.x, p.y]) {
         return Extent {
             min_x: float::min(e.min_x, p.x),
             min_y: float::min(e.min_y, p.y),

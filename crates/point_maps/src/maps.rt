@@ -6,8 +6,7 @@ ghost use Rattle.camera_models.specs.Intrinsics.{pixel_to_sensor};
 ghost use Rattle.camera_models.specs.declared.math.Pt2.{Pt2};
 ghost use Rattle.camera_tilt.specs.Sensor.{tilt_projection_matrix, apply_homography_inverse};
 ghost use Rattle.camera_undistort.specs.Undistortion.{undistorted};
-ghost use Rattle.common.specs.Checks.{first_refusal};
-ghost use Rattle.point_maps.specs.Maps.{length_checks, map_inverse, map_reply, map_destination};
+ghost use Rattle.point_maps.specs.Maps.{map_inverse, map_reply, map_destination};
 
 use camera_models::distortion::BrownConrady5;
 use camera_models::intrinsics::{FxFyCxCy, pixel_to_sensor, sensor_to_pixel};
@@ -17,25 +16,12 @@ use camera_tilt::sensor::TiltTrig;
 use common::Refusal;
 use point_normalise::linalg;
 
-// The first reason to refuse so many numbers and room for so many.
-// Kept: two lengths and no lists, here and below: of the two lists the checks read the lengths alone.
-fn check_lengths(numbers: usize, room: usize) -> Result<(), Refusal>
-    ensures { result ≡ first_refusal (length_checks numbers room) }
-{
-    if linalg::bad_length(numbers) {
-        return Err(Refusal::BadLength);
-    }
-    if room < numbers {
-        return Err(Refusal::NoRoom);
-    }
-    Ok(())
-}
-
 // What leads back through the tilt, where nothing is refused.
+// Kept: two lengths and no lists, as in `check_lengths`.
 fn map_inverse(h: [[f64; 3]; 3], numbers: usize, room: usize) -> Result<[[f64; 3]; 3], Refusal>
     ensures { result ≡ map_inverse h numbers room }
 {
-    check_lengths(numbers, room)?;
+    linalg::check_lengths(numbers, room)?;
     sensor::checked_inverse(h)
 }
 
@@ -47,6 +33,9 @@ fn without_tilt(k: FxFyCxCy, h_inv: [[f64; 3]; 3], pixel: Pt2) -> Pt2
 }
 
 // The pixels of a sensor that is not tilted, each taken through `lens` on the way.
+// Kept: intrinsics, tilt, points and destination one by one, here and below: no struct of the crates below has two of them. `PinholeCamera` and `SolvedCamera` are of
+// the scoring, a layer above (docs/ARCHITECTURE.md), and no plainer: the map takes its lens as a closure, `untilt_points` has none, and `ideal_points` would take a
+// camera apart as its one caller does.
 #[tactic(auto, using(crate::proofs::Whole::written_whole))]
 fn map_pixels<F: Fn(Pt2) -> Pt2>(
     k: FxFyCxCy,

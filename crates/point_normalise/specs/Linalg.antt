@@ -1,9 +1,9 @@
 -- Hartley's normalisation of points: the centroid goes to the origin, and the mean distance from it becomes √2. Each operation is rounded. Definitions only.
-use Rattle.std.specs.Prelude.{ℕ, Bool, ◌||◌, cond, List, [], ◌∷◌, ◌++◌, eqb, ltb, length, drop, Float, Option, Some, None, Result, Ok, Err, ⊤}
+use Rattle.std.specs.Prelude.{ℕ, Bool, ◌||◌, cond, List, [], ◌∷◌, ◌++◌, eqb, length, drop, Float, Option, Some, None, Result, Ok, Err, ⊤}
 use Rattle.std.specs.Float.{binary64}
 use Rattle.std.specs.Float.Ieee.{of_bits, neg, le}
 use Rattle.common.specs.declared.Refusal.{Refusal}
-use Rattle.common.specs.declared.Refusal.TheVariants.{BadLength, NoRoom, NoSpread}
+use Rattle.common.specs.declared.Refusal.TheVariants.{NoSpread}
 use Rattle.common.specs.Checks.{◌when◌, first_refusal}
 use Rattle.float.specs.Binary64.{◌+₆₄◌, ◌-₆₄◌, ◌*₆₄◌, ◌/₆₄◌}
 use Rattle.float.specs.Literals.{plus_zero, two₆₄}
@@ -11,7 +11,7 @@ use Rattle.root.specs.Root.{root}
 use Rattle.camera_models.specs.declared.math.Pt2.{Pt2}
 use Rattle.point_normalise.specs.declared.linalg.Similarity.{Similarity}
 use Rattle.point_normalise.specs.declared.linalg.Transform.{Transform}
-use Rattle.point_normalise.specs.Points.{fold_points, mapped_xy, map_points, count_of, bad_length, distance_of}
+use Rattle.point_normalise.specs.Points.{fold_points, mapped_xy, map_points, count_of, length_checks, distance_of}
 
 -- 2^-52
 abbrev pub epsilon : Float
@@ -61,7 +61,7 @@ move_points t s = map_points (move_by t) s
 -- ---- Normalise: a bad length; a destination with no room for the points; points with no spread
 unfoldable pub normalize_refusal : List Float → ℕ → Result ⊤ Refusal
 unfolding degenerate
-normalize_refusal s room = first_refusal ((BadLength when bad_length (length s)) ∷ (NoRoom when ltb room (length s)) ∷ (NoSpread when degenerate s) ∷ [])
+normalize_refusal s room = first_refusal (length_checks (length s) room ++ ((NoSpread when degenerate s) ∷ []))
 
 -- the matrix (scale, 0, -scale cx; 0, scale, -scale cy; 0, 0, 1)
 abbrev pub transform_of : Similarity → Transform

@@ -21,12 +21,11 @@ point_left s i h =
 none_left : (s : List Float) (i : ℕ) → length s ≤ i + 1 → length (drop i s) ≤ 1
 none_left s i h = rw (length-drop i s) (omega arith)
 
--- a chunk of two numbers
-pub as_two : (v : List Float) → length v ≡ 2 → v ≡ get_or v 0 nan ∷ get_or v 1 nan ∷ []
-as_two [] h = absurd (omega arith)
-as_two (x ∷ []) h = absurd (omega arith)
-as_two (x ∷ y ∷ []) h = refl
-as_two (x ∷ y ∷ z ∷ v) h = absurd (omega arith)
+-- what holds of no number and of one alone
+at_most_one : (P : List Float → Type 0) → P [] → ((x : Float) → P (x ∷ [])) → (s : List Float) → length s ≤ 1 → P s
+at_most_one P none one [] h = none
+at_most_one P none one (x ∷ []) h = one x
+at_most_one P none one (x ∷ y ∷ s) h = absurd (omega arith)
 
 -- ---- fold_points
 module _ {A : Type 0} (f : A → Pt2 → A) where
@@ -36,9 +35,7 @@ module _ {A : Type 0} (f : A → Pt2 → A) where
 
   short : (a : A) (s : List Float) → length s ≤ 1 → fold_points f a s ≡ a
   unfolding fold_points
-  short a [] h = refl
-  short a (x ∷ []) h = refl
-  short a (x ∷ y ∷ s) h = absurd (omega arith)
+  short a = at_most_one (λ s. fold_points f a s ≡ a) refl (λ x. refl)
 
   pub fold_end : (a : A) (s : List Float) (i : ℕ) → length s ≤ i + 1 → fold_points f a (drop i s) ≡ a
   fold_end a s i h = short a (drop i s) (none_left s i h)
@@ -55,9 +52,7 @@ module _ {A : Type 0} (test : Pt2 → Bool) (found : Pt2 → A) (none : A) where
 
   not_found : (s : List Float) → length s ≤ 1 → find_point test found none s ≡ none
   unfolding find_point
-  not_found [] h = refl
-  not_found (x ∷ []) h = refl
-  not_found (x ∷ y ∷ s) h = absurd (omega arith)
+  not_found = at_most_one (λ s. find_point test found none s ≡ none) refl (λ x. refl)
 
   pub find_end : (s : List Float) (i : ℕ) → length s ≤ i + 1 → find_point test found none (drop i s) ≡ none
   find_end s i h = not_found (drop i s) (none_left s i h)
@@ -67,11 +62,6 @@ one_more : (n k : ℕ) → k + n / 2 * k ≡ suc (suc n) / 2 * k
 one_more n k = let h : suc (suc n) / 2 ≡ suc (n / 2) = omega arith in rw h (sym (suc-mul (n / 2) k ∙ add_comm (n / 2 * k) k))
 
 module _ (f : Pt2 → List Float) where
-  -- the point of a chunk of two numbers, and what the rest gives
-  pub each_chunk : (v s : List Float) → length v ≡ 2 → each_point f (v ++ s) ≡ f (point_at v 0) ++ each_point f s
-  unfolding each_point
-  each_chunk v s h = rw (as_two v h)
-
   -- one point further
   pub each_next : (s : List Float) (i : ℕ) → i + 1 < length s → each_point f (drop i s) ≡ f (point_at s i) ++ each_point f (drop (i + 2) s)
   unfolding each_point
@@ -79,9 +69,7 @@ module _ (f : Pt2 → List Float) where
 
   pub each_none : (s : List Float) → length s ≤ 1 → each_point f s ≡ []
   unfolding each_point
-  each_none [] h = refl
-  each_none (x ∷ []) h = refl
-  each_none (x ∷ y ∷ s) h = absurd (omega arith)
+  each_none = at_most_one (λ s. each_point f s ≡ []) refl (λ x. refl)
 
   pub each_end : (s : List Float) (i : ℕ) → length s ≤ i + 1 → each_point f (drop i s) ≡ []
   each_end s i h = each_none (drop i s) (none_left s i h)
@@ -101,11 +89,6 @@ mapped_length f s = each_length (mapped_xy f) 2 (λ p. refl) s
 
 -- ---- each_pair
 module _ (f : Pt2 → Pt2 → List Float) where
-  -- the points of two chunks of two numbers, and what the rest gives
-  pub pair_chunk : (v s w d : List Float) → length v ≡ 2 → length w ≡ 2 → each_pair f (v ++ s) (w ++ d) ≡ f (point_at v 0) (point_at w 0) ++ each_pair f s d
-  unfolding each_pair
-  pair_chunk v s w d h k = rw (as_two v h, as_two w k)
-
   -- one pair further
   pub pair_next : (s d : List Float) (i : ℕ) → i + 1 < length s → i + 1 < length d → each_pair f (drop i s) (drop i d) ≡ f (point_at s i) (point_at d i) ++ each_pair f (drop (i + 2) s) (drop (i + 2) d)
   unfolding each_pair
@@ -113,9 +96,7 @@ module _ (f : Pt2 → Pt2 → List Float) where
 
   pub no_pair : (s d : List Float) → length s ≤ 1 → each_pair f s d ≡ []
   unfolding each_pair
-  no_pair [] d h = refl
-  no_pair (x ∷ []) d h = refl
-  no_pair (x ∷ y ∷ s) d h = absurd (omega arith)
+  no_pair s d = at_most_one (λ l. each_pair f l d ≡ []) refl (λ x. refl) s
 
   pub pair_end : (s d : List Float) (i : ℕ) → length s ≤ i + 1 → each_pair f (drop i s) (drop i d) ≡ []
   pair_end s d i h = no_pair (drop i s) (drop i d) (none_left s i h)

@@ -2,7 +2,8 @@
 
 ghost use Rattle.std.specs.Prelude.{◌≡◌, ◌++◌, ◌+◌, ◌<◌, ◌≤◌, length, drop};
 ghost use Rattle.camera_models.specs.declared.math.Pt2.{Pt2};
-ghost use Rattle.point_normalise.specs.Points.{bad_length, point_at, map_points, squared_distance, distance_of};
+ghost use Rattle.common.specs.Checks.{first_refusal};
+ghost use Rattle.point_normalise.specs.Points.{bad_length, length_checks, point_at, map_points, squared_distance, distance_of};
 ghost use Rattle.point_normalise.specs.Linalg.{centroid_of, mean_distance, scaled_to, similarity_of, hartley_of, move_by, transform_of, normalize_reply, normalize_into};
 
 use camera_models::math::Pt2;
@@ -10,6 +11,7 @@ use common::Refusal;
 use std::num::nearest_usize_to_f64;
 
 // The map of a point p to (p - c) * scale, c being (cx, cy).
+// Kept: two coordinates, by the Rust's names: with a `Pt2` for both, `from` and `moved` would still name each, in a product of its own.
 #[derive(Clone, Copy)]
 pub struct Similarity {
     pub scale: f64,
@@ -18,7 +20,7 @@ pub struct Similarity {
 }
 
 // The numbers of a similarity's matrix that are neither 0 nor 1; t11 is t00.
-#[derive(Clone, Copy)]
+#[derive(Clone, Copy, Default)]
 pub struct Transform {
     pub t00: f64,
     pub t02: f64,
@@ -44,6 +46,20 @@ pub fn bad_length(n: usize) -> bool
     n % 2 != 0 || n > 800
 }
 
+// The first reason to refuse so many numbers and room for so many.
+// Kept: two lengths and no lists: of the list to be written the check reads the length alone.
+pub fn check_lengths(numbers: usize, room: usize) -> Result<(), Refusal>
+    ensures { result ≡ first_refusal (length_checks numbers room) }
+{
+    if bad_length(numbers) {
+        return Err(Refusal::BadLength);
+    }
+    if room < numbers {
+        return Err(Refusal::NoRoom);
+    }
+    Ok(())
+}
+
 // The point whose x stands at i.
 pub fn point_at(points: &[f64], i: usize) -> Pt2
     requires { i + 1 < length points.now }
@@ -59,9 +75,7 @@ pub fn point_at(points: &[f64], i: usize) -> Pt2
 pub fn squared_distance(p: Pt2, q: Pt2) -> f64
     ensures { result ≡ squared_distance p q }
 {
-    let dx = p.x - q.x;
-    let dy = p.y - q.y;
-    dx * dx + dy * dy
+    (p - q).squared_norm()
 }
 
 pub fn distance(p: Pt2, q: Pt2) -> f64
@@ -123,7 +137,7 @@ pub fn normalizing(points: &[f64]) -> Similarity
 fn hartley(points: &[f64]) -> Option<Similarity>
     ensures { result ≡ hartley_of points.now }
 {
-    if points.len() == 0 {
+    if points.is_empty() {
         return None;
     }
     let c = centroid(points);
@@ -145,6 +159,7 @@ pub fn moved(t: Similarity, p: Pt2) -> Pt2
 }
 
 // Each point as `map` has it, at the front of the destination.
+// Kept: each number by its place: after a loop over as_chunks_mut or chunks_exact_mut a proof knows how long `to` is and not what it holds.
 pub fn map_points<F: Fn(Pt2) -> Pt2>(map: F, points: &[f64], to: &mut [f64])
     requires callable { F.IsAlwaysCallable map }
     requires room { length points.now ≤ length to.old }
@@ -164,12 +179,7 @@ pub fn normalize_points_2d(points: &[f64], dst: &mut [f64]) -> Result<Transform,
     ensures reply { result ≡ normalize_reply points.now (length dst.old) }
     ensures written { dst.new ≡ normalize_into points.now dst.old }
 {
-    if bad_length(points.len()) {
-        return Err(Refusal::BadLength);
-    }
-    if dst.len() < points.len() {
-        return Err(Refusal::NoRoom);
-    }
+    check_lengths(points.len(), dst.len())?;
     let t = hartley(points).ok_or(Refusal::NoSpread)?;
     map_points(|p| moved(t, p), points, dst);
     Ok(Transform::from(t))

@@ -2,7 +2,7 @@
 use Rattle.std.specs.Prelude.{◌≡◌, refl, not, T, eqb}
 use Rattle.std.proofs.Common.{sym, ap, ◌∙◌, subst, ⊎_elim, le_trans, le_of_eq, le_of_lt, lt_of_lt_of_le, lt_of_le_of_lt, lt_of_not-le, lt_irrefl, le_of_suc-le-suc, mul_assoc, mul_comm, mul-le-mul_right, mul-lt-mul_of_pos_right, lt_of_mul-lt-mul_right, mul-pos, div-mul-le_self, div-lt_iff_lt-mul, lt-suc_self, eq-zero-or-pos, arith, pow-add, pow_pos, pow_mono, leb→le, eqb→eq}
 use Prim.Native.Nat.{ℕ, suc, ◌+◌, ◌-◌, ◌*◌, ◌^◌, ◌≤◌, ◌<◌, compare, Ordering}
-use Rattle.std.proofs.Math.Nat.{mul-mul-mul_comm, eq_of_mul-eq-mul_right}
+use Rattle.std.proofs.Math.Nat.{sub-add_cancel, mul-mul-mul_comm, eq_of_mul-eq-mul_right}
 use Rattle.std.proofs.Math.Decide.{dec_le}
 use Rattle.std.specs.Float.{Format}
 use Rattle.std.specs.Float.Ieee.{prec, nearest}
@@ -99,14 +99,11 @@ module _ (f : Format) (P : 2 ≤ prec f) (z i : ℕ) (Z : z < 2 ^ prec f) (I : 0
   pub no_tie : 4 * n ≡ middle f n * middle f n → ⊥
   no_tie e =
       let v = z * 2 ^ (i - (k + k)) in
-      let s : n ≡ v * (u * u) = ap (λ (x : ℕ). z * 2 ^ x) (sym (back i (k + k) twice)) ∙ ap (λ (x : ℕ). z * x) (pow-add 2 (i - (k + k)) (k + k)) ∙ sym (mul_assoc z (2 ^ (i - (k + k))) (2 ^ (k + k))) ∙ ap (λ (x : ℕ). v * x) (pow-add 2 k k) in
+      let s : n ≡ v * (u * u) = ap (λ (x : ℕ). z * 2 ^ x) (sym (sub-add_cancel twice)) ∙ ap (λ (x : ℕ). z * x) (pow-add 2 (i - (k + k)) (k + k)) ∙ sym (mul_assoc z (2 ^ (i - (k + k))) (2 ^ (k + k))) ∙ ap (λ (x : ℕ). v * x) (pow-add 2 k k) in
       let g : 4 * v ≡ (2 * r + 1) * (2 * r + 1) = eq_of_mul-eq-mul_right (u * u) (mul-pos (pow_pos k) (pow_pos k)) (4 * v) ((2 * r + 1) * (2 * r + 1))
       (mul_assoc 4 v (u * u) ∙ ap (λ (x : ℕ). 4 * x) (sym s) ∙ e ∙ mul-mul-mul_comm (2 * r + 1) u (2 * r + 1) u) in
       odd_square v r g
     where
-      back : (i j : ℕ) → j ≤ i → i - j + j ≡ i
-      back i j h = omega arith
-
       odd_square : (v r : ℕ) → 4 * v ≡ (2 * r + 1) * (2 * r + 1) → ⊥
       odd_square v r e = omega arith
 

@@ -1,5 +1,5 @@
 -- The numbers of the digit-by-digit loops and of the root from a guess. Assumes nothing.
-use Rattle.std.proofs.Common.{◌≡◌, ℕ, zero, suc, ◌+◌, ◌-◌, ◌*◌, ◌/◌, ◌%◌, ◌^◌, ◌<◌, ◌≤◌, Bool, true, false, cond, not, T, ltb, sym, ap, ◌∙◌, subst, le_trans, le_of_eq, lt_of_le_of_lt, le_of_lt, mul_assoc, mul-le-mul_left, pow-suc, arith, ltb→lt, nltb→le, shl_lt, shr-shr}
+use Rattle.std.proofs.Common.{◌≡◌, ℕ, zero, suc, ◌+◌, ◌-◌, ◌*◌, ◌/◌, ◌%◌, ◌^◌, ◌<◌, ◌≤◌, Bool, true, false, cond, not, T, ltb, sym, ap, ◌∙◌, subst, le_trans, le_of_eq, lt_of_le_of_lt, le_of_lt, mul_assoc, mul-le-mul_left, pow-suc, add-one, arith, ltb→lt, nltb→le, shl_lt, shr-shr}
 use native.Mathlib.Nat.{pow-le-pow_right}
 use Rattle.root_code.specs.NearestRoot.{NearestRoot}
 use Rattle.root.specs.IntegerRoot.{square_lt_back, square_mono}
@@ -17,11 +17,8 @@ next m place h = omega (arith, shr-shr m (2 * (place - 1)) 2 ∙ ap (λ (x : ℕ
     back place h = omega arith
 
 pub four_times : (m i : ℕ) → m * 4 ^ (i + 1) ≡ 4 * (m * 4 ^ i)
-four_times m i = ap (λ (x : ℕ). m * x) (ap (λ (x : ℕ). 4 ^ x) (one i) ∙ pow-suc 4 i) ∙ sym (mul_assoc m (4 ^ i) 4) ∙ swap (m * 4 ^ i)
+four_times m i = ap (λ (x : ℕ). m * x) (ap (λ (x : ℕ). 4 ^ x) (add-one i) ∙ pow-suc 4 i) ∙ sym (mul_assoc m (4 ^ i) 4) ∙ swap (m * 4 ^ i)
   where
-    one : (i : ℕ) → i + 1 ≡ suc i
-    one i = omega arith
-
     swap : (x : ℕ) → x * 4 ≡ 4 * x
     swap x = omega arith
 
@@ -33,6 +30,13 @@ pub square : (r : ℕ) → r < 2 ^ 27 → r * r ≤ (2 ^ 27 - 1) * (2 ^ 27 - 1)
 square r h = square_mono r (2 ^ 27 - 1) (omega arith)
 
 -- ---- the root from a guess
+
+-- a difference that wraps, as the code's `wrapping_sub` has it, and that it is one
+abbrev pub minus : ℕ → ℕ → ℕ
+minus x y = (x + (2 ^ 64 - y)) % 2 ^ 64
+
+pub minus_back : (x y : ℕ) → x < 2 ^ 64 → y < 2 ^ 64 → (minus x y + y) % 2 ^ 64 ≡ x
+minus_back x y h k = omega arith
 
 -- Three differences, none of which has wrapped: of m and h's square, of that and twice h times l, of that and l's square.
 pub joined : (m h l a d t : ℕ) → h < 2 ^ 28 → l < 2 ^ 31 → a < 2 ^ 37 → d < 2 ^ 37 → t ≤ 3 * (h * 2 ^ 26 + l) + 2 → (a + h * h) % 2 ^ 64 ≡ m → (d + 2 * h * l) % 2 ^ 64 ≡ a * 2 ^ 26 → (t + l * l) % 2 ^ 64 ≡ d * 2 ^ 26 → (h * 2 ^ 26 + l) * (h * 2 ^ 26 + l) + t ≡ m * 4 ^ 26

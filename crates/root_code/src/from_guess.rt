@@ -38,17 +38,17 @@ impl Radicand {
         ensures { NearestRoot (self.significand * 4 ^ 26) result }
     {
         let h = self.high_digits();
-        let a = std::num::wrapping_sub_u64(self.significand, h * h);
+        let a = self.significand.wrapping_sub(h * h);
         if a >= 0x2000_0000 {
             return self.nearest_by_digits();
         }
         let l = low_digits(a, self.guess);
-        let d = std::num::wrapping_sub_u64(a * 0x400_0000, 2 * h * l);
+        let d = (a * 0x400_0000).wrapping_sub(2 * h * l);
         if d >= 0x20_0000_0000 {
             return self.nearest_by_digits();
         }
         let root = h * 0x400_0000 + l;
-        let remainder = std::num::wrapping_sub_u64(d * 0x400_0000, l * l);
+        let remainder = (d * 0x400_0000).wrapping_sub(l * l);
         if remainder <= 3 * root + 2 {
             return nearest_whole(root, remainder);
         }
@@ -60,13 +60,13 @@ impl Radicand {
         ensures { (result.root < 2 ^ 55) × (result.wide < 2 ^ 37 → result.signs < 2 ^ 63 → NearestRoot (self.significand * 4 ^ 26) result.root) }
     {
         let h = self.high_digits();
-        let a = std::num::wrapping_sub_u64(self.significand, h * h);
+        let a = self.significand.wrapping_sub(h * h);
         let l = low_digits(a % 0x1_0000_0000, self.guess);
-        let d = std::num::wrapping_sub_u64(a << 26, 2 * (h * l));
+        let d = (a << 26).wrapping_sub(2 * (h * l));
         let root = h * 0x400_0000 + l;
-        let remainder = std::num::wrapping_sub_u64(d << 26, l * l);
-        let above = std::num::wrapping_sub_u64(root, remainder);
-        let over = std::num::wrapping_add_u64(above, 2 * root);
+        let remainder = (d << 26).wrapping_sub(l * l);
+        let above = root.wrapping_sub(remainder);
+        let over = above.wrapping_add(2 * root);
         Guessed {
             root: root + (above >> 63),
             wide: a | d,
@@ -76,7 +76,8 @@ impl Radicand {
 }
 
 // A whole number near a root. It is the nearest one if `wide` is below 2^37 and `signs` below 2^63.
-// Kept: words and no Option: as words, an `or` joins the checks of 16 roots and one test decides; Some or None would be a test at each root.
+// Kept: words and no Option: in words one `or` joins the checks of 16 roots, and one test follows. With an Option each root would have a
+// `match` in the loop, and that one of them is wrong would still have to be kept as a flag.
 #[derive(Clone, Copy)]
 pub struct Guessed {
     pub root: u64,

@@ -55,7 +55,7 @@ fn subnormal(b: u64) -> Scaled
     requires { (0 < b) × (b < 2 ^ 52) }
     ensures { Decomposed (from_bits binary64 b) (Operand.Positive result) }
 {
-    let z = (u64::leading_zeros(b) - 11) as u64;
+    let z = (b.leading_zeros() - 11) as u64;
     with_even_exponent(b << z, exponent(53 - z))
 }
 

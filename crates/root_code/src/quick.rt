@@ -10,7 +10,8 @@ use crate::from_guess::Radicand;
 use crate::operand::as_normal;
 
 // The bits of a root, right if `wrong` is below 2^37.
-// Kept: a word and no Option: as words, an `or` joins the checks of 16 roots and one test decides; Some or None would be a test at each root.
+// Kept: a word and no Option: in words one `or` joins the checks of 16 roots, and one test follows. With an Option each root would have a
+// `match` in the loop, and that one of them is wrong would still have to be kept as a flag.
 #[derive(Clone, Copy)]
 pub struct QuickRoot {
     pub bits: u64,
@@ -27,7 +28,7 @@ fn bits_of(x: f64) -> u64
 // In its last 32 digits an estimate of 2^58 / √m, where m is the significand of x with an even exponent, if x is a normal number: a
 // line through the exponent, a parabola and one step of Newton's.
 pub fn quick_guess(x: f64) -> u64 {
-    let t = std::num::wrapping_add_u64(bits_of(x), 0x10_0000_0000_0000) % 0x20_0000_0000_0000
+    let t = bits_of(x).wrapping_add(0x10_0000_0000_0000) % 0x20_0000_0000_0000
         + 0x3ff0_0000_0000_0000;
     let s = f64::from_bits(t);
     let y = f64::from_bits(0x5fe5_f150_c7b5_37a9 - (t >> 1));
@@ -47,8 +48,8 @@ pub fn quick_sqrt(x: f64, guess: u64) -> QuickRoot
         guess: (guess % 0x1_0000_0000) as u32,
     };
     let q = radicand.guessed_root();
-    let below = std::num::wrapping_sub_u64(b, 0x10_0000_0000_0000);
-    let above = std::num::wrapping_add_u64(b, 0x10_0000_0000_0000);
+    let below = b.wrapping_sub(0x10_0000_0000_0000);
+    let above = b.wrapping_add(0x10_0000_0000_0000);
     QuickRoot {
         bits: (s.half - 26) * 0x10_0000_0000_0000 + q.root,
         wrong: q.wide | ((q.signs | below | above) >> 26),

@@ -1,7 +1,8 @@
 -- The comparison of candidates, for every pair, and the best of a list, for every list: the earliest of the lowest scores that are numbers is what a run keeps that
 -- replaces its best by a better one. Assumes nothing.
-use Rattle.std.specs.Prelude.{ℕ, ◌≡◌, Bool, ◌&&◌, ◌||◌, ◌⊎◌, List, [], ◌∷◌, ◌++◌}
+use Rattle.std.specs.Prelude.{ℕ, ◌≡◌, ◌&&◌, ◌||◌, ◌⊎◌, List, [], ◌∷◌, ◌++◌}
 use Rattle.std.proofs.Common.{arith, sym, ◌∙◌, true≢false, inl, inr, ⊎_elim, append_assoc, append-nil}
+use mathlib.Core.Bool.{and-false, not-not}
 use Rattle.std.proofs.Math.Path.{refl}
 use Rattle.std.proofs.Math.Bool.{true, false, not}
 use Rattle.std.specs.Float.Ieee.{lt, is_nan}
@@ -71,10 +72,6 @@ module _ (v : Candidate) (b : Best) where
   pub lower_better : HasNumber v → b.found ≡ true → is_better v b ≡ (is_nan b.candidate.score || lt v.score b.candidate.score)
   unfolding is_better beats
   lower_better h f = simp (f, h, not-not)
-    where
-      not-not : (x : Bool) → not (not x) ≡ x
-      not-not true = refl
-      not-not false = refl
 
 -- ---- w leads ws: its score is a number, it is better than all before it, and none after it is better
 pub record Leads (ws : List Candidate) (w : Candidate) : Type 0 where
@@ -94,11 +91,7 @@ unbeaten_true w (v ∷ vs) h = rw h.0 (unbeaten_true w vs h.1)
 unbeaten_false : (u w : Candidate) (a b : List Candidate) → beats w u ≡ true → unbeaten u (a ++ w ∷ b) ≡ false
 unfolding unbeaten
 unbeaten_false u w [] b h = rw h
-unbeaten_false u w (v ∷ a) b h = and-false (not (beats v u)) (unbeaten_false u w a b h)
-  where
-    and-false : (x : Bool) {y : Bool} → y ≡ false → (x && y) ≡ false
-    and-false true e = e
-    and-false false e = refl
+unbeaten_false u w (v ∷ a) b h = rw (unbeaten_false u w a b h) (and-false (not (beats v u)))
 
 -- of some candidates that are no numbers, or beaten, none is the first unbeaten
 abbrev Out : List Candidate → Candidate → Type 0

@@ -49,6 +49,8 @@ impl Best {
 }
 
 // No candidate yet.
+// Kept: a name for the default, since the definitions of the calls say `no_best`: with Best::default() in its place the proof of a caller, such as
+// `opened` of search_record, stays open until it unfolds all of the numbers.
 #[tactic(auto, unfolding(crate::specs::Best::no_best))]
 pub fn no_best() -> Best
     ensures { result ≡ no_best }

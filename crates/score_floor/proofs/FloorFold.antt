@@ -1,7 +1,7 @@
 -- The floor as the code finds it: the lowest so far, from the first seed on, and the seeds from chunks of six numbers. Assumes nothing.
-use Rattle.std.specs.Prelude.{◌≡◌, ℕ, zero, suc, ◌+◌, ◌*◌, ◌-◌, ◌/◌, ◌<◌, ◌≤◌, List, length, [], ◌∷◌, get_or, take, drop, refl, Float}
-use Rattle.std.proofs.Common.{sym, ap, ◌∙◌, true≢false, arith, drop-drop, get_or-drop, length-drop}
-use Rattle.std.proofs.lemmas.List.{get_or-take, drop-take, length-take-le}
+use Rattle.std.specs.Prelude.{◌≡◌, ℕ, zero, suc, ◌+◌, ◌*◌, ◌-◌, ◌/◌, ◌≤◌, List, length, [], ◌∷◌, take, drop, refl, Float}
+use Rattle.std.proofs.Common.{sym, ap, ◌∙◌, true≢false, arith, drop-drop, get_or-drop, length-drop, add-zero}
+use Rattle.std.proofs.lemmas.List.{drop-take, length-take-le}
 use Rattle.std.specs.List.{fold}
 use Rattle.std.specs.Float.{nan, inf, fin}
 use Rattle.std.specs.Float.Ieee.{lt, is_nan, div, of_bits}
@@ -10,7 +10,8 @@ use Rattle.float.specs.Float.{min_of}
 use Rattle.float.specs.Literals.{infinity}
 use Rattle.float_laws.specs.Lower.{min_number, min_assoc}
 use Rattle.seed_rules.specs.declared.CandidateSeed.{CandidateSeed}
-use Rattle.seed_rules.specs.Layout.{read_from, seeds_of, all_seeds}
+use Rattle.seed_rules.specs.Layout.{read_from, seed_at, seeds_of, all_seeds}
+use Rattle.seed_lists.specs.Chunks.{seed_of_first}
 use Rattle.score_floor.specs.Floor.{counted_penalty, floor_of, seeds_from, seeds_between}
 use Rattle.score_floor.proofs.FloorLaws.{counted_number, floor_number, min_infinity}
 
@@ -39,8 +40,8 @@ floor_is ss = fold_lower ss infinity refl ∙ infinity_min (floor_of ss) (floor_
 
 -- ---- the numbers of n seeds from place i on are read as these seeds
 module _ (l : List Float) (i m : ℕ) where
-  number : (k : ℕ) → k < 6 → get_or (take (6 * suc m) (drop (6 * i) l)) k nan ≡ get_or l (6 * i + k) nan
-  number k h = get_or-take (6 * suc m) (drop (6 * i) l) k nan (omega arith) ∙ get_or-drop (6 * i) l k nan
+  here : seed_at (take (6 * suc m) (drop (6 * i) l)) 0 ≡ seed_at l i
+  here = seed_of_first (6 * suc m) (drop (6 * i) l) (omega arith) ∙ simp (get_or-drop, add-zero)
 
   next : drop 6 (take (6 * suc m) (drop (6 * i) l)) ≡ take (6 * m) (drop (6 * suc i) l)
   next =
@@ -51,10 +52,7 @@ module _ (l : List Float) (i m : ℕ) where
 from_is : (l : List Float) (i n : ℕ) → seeds_of n (take (6 * n) (drop (6 * i) l)) ≡ seeds_from l i n
 unfolding read_from seeds_from
 from_is l i zero = refl
-from_is l i (suc m) =
-    let a = number l i m in
-    let z : 6 * i + 0 ≡ 6 * i = omega arith in
-    rw (a 0 (omega arith), a 1 (omega arith), a 2 (omega arith), a 3 (omega arith), a 4 (omega arith), a 5 (omega arith), z, next l i m, from_is l (suc i) m)
+from_is l i (suc m) = rw (here l i m, next l i m, from_is l (suc i) m) refl
 
 between_is : (l : List Float) (from to : ℕ) → from ≤ to → 6 * to ≤ length l → all_seeds (take (6 * to - 6 * from) (drop (6 * from) l)) ≡ seeds_between l from to
 between_is l from to h k =

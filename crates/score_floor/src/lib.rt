@@ -7,6 +7,7 @@ ghost use Rattle.score_floor.specs.Floor.{counted_penalty, seeds_between, floor_
 
 use camera_tilt::sensor::ScheimpflugParams;
 use score_camera::penalties::tilt_complexity;
+use seed_rules::CandidateSeed;
 
 // A seed's tilt penalty as it counts for the floor: NaN, which only a changed list can give, counts as infinity.
 #[tactic(auto, using(score_rows::proofs::Steps::infinity_bits), unfolding(crate::specs::Floor::counted_penalty))]
@@ -26,8 +27,11 @@ pub fn floor_between(list: &[f64], from: usize, to: usize) -> f64
     ensures { result ≡ floor_of (seeds_between list.now from to) }
 {
     list[6 * from..6 * to]
-        .chunks_exact(6)
-        .fold(f64::INFINITY, |floor, six| {
-            float::min(floor, counted_penalty(seed_lists::seed_at(six, 0).sensor))
+        .as_chunks::<6>()
+        .0
+        .iter()
+        .map(|six| CandidateSeed::from(*six))
+        .fold(f64::INFINITY, |floor, seed| {
+            float::min(floor, counted_penalty(seed.sensor))
         })
 }

@@ -10,6 +10,7 @@ use Rattle.float.specs.Sign.{unsigned_not_below, clamp_magnitude}
 use Rattle.float.specs.Literals.{plus_zero}
 use Rattle.camera_models.specs.declared.math.Pt2.{Pt2}
 use Rattle.camera_tilt.specs.declared.sensor.ScheimpflugParams.{ScheimpflugParams}
+use Rattle.score_camera.specs.declared.pinhole.PinholeCamera.{PinholeCamera}
 use Rattle.score_camera.specs.Camera.{tangential_bound, damped, damped_camera, finite_intrinsics, finite_distortion, valid_camera}
 use Rattle.score_outcome.specs.Evaluation.{solved_at, mean_with, enough_with, scoring_of, evaluated, outcome_of}
 use Rattle.score_outcome.proofs.Outcomes.{invalid_skips, few_skips, infinite_skips, nan_skips, number_scores, scored_passed}
@@ -24,13 +25,20 @@ use Rattle.score_outcome.specs.Reasons.{reason_number, reason_numbered}
 use Rattle.score_outcome.specs.Facts.{ScoredFacts}
 
 -- ---- what the camera check says
-scoring_facts : (s : SolvedCamera) (sensor : ScheimpflugParams) (center : Pt2) (rows : List Float) (flags : List ℕ)
-    → valid_camera (damped_camera s.camera) ≡ true → is_finite (mean_with s rows flags) ≡ true → is_nan (scoring_of s sensor center rows flags).score ≡ false
-    → ScoredFacts sensor center (scoring_of s sensor center rows flags)
-unfolding scoring_of damped valid_camera finite_intrinsics finite_distortion sign_bit of_bits is_nan
-scoring_facts s sensor center rows flags v f n =
-    let k = s.camera.k in
-    let d = damped s.camera.dist in
+-- the numbers of a camera that passes it
+pub record ValidNumbers (c : PinholeCamera) : Type 0 where
+  pub fx_finite : is_finite c.k.fx ≡ true
+  pub fy_finite : is_finite c.k.fy ≡ true
+  pub fx_above : lt plus_zero c.k.fx ≡ true
+  pub fy_above : lt plus_zero c.k.fy ≡ true
+  pub p1_finite : is_finite c.dist.p1 ≡ true
+  pub p2_finite : is_finite c.dist.p2 ≡ true
+
+pub valid_numbers : (c : PinholeCamera) → valid_camera c ≡ true → ValidNumbers c
+unfolding valid_camera finite_intrinsics finite_distortion
+valid_numbers c v =
+    let k = c.k in
+    let d = c.dist in
     let y = both_true (finite_intrinsics k && finite_distortion d && lt plus_zero k.fx) (lt plus_zero k.fy) v in
     let x = both_true (finite_intrinsics k && finite_distortion d) (lt plus_zero k.fx) y.0 in
     let numbers = both_true (finite_intrinsics k) (finite_distortion d) x.0 in
@@ -39,19 +47,28 @@ scoring_facts s sensor center rows flags v f n =
     let focal = both_true (is_finite k.fx) (is_finite k.fy) cx.0 in
     let p2 = both_true (is_finite d.k1 && is_finite d.k2 && is_finite d.k3 && is_finite d.p1) (is_finite d.p2) numbers.1 in
     let p1 = both_true (is_finite d.k1 && is_finite d.k2 && is_finite d.k3) (is_finite d.p1) p2.0 in
+    record { fx_finite = focal.0; fy_finite = focal.1; fx_above = x.1; fy_above = y.1; p1_finite = p1.1; p2_finite = p2.1 }
+
+scoring_facts : (s : SolvedCamera) (sensor : ScheimpflugParams) (center : Pt2) (rows : List Float) (flags : List ℕ)
+    → valid_camera (damped_camera s.camera) ≡ true → is_finite (mean_with s rows flags) ≡ true → is_nan (scoring_of s sensor center rows flags).score ≡ false
+    → ScoredFacts sensor center (scoring_of s sensor center rows flags)
+unfolding scoring_of damped sign_bit of_bits is_nan
+scoring_facts s sensor center rows flags v f n =
+    let d = damped s.camera.dist in
+    let numbers = valid_numbers (damped_camera s.camera) v in
     record {
       camera_valid = v;
-      fx_finite = focal.0;
-      fy_finite = focal.1;
-      fx_above = x.1;
-      fy_above = y.1;
+      fx_finite = numbers.fx_finite;
+      fy_finite = numbers.fy_finite;
+      fx_above = numbers.fx_above;
+      fy_above = numbers.fy_above;
       k1_zero = refl;
       k2_zero = refl;
       k3_zero = refl;
-      p1_finite = p1.1;
-      p2_finite = p2.1;
-      p1_within = clamp_magnitude s.camera.dist.p1 tangential_bound refl refl (finite_number d.p1 p1.1);
-      p2_within = clamp_magnitude s.camera.dist.p2 tangential_bound refl refl (finite_number d.p2 p2.1);
+      p1_finite = numbers.p1_finite;
+      p2_finite = numbers.p2_finite;
+      p1_within = clamp_magnitude s.camera.dist.p1 tangential_bound refl refl (finite_number d.p1 numbers.p1_finite);
+      p2_within = clamp_magnitude s.camera.dist.p2 tangential_bound refl refl (finite_number d.p2 numbers.p2_finite);
       mean_finite = f;
       mean_not_below = unsigned_not_below (mean_with s rows flags) (mean_unsigned s rows flags);
       score_is = refl;

@@ -1,5 +1,5 @@
 -- 02, E11: what is scored rests on its share of the rows, and a share of 0 is 01's rule. Assumes nothing.
-use Rattle.std.specs.Prelude.{ℕ, zero, suc, ◌+◌, ◌*◌, ◌/◌, ◌%◌, ◌≤◌, ◌<◌, ◌≡◌, refl, true, false, List, [], leb, eqb, length, Float, Ok, Err}
+use Rattle.std.specs.Prelude.{ℕ, zero, suc, ◌+◌, ◌*◌, ◌/◌, ◌%◌, min, ◌≤◌, ◌<◌, ◌≡◌, refl, true, false, List, [], leb, eqb, length, Float, Ok, Err}
 use Rattle.std.proofs.Common.{zero-mul, mul-zero, mul-le-mul_right, mul-add, mul_left_comm, arith, ap, ◌∙◌}
 use Rattle.std.proofs.Math.Path.{sym}
 use borrow.Author.Tests.{le-leb, lt-leb, leb-true, leb-false}
@@ -78,10 +78,11 @@ module _ (share all : ℕ) (h : share ≤ 100) where
       let e : all ≡ 100 * (all / 100) + all % 100 = omega arith in
       ap (λ (n : ℕ). share * n) e ∙ mul-add share (100 * (all / 100)) (all % 100) ∙ ap (λ (n : ℕ). n + share * (all % 100)) (mul_left_comm share 100 (all / 100))
 
-  pub by_hundreds : (counted : ℕ) → leb (share * (all / 100) + (share * (all % 100) + 99) / 100) counted ≡ enough share counted all
+  pub by_hundreds : (counted : ℕ) → leb (share * (all / 100) + (share * (all % 100) / 100 + min 1 (share * (all % 100) % 100))) counted ≡ enough share counted all
   unfolding enough
   by_hundreds counted =
-      let least = share * (all / 100) + (share * (all % 100) + 99) / 100 in
+      let rest = share * (all % 100) in
+      let least = share * (all / 100) + (rest / 100 + min 1 (rest % 100)) in
       case (leb least counted)
       (λ e. let k = leb-true least counted e in e ∙ sym (le-leb (share * all) (counted * 100) (omega (arith, parts))))
       (λ e. let k = leb-false least counted e in e ∙ sym (lt-leb (share * all) (counted * 100) (omega (arith, parts))))

@@ -87,8 +87,8 @@ fn any_above_one(flags: &[u8]) -> bool
     flags.iter().any(|flag| *flag > 1)
 }
 
-// Kept: rows and flags are two lists, here and below. A struct of finding, rows and flags would fit only the functions that take a finding: this one,
-// `evaluate_candidate` and `count_errors` have the tilts or a camera instead, and would need a second struct, of the two lists.
+// Kept: rows and flags are two lists, here, below and in Answer: C lends them apart, and `Rows` of score_rows says that there are four numbers to a flag,
+// which is known only where nothing is refused. A struct of finding, rows and flags would fit only the functions that take a finding.
 #[tactic(auto, unfolding(crate::specs::Evaluation::solved_refusal))]
 fn solved_refusal(sensor: ScheimpflugParams, rows: &[f64], flags: &[u8]) -> Result<(), Refusal>
     ensures { result ≡ solved_refusal sensor rows.now flags.now }
@@ -147,7 +147,7 @@ fn is_enough(share: usize, counted: u64, all: usize) -> bool
         return all == 0;
     }
     let of_hundreds = share * (all / 100);
-    let of_rest = (share * (all % 100) + 99) / 100;
+    let of_rest = (share * (all % 100)).div_ceil(100);
     of_hundreds + of_rest <= counted as usize
 }
 

@@ -1,9 +1,11 @@
 -- The theorems on specs/Steps.antt: rows added one by one, some at a time, and by their flags. Assumes nothing.
-use Rattle.std.specs.Prelude.{◌≡◌, ℕ, zero, suc, ◌+◌, ◌*◌, ◌%◌, ◌^◌, ◌<◌, ◌≤◌, Bool, true, false, cond, ◌&&◌, List, [], ◌∷◌, length, drop, take, ◌==◌, slice_index, slice_index_or, refl, Float}
-use Rattle.std.proofs.Common.{◌/◌, min, not, T, ltb, ltb→lt, nltb→le, sym, ap, ap₂, subst, ◌∙◌, arith, mod-eq_of_lt, add-one, drop-cons, ⊎_elim, eq-or-lt_of_le}
+use Rattle.std.specs.Prelude.{◌≡◌, ℕ, zero, suc, ◌+◌, ◌*◌, ◌%◌, ◌^◌, ◌<◌, ◌≤◌, Bool, true, false, cond, ◌&&◌, List, [], ◌∷◌, ◌++◌, length, drop, take, ◌==◌, slice_index, slice_index_or, refl, Float}
+use Rattle.std.proofs.Common.{◌/◌, min, not, T, ltb, ltb→lt, nltb→le, sym, ap, ap₂, subst, ◌∙◌, arith, get_or, mod-eq_of_lt, add-one, drop-cons, ⊎_elim, eq-or-lt_of_le}
+use mathlib.Core.Bool.{and-true}
 use Rattle.std.proofs.Math.Seq.{drop-length}
-use Rattle.std.proofs.lemmas.List.{get_or-take, get_or-drop}
+use Rattle.std.proofs.lemmas.List.{get_or-take, get_or-drop, take_all, take_at, drop_at}
 use Rattle.std.specs.Float.{nan, binary64}
+use Rattle.std.specs.Simd.{first_chunks}
 use Rattle.std.specs.Float.Ieee.{of_bits, div}
 use Rattle.float.specs.Binary64.{◌+₆₄◌}
 use Rattle.float.specs.Float.{is_finite}
@@ -11,6 +13,7 @@ use Rattle.float.specs.Literals.{plus_zero, infinity}
 use Rattle.root.specs.Root.{root}
 use Rattle.root_code.specs.Bits.{finite_bits}
 use Rattle.camera_tilt.specs.Matrix.{Matrix}
+use Rattle.point_normalise.specs.Points.{point_at}
 use Rattle.score_rows.specs.Rows.{rows_of, row_error, is_counted, counted_errors, no_errors, summed, error_sum}
 use Rattle.score_camera.specs.declared.pinhole.PinholeCamera.{PinholeCamera}
 use Rattle.score_rows.specs.declared.Row.{Row}
@@ -113,6 +116,20 @@ row_at_lem (x ∷ y ∷ u ∷ v ∷ ns) (f ∷ fs) (suc i) r h =
     simp (p (4 * suc i) (4 * i) (omega arith), p (4 * suc i + 1) (4 * i + 1) (omega arith), p (4 * suc i + 2) (4 * i + 2) (omega arith), p (4 * suc i + 3) (4 * i + 3) (omega arith))
     (row_at_lem ns fs i r (omega arith))
 
+-- so are the four numbers that an iterator over the fours gives
+four_at : (ns : List Float) (i : ℕ) → i < length ns / 4
+    → get_or (first_chunks 4 (length ns / 4) ns) i [] ≡ slice_index_or ns (4 * i) nan ∷ slice_index_or ns (4 * i + 1) nan ∷ slice_index_or ns (4 * i + 2) nan ∷ slice_index_or ns (4 * i + 3) nan ∷ []
+four_at [] i h = absurd (omega (arith, h))
+four_at (x ∷ []) i h = absurd (omega (arith, h))
+four_at (x ∷ y ∷ []) i h = absurd (omega (arith, h))
+four_at (x ∷ y ∷ u ∷ []) i h = absurd (omega (arith, h))
+four_at (x ∷ y ∷ u ∷ v ∷ ns) zero h = let more : suc (suc (suc (suc (length ns)))) / 4 ≡ suc (length ns / 4) = omega arith in rw more refl
+four_at (x ∷ y ∷ u ∷ v ∷ ns) (suc i) h =
+    let more : suc (suc (suc (suc (length ns)))) / 4 ≡ suc (length ns / 4) = omega arith in
+    let p = past_four x y u v ns in
+    rw (more, p (4 * suc i) (4 * i) (omega arith), p (4 * suc i + 1) (4 * i + 1) (omega arith), p (4 * suc i + 2) (4 * i + 2) (omega arith), p (4 * suc i + 3) (4 * i + 3) (omega arith))
+    (four_at ns i (omega (arith, h, more)))
+
 -- ---- a list's part, n from place m on
 part : {A : Type 0} (m n : ℕ) (xs : List A) (d : A) (q k : ℕ) → q < n → m + q ≡ k → slice_index_or (take n (drop m xs)) q d ≡ slice_index_or xs k d
 part m n xs d q k l e = get_or-take n (drop m xs) q d l ∙ get_or-drop m xs q d ∙ ap (λ (i : ℕ). slice_index_or xs i d) e
@@ -158,16 +175,25 @@ rows_more s c h ns fs m n (suc j) l =
     let e : m + suc j ≡ suc (m + j) = omega arith in
     rw (e, rows_more s c h ns fs m n j (omega arith), part_row (add_rows s c h ns fs (m + j)) c h ns fs m n j (omega arith))
 
+-- two parts of the lists, one behind the other
+pub rows_joined : (s : ErrorSum) (c : PinholeCamera) (h : Matrix) (xs ns : List Float) (ys fs : List ℕ) → length xs ≡ 4 * length ys → length ns ≡ 4 * length fs
+    → add_rows (add_rows s c h xs ys (length ys)) c h ns fs (length fs) ≡ add_rows s c h (xs ++ ns) (ys ++ fs) (length ys + length fs)
+rows_joined s c h xs ns ys fs e f =
+    let n = length ys in
+    let k = length fs in
+    let z : 0 + n ≡ n = omega arith in
+    let first : add_rows s c h xs ys n ≡ add_rows s c h (xs ++ ns) (ys ++ fs) n =
+    rw (z, rows_none s c h (xs ++ ns) (ys ++ fs), take_at xs ns (4 * n) e, take_at ys fs n refl) at (rows_more s c h (xs ++ ns) (ys ++ fs) 0 n n (omega arith)) in
+    let rest : add_rows (add_rows s c h (xs ++ ns) (ys ++ fs) n) c h ns fs k ≡ add_rows s c h (xs ++ ns) (ys ++ fs) (n + k) =
+    rw (drop_at xs ns (4 * n) e, drop_at ys fs n refl, take_all (4 * k) ns (omega arith), take_all k fs (omega arith)) at (rows_more s c h (xs ++ ns) (ys ++ fs) n k k (omega arith)) in
+    rw first rest
+
 -- a root whose bits are a finite number's is counted by its flag alone
 bits_row : (s : ErrorSum) (flag b : ℕ) (x : Float) → b < 0x7ff0_0000_0000_0000 → of_bits binary64 b ≡ root binary64 x
     → add_error s (flag == 1) (of_bits binary64 b) ≡ add_error s (flag == 1 && is_finite (root binary64 x)) (root binary64 x)
 bits_row s flag b x small e =
     let finite : is_finite (root binary64 x) ≡ true = ap is_finite (sym e) ∙ finite_bits b small in
     ap₂ (add_error s) (sym (ap (λ (t : Bool). (flag == 1) && t) finite ∙ and-true (flag == 1))) e
-  where
-    and-true : (t : Bool) → (t && true) ≡ t
-    and-true true = refl
-    and-true false = refl
 
 pub from_bits : (s : ErrorSum) (c : PinholeCamera) (h : Matrix) (ns : List Float) (fs : List ℕ) (xs : List Float) (bits : List ℕ) (wrong n : ℕ)
     → Squares c h ns n xs → QuickRoots n bits wrong xs → wrong < 2 ^ 37 → add_bits s fs bits n ≡ add_rows s c h ns fs n
@@ -265,6 +291,13 @@ add_row_at : (s : ErrorSum) (c : PinholeCamera) (h : Matrix) (ns : List Float) (
     → add_row s c h ns fs k ≡ add_error s (is_counted c h (row_at ns fs k)) (row_error c h (row_at ns fs k))
 unfolding add_row square_at row_at is_counted row_error
 add_row_at s c h ns fs k = let last : 4 * k + 2 + 1 ≡ 4 * k + 3 = omega arith in rw last
+
+-- one more of the fours and of the flags is one more row
+pub one_more_four : (s z : ErrorSum) (c : PinholeCamera) (h : Matrix) (ns : List Float) (fs : List ℕ) (k : ℕ) (four : List Float) (flag : ℕ)
+    → s ≡ add_rows z c h ns fs k → k < length ns / 4 → four ≡ get_or (first_chunks 4 (length ns / 4) ns) k [] → flag ≡ slice_index fs k
+    → let r : Row = record { ideal = point_at four 0; seen = point_at four 2; flag = flag } in add_error s (is_counted c h r) (row_error c h r) ≡ add_rows z c h ns fs (k + 1)
+unfolding row_at
+one_more_four s z c h ns fs k four flag e below f g = rw (rows_next z c h ns fs k, add_row_at (add_rows z c h ns fs k) c h ns fs k, e, f ∙ four_at ns k below, g)
 
 passed : (c : PinholeCamera) (h : Matrix) (ns : List Float) (fs : List ℕ) (n : ℕ)
     → n ≤ length (rows_of ns fs) → n < 2 ^ 64 → Passed c h (rows_of ns fs) n (add_rows no_errors c h ns fs n)

@@ -1,8 +1,9 @@
 // The rows in blocks of 16. The squares of a block's errors come first, then their roots with no branch, so that no row waits for
 // another, each with an exact check; then the sum in the rows' order. Where a check fails, or few rows of a block lie in front of the
 // camera, its rows are taken one by one.
-// Kept: total, by and block one beside another: a method of one of them would still be given the other two, and add_all_rows in specs/
-// already says of all three what its functions add.
+// Kept: total, by and block one beside another, here and in lib.rt: a method of one of them would still be given the other two, and add_all_rows in
+// specs/ already says of all three what its functions add. Squares and bits are two parameters, each as long as the block: a struct of two lent lists
+// would be made anew for each block, and a contract of it would name both before and after.
 
 ghost use Rattle.std.specs.Prelude.{◌≡◌, true, length, IfSome};
 ghost use Rattle.score_rows.specs.Steps.{add_all_rows, add_bits, one_in_front, in_front, Squares, QuickRoots, FiniteBits};
@@ -16,8 +17,8 @@ fn square_errors(squares: &mut [f64], by: Projection, rows: Rows)
     requires { length squares.old ≡ length rows.flags.now }
     ensures { Squares by.camera by.h rows.entry.numbers.now (length rows.entry.flags.now) squares.new }
 {
-    for j in 0..rows.flags.len() {
-        squares[j] = square_at(by, rows, j);
+    for (j, square) in squares.iter_mut().enumerate() {
+        *square = square_at(by, rows, j);
     }
 }
 
@@ -36,10 +37,10 @@ fn quick_roots(bits: &mut [u64], squares: &[f64]) -> u64
     ensures { QuickRoots (length squares.now) bits.new result squares.now }
 {
     let mut wrong: u64 = 0;
-    for j in 0..squares.len() {
-        let q = quick_sqrt(squares[j], bits[j]);
-        bits[j] = q.bits;
-        wrong = wrong | q.wrong;
+    for (j, b) in bits.iter_mut().enumerate() {
+        let q = quick_sqrt(squares[j], *b);
+        *b = q.bits;
+        wrong |= q.wrong;
     }
     wrong
 }
@@ -49,11 +50,12 @@ fn quick_roots(bits: &mut [u64], squares: &[f64]) -> u64
 fn one_in_front(flag: u8) -> u8
     ensures { result ≡ one_in_front flag }
 {
-    if flag == 1 { 1 } else { 0 }
+    (flag == 1).into()
 }
 
 // How many of a block's rows lie in front of the camera.
-// Kept: a loop over the flags: with `filter` and `count`, which was proved too, 900 rows take 179,367 instructions, and so 159,766.
+// Kept: a loop over the flags: with `filter` and `count`, which was proved too, 900 rows take 175,543 instructions in place of 157,297,
+// and 16,359 in place of 4,015 where none lies in front, both in a library of `mean_of_rows` alone.
 #[tactic(auto, using(crate::proofs::Steps::front_turns))]
 fn in_front(block: Block) -> u8
     ensures { result ≡ in_front block.entry.rows.flags.now (length block.entry.rows.flags.now) }
@@ -75,9 +77,9 @@ fn add_flagged<const ALL: bool>(total: ErrorSum, flags: &[u8], bits: &[u64]) -> 
     ensures { result ≡ add_bits total flags.now bits.now (length flags.now) }
 {
     let mut sum = total;
-    for j in 0..flags.len() {
-        let counted = ALL || flags[j] == 1;
-        sum = with_error(sum, counted, f64::from_bits(bits[j]));
+    for (flag, b) in flags.iter().zip(bits) {
+        let counted = ALL || *flag == 1;
+        sum = with_error(sum, counted, f64::from_bits(*b));
     }
     sum
 }
@@ -147,21 +149,16 @@ fn add_block(
 }
 
 // All rows, 16 at a time.
-#[tactic(auto, using(crate::proofs::Steps::turns))]
 pub fn add_blocks(total: ErrorSum, by: Projection, rows: Rows) -> ErrorSum
     ensures { result ≡ add_all_rows total by rows.entry }
 {
     let mut squares = [0.0; 16];
     let mut bits = [0u64; 16];
     let mut sum = total;
-    for k in 0..rows.flags.len().div_ceil(16) {
-        let i = 16 * k;
-        let n = (rows.flags.len() - i).min(16);
+    for (numbers, flags) in rows.numbers.chunks(64).zip(rows.flags.chunks(16)) {
+        let n = flags.len();
         let block = Block {
-            rows: Rows {
-                numbers: &rows.numbers[4 * i..4 * (i + n)],
-                flags: &rows.flags[i..i + n],
-            },
+            rows: Rows { numbers, flags },
         };
         sum = add_block(sum, by, block, &mut squares[..n], &mut bits[..n]);
     }

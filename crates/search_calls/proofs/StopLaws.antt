@@ -1,7 +1,7 @@
 -- When seeds are left, and what the floor of a reply means: it is the lowest penalty of the seeds left, and none of them can score below it, whatever list is lent.
 -- Assumes nothing.
-use Rattle.std.specs.Prelude.{ℕ, suc, ◌-◌, ◌≤◌, ◌<◌, ◌≡◌, true, false, ltb, length, Float, Option, Some, None, Ok, Err}
-use Rattle.std.proofs.Common.{arith, ap, ◌∙◌}
+use Rattle.std.specs.Prelude.{ℕ, suc, ◌+◌, ◌-◌, ◌≤◌, ◌<◌, ◌≡◌, true, false, ltb, length, Float, Option, Some, None, Ok, Err}
+use Rattle.std.proofs.Common.{arith, refl, ap, subst, ◌∙◌}
 use mathlib.Core.List.{List, [], ◌∷◌, Memᴰ}
 use borrow.Author.Tests.{lt-ltb, le-ltb}
 use Rattle.std.specs.Float.Ieee.{lt}
@@ -13,8 +13,7 @@ use Rattle.seed_rules.specs.declared.CandidateSeed.{CandidateSeed}
 use Rattle.score_outcome.specs.declared.Finding.{Finding}
 use Rattle.score_outcome.specs.declared.Scoring.{Scoring}
 use Rattle.score_outcome.specs.Evaluation.{outcome_of}
-use Rattle.score_best.specs.declared.Best.{Best}
-use Rattle.score_best.specs.Best.{no_best}
+use Rattle.score_best.specs.declared.Candidate.{Candidate}
 use Rattle.score_floor.specs.Floor.{floor_of, seeds_from, seeds_between}
 use Rattle.score_floor.proofs.FloorLaws.{floor_holds}
 use Rattle.search_record.specs.Record.{sound}
@@ -35,17 +34,25 @@ left_none r l s h =
     (λ w. let k = waiting_at r (bounds r s) w in absurd (omega arith))
     (λ w. rw w (between_none l r.place.at r.place.len h))
 
-some_between : (b : Best) (l : List Float) (i n : ℕ) → i < n → outlook_of b (seeds_between l i n) ≡ with_floor b (floor_of (seeds_between l i n))
-unfolding outlook_of seeds_from
-some_between b l i n h = let e : n - i ≡ suc (n - suc i) = omega arith in rw e
+-- these seeds are left, and there is a floor
+abbrev SomeLeft : Option Candidate → List CandidateSeed → Type 0
+SomeLeft b ss = outlook_of b ss ≡ with_floor b (floor_of ss)
 
-left_some : (b : Best) (r : Run) (l : List Float) → r.place.at < r.place.len → outlook_of b (left_seeds r l) ≡ with_floor b (floor_of (left_seeds r l))
+some_between : (b : Option Candidate) (l : List Float) (i n : ℕ) → i < n → SomeLeft b (seeds_between l i n)
+unfolding outlook_of seeds_from
+some_between b l i n h = let e : suc (n - suc i) ≡ n - i = omega arith in subst (λ (k : ℕ). SomeLeft b (seeds_from l i k)) e refl
+
+left_some : (b : Option Candidate) (r : Run) (l : List Float) → r.place.at < r.place.len → SomeLeft b (left_seeds r l)
 unfolding left_seeds outlook_of
-left_some b r l h = case r.waiting.is_waiting (λ w. rw w) (λ w. rw w (some_between b l r.place.at r.place.len h))
+left_some b r l h =
+    let p = r.place in
+    case r.waiting.is_waiting
+    (λ w. let e : r.waiting.seed ∷ seeds_between l (p.at + 1) p.len ≡ left_seeds r l = rw w refl in subst (SomeLeft b) e refl)
+    (λ w. let e : seeds_between l p.at p.len ≡ left_seeds r l = rw w refl in subst (SomeLeft b) e (some_between b l p.at p.len h))
 
 -- ---- the four ways that the call goes
 module _ (r : Run) (l : List Float) where
-  pub stop_unsound : sound r ≡ false → stop_def r l ≡ Ok (nothing_left no_best)
+  pub stop_unsound : sound r ≡ false → stop_def r l ≡ Ok (nothing_left None)
   unfolding stop_def
   stop_unsound s = simp s
 
@@ -63,7 +70,7 @@ module _ (r : Run) (l : List Float) where
     stop_some h k = simp (s, le-ltb (length l) r.place.demand h, left_some (best_so_far r) r l k)
 
 -- ---- the floor of a reply
-outlook_floor : (b : Best) (ss : List CandidateSeed) (x : Float) → (outlook_of b ss).floor ≡ Some x → x ≡ floor_of ss
+outlook_floor : (b : Option Candidate) (ss : List CandidateSeed) (x : Float) → (outlook_of b ss).floor ≡ Some x → x ≡ floor_of ss
 unfolding outlook_of
 outlook_floor b [] x h = cc
 outlook_floor b (s ∷ ss) x h = cc
@@ -78,7 +85,7 @@ stop_floor r l o e x h =
     let q = same_Ok (outlook_of (best_so_far r) (left_seeds r l)) o (simp (s, t) at e) in
     outlook_floor (best_so_far r) (left_seeds r l) x (ap (λ (p : Outlook). p.floor) q ∙ h)))
     (λ s.
-    let q = same_Ok (nothing_left no_best) o (simp s at e) in
+    let q = same_Ok (nothing_left None) o (simp s at e) in
     let z : ◌≡◌ {A = Option Float} None (Some x) = ap (λ (p : Outlook). p.floor) q ∙ h in
     cc)
 

@@ -1,11 +1,11 @@
 -- 02, E9: the stop call, as a function of the run's record and the lent list, for every record and list. Definitions only.
-use Rattle.std.specs.Prelude.{◌+◌, false, not, ◌&&◌, cond, List, [], ◌∷◌, ltb, length, Float, Some, None, Result, Ok, Err}
+use Rattle.std.specs.Prelude.{◌+◌, false, not, cond, List, [], ◌∷◌, ltb, length, Float, Option, Some, None, Result, Ok, Err}
 use Rattle.std.specs.Float.Ieee.{lt}
 use Rattle.common.specs.declared.Refusal.{Refusal}
 use Rattle.common.specs.declared.Refusal.TheVariants.{ShortList}
 use Rattle.seed_rules.specs.declared.CandidateSeed.{CandidateSeed}
-use Rattle.score_best.specs.declared.Best.{Best}
-use Rattle.score_best.specs.Best.{no_best}
+use Rattle.score_best.specs.declared.Candidate.{Candidate}
+use Rattle.score_best.specs.Best.{best_candidate}
 use Rattle.score_floor.specs.Floor.{floor_of, seeds_between}
 use Rattle.search_record.specs.Record.{sound}
 use Rattle.search_record.specs.declared.run.Run.{Run}
@@ -18,17 +18,17 @@ left_seeds r l =
     cond r.waiting.is_waiting (r.waiting.seed ∷ seeds_between l (p.at + 1) p.len) (seeds_between l p.at p.len)
 
 -- the run's best, as Result gives it, if there is one
-unfoldable pub best_so_far : Run → Best
-best_so_far r = cond r.run_best.found r.run_best no_best
+unfoldable pub best_so_far : Run → Option Candidate
+best_so_far r = best_candidate r.run_best
 
-abbrev pub nothing_left : Best → Outlook
+abbrev pub nothing_left : Option Candidate → Outlook
 nothing_left b = record { best = b; floor = None; no_gain = false }
 
 -- this round can gain nothing where the floor isn't below the best's score; with no best nothing is said of gain
-abbrev pub with_floor : Best → Float → Outlook
-with_floor b x = record { best = b; floor = Some x; no_gain = b.found && not (lt x b.candidate.score) }
+abbrev pub with_floor : Option Candidate → Float → Outlook
+with_floor b x = record { best = b; floor = Some x; no_gain = elim b [ Some w ↦ not (lt x w.score) | None ↦ false ] }
 
-unfoldable pub outlook_of : Best → List CandidateSeed → Outlook
+unfoldable pub outlook_of : Option Candidate → List CandidateSeed → Outlook
 outlook_of b [] = nothing_left b
 outlook_of b (s ∷ ss) = with_floor b (floor_of (s ∷ ss))
 
@@ -37,4 +37,4 @@ unfoldable pub stop_def : Run → List Float → Result Outlook Refusal
 stop_def r l =
     cond (sound r)
     (cond (ltb (length l) r.place.demand) (Err ShortList) (Ok (outlook_of (best_so_far r) (left_seeds r l))))
-    (Ok (nothing_left no_best))
+    (Ok (nothing_left None))

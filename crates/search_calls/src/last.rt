@@ -1,19 +1,11 @@
 // The last answered candidate as a line of the journal. The host writes it before its next answer, since the run keeps one only.
 
 ghost use Rattle.std.specs.Prelude.{◌≡◌};
-ghost use Rattle.search_calls.specs.Last.{has_line, recorded_in, last_def};
+ghost use Rattle.search_calls.specs.Last.{recorded_in, last_def};
 
 use journal_line::outcome::recorded_with;
 use journal_line::{Line, Recorded};
 use search_record::run::{LastAnswer, Run, is_sound};
-
-// Whether the run keeps a line: a candidate was answered, and scored or skipped for reason 1 to 4.
-#[tactic(auto, unfolding(crate::specs::Last::has_line))]
-fn has_line(run: Run) -> bool
-    ensures { result ≡ has_line run }
-{
-    is_sound(run) & run.last.found & (run.last.skipped <= 4)
-}
 
 // What the kept answer's numbers record: scored, or skipped for reason 1 to 4.
 #[tactic(auto, unfolding(crate::specs::Last::recorded_in))]
@@ -23,11 +15,13 @@ fn recorded_in(last: LastAnswer) -> Option<Recorded>
     recorded_with(last.skipped, last.scored).ok()
 }
 
-#[tactic(auto, unfolding(crate::specs::Last::last_def))]
+// The run keeps a line where a candidate was answered, and scored or skipped for reason 1 to 4.
+// Kept: the line is made field by field: a TryFrom of the answer would name a refusal that None drops, and only this call makes one of it.
+#[tactic(auto, using(crate::proofs::LastLaws::line_by_record))]
 pub fn last_line(run: Run) -> Option<Line>
     ensures { result ≡ last_def run }
 {
-    if !has_line(run) {
+    if !(is_sound(run) & run.last.found) {
         return None;
     }
     let outcome = recorded_in(run.last)?;

@@ -64,6 +64,7 @@ fn is_seed_lent(run: Run, list_len: usize) -> bool
 }
 
 // The waiting seed's six numbers as they stand in the caller's list, or an empty part.
+// Kept: 01 names the empty part, which C gets as 0 numbers: with an Option the C call would make that part of None again.
 pub fn seed(run: Run, list: &[f64]) -> &[f64]
     ensures { result.now ≡ seed_part run list.now }
 {

@@ -5,30 +5,28 @@ ghost use Rattle.score_floor.specs.Floor.{floor_of};
 ghost use Rattle.search_calls.specs.Stop.{left_seeds, best_so_far, nothing_left, with_floor, stop_def};
 
 use common::Refusal;
-use score_best::{Best, no_best};
+use score_best::Candidate;
 use score_floor::{counted_penalty, floor_between};
 use search_record::run::{Run, is_sound};
 
 // The run's best, if found; the floor of the seeds left, where there are any; and whether this round can gain nothing.
-// Kept: `best` is a Best, as the record keeps it and C's reply has it, with every number 0 where there is none: an Option would be made of the one
-// and taken apart for the other.
 #[derive(Clone, Copy)]
 pub struct Outlook {
-    pub best: Best,
+    pub best: Option<Candidate>,
     pub floor: Option<f64>,
     pub no_gain: bool,
 }
 
-// The run's best as Result gives it. Where there is none, all its numbers are 0.
+// The run's best as Result gives it, if there is one.
 #[tactic(auto, unfolding(crate::specs::Stop::best_so_far))]
-fn best_so_far(run: Run) -> Best
+fn best_so_far(run: Run) -> Option<Candidate>
     ensures { result ≡ best_so_far run }
 {
-    run.run_best.or(no_best())
+    run.run_best.candidate()
 }
 
 // No seed of this round's list is left.
-fn nothing_left(best: Best) -> Outlook
+fn nothing_left(best: Option<Candidate>) -> Outlook
     ensures { result ≡ nothing_left best }
 {
     Outlook {
@@ -39,10 +37,10 @@ fn nothing_left(best: Best) -> Outlook
 }
 
 // Seeds are left, and this is their floor. With no best nothing is said of gain.
-fn with_floor(best: Best, floor: f64) -> Outlook
+fn with_floor(best: Option<Candidate>, floor: f64) -> Outlook
     ensures { result ≡ with_floor best floor }
 {
-    let no_gain = best.found & !(floor < best.candidate.score);
+    let no_gain = best.is_some_and(|c| !(floor < c.score));
     Outlook {
         best,
         floor: Some(floor),
@@ -51,6 +49,7 @@ fn with_floor(best: Best, floor: f64) -> Outlook
 }
 
 // The floor of the seeds left: the waiting one as the run keeps it, the others as they stand in the list.
+// Kept: the record and its list are two values, here and below: C keeps them apart.
 fn floor_left(run: Run, list: &[f64]) -> f64
     requires { (run.place.at < run.place.len) × (6 * run.place.len ≤ length list.now) }
     ensures { result ≡ floor_of (left_seeds run list.now) }
@@ -66,7 +65,7 @@ pub fn stop(run: Run, list: &[f64]) -> Result<Outlook, Refusal>
     ensures { result ≡ stop_def run list.now }
 {
     if !is_sound(run) {
-        return Ok(nothing_left(no_best()));
+        return Ok(nothing_left(None));
     }
     run.list_refusal(list.len())?;
     let best = best_so_far(run);

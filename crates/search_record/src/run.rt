@@ -204,10 +204,8 @@ pub fn entered(mut run: Run, outcome: Outcome) -> Run
     .into();
     run.counts = with_count(run.counts, recorded);
     run.waiting = Waiting::default();
-    let at = run.place.at + 1;
-    run.place.at = at;
-    let number = run.place.number + 1;
-    run.place.number = number;
+    run.place.at += 1;
+    run.place.number += 1;
     run
 }
 
@@ -229,8 +227,7 @@ pub fn opened(mut run: Run, len: usize) -> Run
     ensures { result ≡ Rattle.search_record.specs.Record.round_opened run len }
 {
     let step = next_step(run);
-    let round = run.place.round + 1;
-    run.place.round = round;
+    run.place.round += 1;
     run.place.step = step;
     run.place.len = len;
     run.place.at = 0;

@@ -42,13 +42,12 @@ fn is_positive(x: f64) -> bool
 fn is_good_seed(max_abs_tilt: f64, seed: CandidateSeed) -> bool
     ensures { result ≡ good_seed max_abs_tilt seed }
 {
-    is_positive(seed.reference_k.fx)
-        & is_positive(seed.reference_k.fy)
-        & float::is_finite(seed.reference_k.cx)
-        & float::is_finite(seed.reference_k.cy)
-        & float::is_finite(seed.sensor.tilt_x)
-        & float::is_finite(seed.sensor.tilt_y)
-        & seed_lists::checks::in_bound(max_abs_tilt, seed.sensor)
+    let k = seed.reference_k;
+    let t = seed.sensor;
+    is_positive(k.fx)
+        & is_positive(k.fy)
+        & float::all_finite(&[k.cx, k.cy, t.tilt_x, t.tilt_y])
+        & seed_lists::checks::in_bound(max_abs_tilt, t)
 }
 
 // Whether each seed of a decomposition passes the test.
@@ -57,8 +56,10 @@ fn all_seeds<F: Fn(CandidateSeed) -> bool>(decomposition: &[f64], test: F) -> bo
     ensures { (f : CandidateSeed → Bool) → ((s : CandidateSeed) (b : Bool) → F.post test s b → b ≡ f s) → result ≡ every f (all_seeds decomposition.now) }
 {
     decomposition
-        .chunks_exact(6)
-        .map(|six| seed_lists::seed_at(six, 0))
+        .as_chunks::<6>()
+        .0
+        .iter()
+        .map(|six| CandidateSeed::from(*six))
         .all(test)
 }
 

@@ -7,14 +7,14 @@ use Rattle.std.specs.Float.Ieee.{of_bits, up, down, round, add, neg, lt, le, eq}
 use Rattle.std.specs.Float.Ieee.Fits.{down_pos}
 use Rattle.common.specs.Tests.{case}
 use Rattle.float.specs.Binary64.{◌+₆₄◌}
-use Rattle.float.specs.Float.{abs_of}
+use Rattle.float.specs.Float.{abs_of, within}
 use Rattle.float.specs.Literals.{half₆₄}
 use Rattle.float.specs.Order.{lt_cotrans, le_not_lt, le_number}
 use Rattle.float_laws.specs.Rounded.{add_rounds}
 use Rattle.float_laws.specs.Differences.{plus_not_below, minus_not_below}
 use Rattle.float_laws.specs.NotBelow.{not_below_trans, le_first}
 use Rattle.seed_rules.specs.Merge.{keep}
-use Rattle.seed_rules.specs.Rules.{closer, tilt_limit, within, offsets}
+use Rattle.seed_rules.specs.Rules.{closer, tilt_limit, offsets}
 use Rattle.seed_rules.proofs.Unmerged.{keep_apart}
 use Rattle.seed_counts.specs.Admissible.{admitted}
 use Rattle.seed_counts.proofs.Counts.{TiltsApart}

@@ -3,11 +3,11 @@
 use Rattle.std.specs.Prelude.{◌≡◌, refl, [], ◌∷◌, length, Float}
 use Rattle.std.specs.Float.{binary64}
 use Rattle.std.specs.Float.Ieee.{of_bits, add, sub, neg, lt, le, eq}
-use Rattle.float.specs.Float.{abs_of}
+use Rattle.float.specs.Float.{abs_of, within}
 use Rattle.float.specs.Literals.{plus_zero, half₆₄}
 use Rattle.camera_models.specs.declared.intrinsics.FxFyCxCy.{FxFyCxCy}
 use Rattle.seed_rules.specs.Merge.{keep, has_near, push, merged_into}
-use Rattle.seed_rules.specs.Rules.{closer, tilt_limit, tilt_near, camera_near, near, within, in_bound, tilts, pairs, offsets, next_list}
+use Rattle.seed_rules.specs.Rules.{closer, tilt_limit, tilt_near, camera_near, near, in_bound, tilts, pairs, offsets, next_list}
 use Rattle.seed_counts.specs.Admissible.{admitted, seed_count, least_step}
 
 -- ---- step 0.02 and bound 0.3: 0.28 + 0.02 is above 0.3 once it is rounded

@@ -8,11 +8,12 @@ use Rattle.std.proofs.Math.ListN.{length, length-map}
 use Rattle.common.specs.Each.{All}
 use Rattle.common.specs.All.{all_append, all_mapped}
 use Rattle.common.specs.Tests.{case}
+use Rattle.float.specs.Float.{within}
 use Rattle.camera_models.specs.declared.intrinsics.FxFyCxCy.{FxFyCxCy}
 use Rattle.camera_tilt.specs.declared.sensor.ScheimpflugParams.{ScheimpflugParams}
 use Rattle.seed_rules.specs.Merge.{keep, merged}
 use Rattle.seed_rules.proofs.MergeLaws.{keep_append}
-use Rattle.seed_rules.specs.Rules.{closer, tilt_limit, tilt_near, near, within, in_bound, tilts, pairs, seed_with, moved, next_list}
+use Rattle.seed_rules.specs.Rules.{closer, tilt_limit, tilt_near, near, in_bound, tilts, pairs, seed_with, moved, next_list}
 use Rattle.seed_rules.proofs.RulesLaws.{pairs_length}
 use Rattle.seed_rules.proofs.Unmerged.{Apart, merged_apart, append_apart, map_apart}
 use Rattle.seed_counts.specs.Admissible.{admitted, seed_count}

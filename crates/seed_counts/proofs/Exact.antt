@@ -3,10 +3,11 @@
 -- (Counts.antt). Assumes nothing.
 use Rattle.std.specs.Prelude.{◌≡◌, Bool, true, false, [], ◌∷◌, length, Float}
 use Rattle.std.specs.Float.Ieee.{lt, le}
+use Rattle.float.specs.Float.{within}
 use Rattle.float.specs.Literals.{plus_zero, half₆₄}
 use Rattle.camera_models.specs.declared.intrinsics.FxFyCxCy.{FxFyCxCy}
 use Rattle.camera_tilt.specs.declared.sensor.ScheimpflugParams.{ScheimpflugParams}
-use Rattle.seed_rules.specs.Rules.{closer, tilt_limit, within, offsets, y_offsets, moved, next_list}
+use Rattle.seed_rules.specs.Rules.{closer, tilt_limit, offsets, y_offsets, moved, next_list}
 use Rattle.seed_rules.proofs.Unmerged.{keep_apart}
 use Rattle.seed_counts.specs.Admissible.{admitted, seed_count, least_step, most_step}
 use Rattle.seed_counts.proofs.Counts.{TiltsApart, exact_length}

@@ -1,9 +1,10 @@
 -- 02, E10: how many seeds a later round has. Admissible is a tilt that lies within the bound after the rounded addition. Definitions only.
 use Rattle.std.specs.Prelude.{ℕ, ◌*◌, List, length, Float}
+use Rattle.float.specs.Float.{within}
 use Rattle.float.specs.Literals.{one₆₄, ten_to_minus11}
 use Rattle.camera_tilt.specs.declared.sensor.ScheimpflugParams.{ScheimpflugParams}
 use Rattle.seed_rules.specs.Merge.{keep}
-use Rattle.seed_rules.specs.Rules.{within, moved}
+use Rattle.seed_rules.specs.Rules.{moved}
 
 -- the tilts that the offsets of an axis give around a centre, and that the bound admits
 unfoldable pub admitted : Float → Float → List Float → List Float

@@ -1,39 +1,26 @@
--- The seeds of a list as the code goes over them, six numbers at a time. Assumes nothing.
-use Rattle.std.proofs.Common.{suc, ◌+◌, ◌/◌, ◌<◌, ◌≡◌, refl, sym, ◌∙◌, List, [], ◌∷◌, ◌++◌, length, arith, length-append, Float}
-use Rattle.std.proofs.Math.Seq.{drop_at}
-use Rattle.std.specs.declared.slice.ChunksExact.{ChunksExact}
-use Rattle.std.specs.Slice.Iter.{chunks_exact_steps, chunks_exact_size, chunks_exact_rest}
-use Rattle.std.proofs.lemmas.Iterator.{YieldsList}
-use Rattle.std.proofs.lemmas.Iterator.Splits.{YieldsList-from_shown_while}
-use Rattle.seed_rules.specs.Layout.{read_from, seed_at, all_seeds}
-use Rattle.seed_rules.specs.LayoutLaws.{read_length}
+-- The seeds of a list as the code reads them, six numbers at a time. Assumes nothing.
+use Rattle.std.proofs.Common.{ℕ, zero, suc, ◌+◌, ◌*◌, ◌<◌, ◌≤◌, ◌≡◌, refl, ◌∙◌, List, [], take, drop, map, arith, get_or, get_or-drop, add_assoc, Float}
+use Rattle.std.proofs.lemmas.List.{get_or-take}
+use Rattle.std.specs.Float.{nan}
+use Rattle.std.specs.Simd.{first_chunks}
+use Rattle.seed_rules.specs.Layout.{read_from, seed_at, seeds_of}
 
--- the first seed is that of the first six numbers
-first_of_six : (x t : List Float) → length x ≡ 6 → seed_at (x ++ t) 0 ≡ seed_at x 0
-first_of_six [] t h = absurd (omega arith)
-first_of_six (a ∷ []) t h = absurd (omega arith)
-first_of_six (a ∷ b ∷ []) t h = absurd (omega arith)
-first_of_six (a ∷ b ∷ c ∷ []) t h = absurd (omega arith)
-first_of_six (a ∷ b ∷ c ∷ d ∷ []) t h = absurd (omega arith)
-first_of_six (a ∷ b ∷ c ∷ d ∷ e ∷ []) t h = absurd (omega arith)
-first_of_six (a ∷ b ∷ c ∷ d ∷ e ∷ f ∷ x) t h = refl
+-- the first seed is that of the first six numbers or more
+pub seed_of_first : (n : ℕ) (l : List Float) → 6 ≤ n → seed_at (take n l) 0 ≡ seed_at l 0
+seed_of_first n l h =
+    let number = λ (k : ℕ) (m : k < 6). get_or-take n l k nan (omega (arith, m, h)) in
+    rw (number 0 (omega arith), number 1 (omega arith), number 2 (omega arith), number 3 (omega arith), number 4 (omega arith), number 5 (omega arith)) refl
 
-seeds_front : (l x t : List Float) → l ≡ x ++ t → length x ≡ 6 → all_seeds l ≡ seed_at x 0 ∷ all_seeds t
+-- the first n chunks are the first n seeds
+pub seeds_in_chunks : (n : ℕ) (l : List Float) → map (λ six. seed_at six 0) (first_chunks 6 n l) ≡ seeds_of n l
 unfolding read_from
-seeds_front l x t e h =
-    let n : length (x ++ t) ≡ 6 + length t = length-append x t ∙ rw h refl in
-    let one : (6 + length t) / 6 ≡ suc (length t / 6) = omega arith in
-    rw (e, n, one, first_of_six x t h, drop_at x t 6 h) refl
+seeds_in_chunks zero l = refl
+seeds_in_chunks (suc n) l = rw (seed_of_first 6 l (omega arith), seeds_in_chunks n (drop 6 l)) refl
 
-seeds_none : (l : List Float) → length l < 6 → length (all_seeds l) ≡ 0
-seeds_none l h = let none : length l / 6 ≡ 0 = omega arith in read_length (λ m. seed_at m 0) 6 (length l / 6) l ∙ none
-
--- an iterator over chunks of six gives the seeds of what it has left
-pub seeds_by_chunks : {s : ChunksExact Float} (l : List Float) → chunks_exact_rest s ≡ l → chunks_exact_size s ≡ 6
-    → YieldsList (chunks_exact_steps {A = Float}) (λ x. seed_at x.now 0) s (all_seeds l)
-seeds_by_chunks {s} l e h =
-    rw (sym e)
-    (YieldsList-from_shown_while (chunks_exact_steps {A = Float}) (λ x. seed_at x.now 0) (λ t. all_seeds (chunks_exact_rest t)) (λ t. chunks_exact_size t ≡ 6)
-    (λ t u k m. seeds_none (chunks_exact_rest t) (rw k at m.1.0))
-    (λ t x u k m. (m.0 ∙ k, seeds_front (chunks_exact_rest t) x.now (chunks_exact_rest u) m.1.0 (m.1.1 ∙ k)))
-    s h)
+-- the chunk in place i is the seed in place i
+pub seed_in_chunks : (n i : ℕ) (l : List Float) → i < n → seed_at (get_or (first_chunks 6 n l) i []) 0 ≡ seed_at l i
+seed_in_chunks zero i l h = absurd (omega (arith, h))
+seed_in_chunks (suc n) zero l h = seed_of_first 6 l (omega arith)
+seed_in_chunks (suc n) (suc i) l h =
+    let e : 6 * suc i ≡ 6 + 6 * i = omega arith in
+    seed_in_chunks n i (drop 6 l) (omega (arith, h)) ∙ rw e (simp (get_or-drop, add_assoc))

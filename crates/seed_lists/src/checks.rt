@@ -39,16 +39,12 @@ fn camera_near(k: FxFyCxCy, l: FxFyCxCy) -> bool
 pub fn near(s: CandidateSeed, t: CandidateSeed) -> bool
     ensures { result ≡ rules.near s t }
 {
-    let s_sensor = s.sensor;
-    let t_sensor = t.sensor;
-    let s_k = s.reference_k;
-    let t_k = t.reference_k;
-    tilt_near(s_sensor, t_sensor) && camera_near(s_k, t_k)
+    tilt_near(s.sensor, t.sensor) && camera_near(s.reference_k, t.reference_k)
 }
 
-#[tactic(auto, unfolding(seed_rules::specs::Rules::in_bound, seed_rules::specs::Rules::within))]
+#[tactic(auto, unfolding(seed_rules::specs::Rules::in_bound))]
 pub fn in_bound(max_abs_tilt: f64, t: ScheimpflugParams) -> bool
     ensures { result ≡ in_bound max_abs_tilt t }
 {
-    (float::abs(t.tilt_x) <= max_abs_tilt) & (float::abs(t.tilt_y) <= max_abs_tilt)
+    float::within(max_abs_tilt, t.tilt_x) & float::within(max_abs_tilt, t.tilt_y)
 }

@@ -68,13 +68,12 @@ pub trait Entry: Copy {
     ghost wide: { 0 < width };
 }
 
+#[tactic(auto, using(crate::specs::Chunks::seed_in_chunks))]
 pub fn seed_at(seeds: &[f64], i: usize) -> CandidateSeed
     requires { 6 * i + 6 ≤ length seeds.now }
     ensures { result ≡ seed_at seeds.now i }
 {
-    let mut numbers = [0.0; 6];
-    numbers.copy_from_slice(&seeds[6 * i..6 * i + 6]);
-    numbers.into()
+    seeds.as_chunks::<6>().0[i].into()
 }
 
 impl Entry for CandidateSeed {

@@ -8,6 +8,7 @@ use Rattle.std.specs.Float.{binary64}
 use Rattle.std.specs.Float.Ieee.{fits, le}
 use Rattle.common.specs.All.{all_append, all_map, all_mapped}
 use Rattle.common.specs.Each.{All}
+use Rattle.float.specs.Float.{within}
 use Rattle.float.specs.Binary64.{◌+₆₄◌}
 use Rattle.float.specs.Sign.{abs_add_zero}
 use Rattle.float.specs.Literals.{plus_zero}
@@ -16,7 +17,7 @@ use Rattle.camera_tilt.specs.declared.sensor.ScheimpflugParams.{ScheimpflugParam
 use Rattle.seed_rules.specs.declared.CandidateSeed.{CandidateSeed}
 use Rattle.seed_rules.specs.Merge.{keep}
 use Rattle.seed_rules.proofs.MergeLaws.{keep_all, mem_keep, merged_all, merged_covers}
-use Rattle.seed_rules.specs.Rules.{near, tilt_near, within, in_bound, tilts, pairs, seed_with, seeds_within, seed_grid, initial_list, offsets, y_offsets, moved, next_list}
+use Rattle.seed_rules.specs.Rules.{near, tilt_near, in_bound, tilts, pairs, seed_with, seeds_within, seed_grid, initial_list, offsets, y_offsets, moved, next_list}
 use Rattle.seed_rules.proofs.RulesLaws.{initial_length}
 
 -- ---- lists in general

@@ -1,4 +1,3 @@
-pub mod Bound
 pub mod Facts
 pub mod MergeLaws
 pub mod Mirror

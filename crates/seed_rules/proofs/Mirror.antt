@@ -5,13 +5,14 @@ use Rattle.std.proofs.Common.{sym, ap, ◌∙◌}
 use Rattle.std.proofs.lemmas.List.{map-append}
 use Rattle.std.specs.Float.{binary64}
 use Rattle.std.specs.Float.Ieee.{neg, lt}
+use Rattle.float.specs.Float.{within}
 use Rattle.float.specs.Sign.{abs_neg, abs_sub_neg}
 use Rattle.camera_models.specs.declared.intrinsics.FxFyCxCy.{FxFyCxCy}
 use Rattle.camera_tilt.specs.declared.sensor.ScheimpflugParams.{ScheimpflugParams}
 use Rattle.seed_rules.specs.declared.CandidateSeed.{CandidateSeed}
 use Rattle.seed_rules.specs.Merge.{keep, merged}
 use Rattle.seed_rules.proofs.MergeLaws.{keep_map, merged_map}
-use Rattle.seed_rules.specs.Rules.{closer, tilt_limit, tilt_near, camera_near, near, within, in_bound, tilts, pairs, seed_with, seed_grid, initial_list}
+use Rattle.seed_rules.specs.Rules.{closer, tilt_limit, tilt_near, camera_near, near, in_bound, tilts, pairs, seed_with, seed_grid, initial_list}
 
 -- both tilts negated, the camera kept
 abbrev pub opposite : ScheimpflugParams → ScheimpflugParams

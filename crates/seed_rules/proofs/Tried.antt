@@ -6,7 +6,7 @@ use mathlib.Core.List.Memᴰ
 use mathlib.Core.List.{List, [], ◌++◌, map, Memᴰ}
 use Rattle.std.specs.Float.Ieee.{of_bits, neg, lt, le}
 use Rattle.common.specs.Tests.{both_true}
-use Rattle.float.specs.Float.{abs_of, is_finite}
+use Rattle.float.specs.Float.{abs_of, is_finite, within}
 use Rattle.float.specs.Finite.{finite_within}
 use Rattle.float.specs.Sign.{abs_sub_self}
 use Rattle.camera_models.specs.declared.intrinsics.FxFyCxCy.{FxFyCxCy}
@@ -14,8 +14,8 @@ use Rattle.camera_tilt.specs.declared.sensor.ScheimpflugParams.{ScheimpflugParam
 use Rattle.seed_rules.specs.declared.CandidateSeed.{CandidateSeed}
 use Rattle.seed_rules.specs.Merge.{keep}
 use Rattle.seed_rules.proofs.MergeLaws.{mem_keep, merged_covers}
-use Rattle.seed_rules.specs.Rules.{closer, tilt_limit, tilt_near, camera_near, near, within, in_bound, tilts, pairs, seed_with, seed_grid, initial_list}
-use Rattle.seed_rules.proofs.Bound.{abs_order}
+use Rattle.seed_rules.specs.Rules.{closer, tilt_limit, tilt_near, camera_near, near, in_bound, tilts, pairs, seed_with, seed_grid, initial_list}
+use Rattle.float.proofs.Bound.{abs_order}
 use Rattle.seed_rules.proofs.Facts.{pairs_mem}
 
 pub record Tried (list : List CandidateSeed) (grid : List ScheimpflugParams) (base : FxFyCxCy) (t : ScheimpflugParams) : Type 0 where

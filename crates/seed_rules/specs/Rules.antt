@@ -1,7 +1,7 @@
 -- 01's rules about seeds, on lists of values: nearness, the bound, round 0's list, a later round's list. Definitions only.
 use Rattle.std.specs.Prelude.{Bool, ◌&&◌, cond, List, [], ◌∷◌, ◌++◌, map, Float}
-use Rattle.std.specs.Float.Ieee.{neg, lt, le, eq}
-use Rattle.float.specs.Float.{abs_of}
+use Rattle.std.specs.Float.Ieee.{neg, lt, eq}
+use Rattle.float.specs.Float.{abs_of, within}
 use Rattle.float.specs.Literals.{plus_zero, ten_to_minus9, ten_to_minus12}
 use Rattle.float.specs.Binary64.{◌+₆₄◌, ◌-₆₄◌}
 use Rattle.camera_models.specs.declared.intrinsics.FxFyCxCy.{FxFyCxCy}
@@ -31,9 +31,6 @@ unfoldable pub near : CandidateSeed → CandidateSeed → Bool
 near s t = tilt_near s.sensor t.sensor && camera_near s.reference_k t.reference_k
 
 -- ---- 01: beyond ±max_abs_tilt is outside; the bound itself is inside, and NaN is not
-unfoldable pub within : Float → Float → Bool
-within max t = le (abs_of t) max
-
 unfoldable pub in_bound : Float → ScheimpflugParams → Bool
 in_bound max t = within max t.tilt_x && within max t.tilt_y
 

@@ -27,9 +27,7 @@ fn camera_of(b: Conic, denom: f64, v0: f64, lambda: f64) -> FxFyCxCy
     requires { (denom ≡ zhang.denom b) × (v0 ≡ zhang.v0 b) × (lambda ≡ zhang.lambda b) }
     ensures { result ≡ camera_of b }
 {
-    let b11 = b.b11;
-    let b12 = b.b12;
-    let b13 = b.b13;
+    let Conic { b11, b12, b13, .. } = b;
     let alpha = root_code::sqrt(lambda / b11);
     let beta = root_code::sqrt(lambda * b11 / denom);
     let gamma = -b12 * alpha * alpha * beta / lambda;
@@ -43,16 +41,18 @@ fn camera_of(b: Conic, denom: f64, v0: f64, lambda: f64) -> FxFyCxCy
 }
 
 // The camera whose conic is b, where there is one.
-#[tactic(auto, unfolding(crate::specs::Zhang::definite, crate::specs::Zhang::from_homographies))]
+#[tactic(auto, unfolding(float::specs::Float::within, crate::specs::Zhang::definite, crate::specs::Zhang::from_homographies))]
 pub fn from_homographies(b: Conic) -> Result<FxFyCxCy, Refusal>
     ensures { result ≡ from_homographies b }
 {
-    let b11 = b.b11;
-    let b12 = b.b12;
-    let b22 = b.b22;
-    let b13 = b.b13;
-    let b23 = b.b23;
-    let b33 = b.b33;
+    let Conic {
+        b11,
+        b12,
+        b22,
+        b13,
+        b23,
+        b33,
+    } = b;
     let denom = b11 * b22 - b12 * b12;
     let denom_norm = b11 * b11 + b22 * b22;
     if !(denom_norm > 0.0) {
@@ -61,7 +61,7 @@ pub fn from_homographies(b: Conic) -> Result<FxFyCxCy, Refusal>
     if !(denom / denom_norm > 1e-6) {
         return Err(Refusal::DegenerateViews);
     }
-    if float::abs(b11) <= 1e-12 {
+    if float::within(1e-12, b11) {
         return Err(Refusal::DegenerateViews);
     }
     let v0 = (b12 * b13 - b11 * b23) / denom;

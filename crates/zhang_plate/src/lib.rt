@@ -34,10 +34,7 @@ fn shared_unit(k: FxFyCxCy, unit: u64) -> bool
     requires { (1 ≤ unit) × (unit ≤ 256) }
     ensures { result ≡ shared_unit unit k }
 {
-    let fx = k.fx;
-    let fy = k.fy;
-    let cx = k.cx;
-    let cy = k.cy;
+    let FxFyCxCy { fx, fy, cx, cy } = k;
     times_unit(fx, unit)
         & times_unit(fy, unit)
         & times_unit(cx, unit)
@@ -51,10 +48,7 @@ fn shared_unit(k: FxFyCxCy, unit: u64) -> bool
 fn conic_with(k: FxFyCxCy, unit: f64) -> Conic
     ensures { result ≡ conic_with unit k }
 {
-    let fx = k.fx;
-    let fy = k.fy;
-    let cx = k.cx;
-    let cy = k.cy;
+    let FxFyCxCy { fx, fy, cx, cy } = k;
     let p = fx / unit;
     let q = fy / unit;
     Conic {

@@ -1,20 +1,22 @@
--- `float_series::beyond` meets its contract: beyond 0.5 in size is below -0.5 or above 0.5. Assumes nothing.
-use Rattle.std.proofs.Common.{◌≡◌, refl, true, false, ◌||◌, Float}
+-- `float_series::beyond` meets its contract: NaN, or above 0.5 in size, is what isn't at most 0.5 in size. Assumes nothing.
+use Rattle.std.proofs.Common.{◌≡◌, refl, sym, ◌∙◌, true≢false, false, not, Float}
 use Rattle.std.specs.Float.{nan, inf, fin}
-use Rattle.std.specs.Float.Ieee.{of_bits, lt, neg, is_nan}
-use mathlib.Core.Bool.{or-false}
-use Rattle.float.specs.Float.{abs_of}
+use Rattle.std.specs.Float.Ieee.{of_bits, lt, le, is_nan}
+use Rattle.common.specs.Tests.{case}
+use Rattle.float.specs.Float.{abs_of, within}
 use Rattle.float.specs.Literals.{half₆₄}
+use Rattle.float.specs.Order.{le_not_lt, le_of_not_lt}
 use Rattle.float_series.specs.Answer.{beyond_half}
 use Rattle.float_series.proofs.beyond.Goals as goal
 
-outside : (x : Float) → ((is_nan x || lt x (neg half₆₄)) || lt half₆₄ x) ≡ beyond_half x
-unfolding beyond_half is_nan lt abs_of neg of_bits
+not_le : (x y : Float) → is_nan x ≡ false → is_nan y ≡ false → not (le x y) ≡ lt y x
+not_le x y a b = case (le x y) (λ e. rw (e, le_not_lt x y e)) (λ e. case (lt y x) (λ f. rw (e, f)) (λ f. absurd (true≢false (sym (le_of_not_lt x y a b f) ∙ e))))
+
+outside : (x : Float) → not (within half₆₄ x) ≡ beyond_half x
+unfolding within beyond_half is_nan le lt abs_of of_bits
 outside nan = refl
-outside (inf true) = refl
-outside (inf false) = refl
-outside (fin true m e) = or-false _
-outside (fin false m e) = refl
+outside (inf s) = refl
+outside (fin s m e) = not_le (fin false m e) half₆₄ refl refl
 
 pub returns : goal.returns
-returns c = rw c.is_nan.ensures.value (outside c.args.x)
+returns c = rw c.within.ensures (outside c.args.x)

@@ -1,16 +1,13 @@
--- `point_homography::first_distinct` meets its contract: the search among the chunks is that among the points. Assumes nothing.
-use Rattle.std.proofs.Common.{rules, tests, ◌≡◌, sym, ap, ◌∙◌, ◌-◌, arith, length, drop, length-drop}
+-- `point_homography::first_distinct` meets its contract: the search among the pairs is that among the points. Assumes nothing.
+use Rattle.std.proofs.Common.{rules, tests, sym, ap, ◌∙◌, ◌-◌, arith, length, drop, length-drop}
 use lib.Seq.{take_all}
-use Rattle.std.specs.Slice.Iter.{chunks_exact_rest}
-use Rattle.std.proofs.lemmas.Iterator.{YieldsList-from_map}
+use Rattle.std.proofs.lemmas.Iterator.{YieldsList-from_slice, YieldsList-from_map}
 use Rattle.std.proofs.lemmas.Iterator.Consumers.{YieldsList-at}
 use Rattle.std.proofs.lemmas.Iterator.Adapters.{option_map_id}
-use Rattle.std.proofs.lemmas.List.{map-id}
 use Rattle.std.specs.List.{find}
 use Rattle.std.proofs.lemmas.Iterator.Search.{find_from_yields_List}
-use Rattle.camera_models.specs.declared.math.Pt2.{Pt2}
-use Rattle.point_normalise.specs.Points.{points_of}
-use Rattle.point_normalise.specs.Chunks.{points_by_chunks, find_is}
+use Rattle.point_normalise.specs.Points.{point_at}
+use Rattle.point_normalise.specs.Chunks.{pairs_of, pairs_are, find_is}
 use Rattle.point_homography.specs.Line.{far_from}
 use Rattle.point_homography.proofs.first_distinct.Goals as goal
 
@@ -19,10 +16,11 @@ returns c =
     let l = c.args.points.now in
     let s = drop 2 l in
     let test = far_from c.args.p0 in
-    let rest : chunks_exact_rest c.chunks_exact.result ≡ s = c.chunks_exact.ensures.rest ∙ take_all (length l - 2) s (omega (arith, length-drop 2 l)) in
+    let rest = ap pairs_of (take_all (length l - 2) s (omega (arith, length-drop 2 l))) in
+    let each = YieldsList-from_slice (pairs_of s) (c.iter.ensures.rest ∙ c.as_chunks.ensures.front ∙ rest) in
     let found =
     find_from_yields_List test _ _ c.find.result c.find.ensures.ran
-    (YieldsList-from_map _ (λ (p : Pt2). p) (YieldsList-at c.map.ensures.source (points_by_chunks s rest c.chunks_exact.ensures.size)) c.map.ensures.closure (λ x r q k. search (rules, tests)))
+    (YieldsList-from_map _ (λ v. point_at v 0) (YieldsList-at c.map.ensures.source each) c.map.ensures.closure (λ x r q k. search (rules, tests)))
     (λ x b q k. search (rules, tests))
     in
-    sym (option_map_id c.find.result) ∙ found ∙ ap (find test) (map-id (points_of s)) ∙ find_is test s
+    sym (option_map_id c.find.result) ∙ found ∙ ap (find test) (pairs_are s) ∙ find_is test s

@@ -1,5 +1,5 @@
 -- `score_outcome::evaluate_candidate` meets its contract: each test of the code is the definition's. Assumes nothing.
-use Rattle.std.proofs.Common.{◌≡◌, refl, sym, ap, ◌∙◌, List, ℕ, Float, length}
+use Rattle.std.proofs.Common.{◌≡◌, true, refl, sym, ap, ◌∙◌, List, ℕ, Float, length}
 use Rattle.float.specs.Float.{is_finite}
 use Rattle.camera_tilt.specs.Matrix.{Matrix}
 use Rattle.camera_tilt.specs.Sensor.{tilt_projection_matrix}
@@ -11,6 +11,7 @@ use Rattle.score_rows.specs.declared.ErrorSum.{ErrorSum}
 use Rattle.score_outcome.specs.Evaluation.{errors_with, mean_with, enough, enough_with, scored_as}
 use Rattle.score_outcome.proofs.Outcomes.{invalid_skips, few_skips, infinite_skips, passed_scored, scoring_is}
 use Rattle.score_outcome.specs.declared.SolvedCamera.{SolvedCamera}
+use Rattle.score_outcome.proofs.evaluate_candidate.Goals.{Else-not-validate_camera, After-reproj_error_sum-errors}
 use Rattle.score_outcome.proofs.evaluate_candidate.Goals as goal
 
 -- ---- what the calls say of the definition's parts
@@ -27,6 +28,12 @@ module _ (s : SolvedCamera) (rows : List Float) (flags : List ℕ) where
   unfolding mean_with
   mean e p = ap mean_of p
 
+valid : (c : Else-not-validate_camera) → valid_camera (damped_camera c.args.solved.camera) ≡ true
+valid c = ap valid_camera (sym c.damped_camera-camera.ensures) ∙ sym c.validate_camera.ensures ∙ c.if-not-validate_camera.false
+
+errors_are : (c : After-reproj_error_sum-errors) → errors_with c.args.solved c.args.rows.now c.args.flags.now ≡ c.reproj_error_sum-errors.result
+errors_are c = errors c.args.solved c.args.rows.now c.args.flags.now _ _ _ c.damped_camera-camera.ensures c.tilt_projection_matrix-h.ensures c.reproj_error_sum-errors.ensures
+
 pub returns-then-not-validate_camera : goal.returns-then-not-validate_camera
 returns-then-not-validate_camera c =
     let a = c.args in
@@ -39,28 +46,28 @@ is_enough-requires c = rw c.reproj_error_sum-errors.ensures (counted_most _ _ _ 
 pub returns-then-not-is_enough : goal.returns-then-not-is_enough
 returns-then-not-is_enough c =
     let a = c.args in
-    let valid = ap valid_camera (sym c.damped_camera-camera.ensures) ∙ sym c.validate_camera.ensures ∙ c.if-not-validate_camera.false in
-    let e = errors a.solved a.rows.now a.flags.now _ _ _ c.damped_camera-camera.ensures c.tilt_projection_matrix-h.ensures c.reproj_error_sum-errors.ensures in
+    let w = goal.at.returns-then-not-is_enough c in
+    let e = errors_are w.After-reproj_error_sum-errors in
     let few = counted a.solved a.rows.now a.flags.now a.share _ e ∙ sym c.is_enough.ensures ∙ c.if-not-is_enough.true in
-    sym (few_skips a.share a.solved a.sensor a.center a.rows.now a.flags.now valid few)
+    sym (few_skips a.share a.solved a.sensor a.center a.rows.now a.flags.now (valid w.Else-not-validate_camera) few)
 
 pub returns-then-not-is_finite : goal.returns-then-not-is_finite
 returns-then-not-is_finite c =
     let a = c.args in
-    let valid = ap valid_camera (sym c.damped_camera-camera.ensures) ∙ sym c.validate_camera.ensures ∙ c.if-not-validate_camera.false in
-    let e = errors a.solved a.rows.now a.flags.now _ _ _ c.damped_camera-camera.ensures c.tilt_projection_matrix-h.ensures c.reproj_error_sum-errors.ensures in
+    let w = goal.at.returns-then-not-is_finite c in
+    let e = errors_are w.After-reproj_error_sum-errors in
     let m = mean a.solved a.rows.now a.flags.now _ e ∙ sym c.mean_reproj_error-mean.ensures in
     let infinite = ap is_finite m ∙ sym c.is_finite.ensures ∙ c.if-not-is_finite.true in
-    sym (infinite_skips a.share a.solved a.sensor a.center a.rows.now a.flags.now valid infinite)
+    sym (infinite_skips a.share a.solved a.sensor a.center a.rows.now a.flags.now (valid w.Else-not-validate_camera) infinite)
 
 pub returns : goal.returns
 returns c =
     let a = c.args in
-    let valid = ap valid_camera (sym c.damped_camera-camera.ensures) ∙ sym c.validate_camera.ensures ∙ c.if-not-validate_camera.false in
-    let e = errors a.solved a.rows.now a.flags.now _ _ _ c.damped_camera-camera.ensures c.tilt_projection_matrix-h.ensures c.reproj_error_sum-errors.ensures in
+    let w = goal.at.returns c in
+    let e = errors_are w.After-reproj_error_sum-errors in
     let m = mean a.solved a.rows.now a.flags.now _ e ∙ sym c.mean_reproj_error-mean.ensures in
     let many = counted a.solved a.rows.now a.flags.now a.share _ e ∙ sym c.is_enough.ensures ∙ c.if-not-is_enough.false in
     let finite = ap is_finite m ∙ sym c.is_finite.ensures ∙ c.if-not-is_finite.false in
     c.scored_outcome.ensures
-    ∙ sym (passed_scored a.share a.solved a.sensor a.center a.rows.now a.flags.now valid many finite
+    ∙ sym (passed_scored a.share a.solved a.sensor a.center a.rows.now a.flags.now (valid w.Else-not-validate_camera) many finite
     ∙ ap scored_as (scoring_is _ _ _ _ _ _ _ _ (sym c.damped_camera-camera.ensures) m refl))

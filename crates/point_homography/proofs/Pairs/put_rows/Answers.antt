@@ -1,12 +1,13 @@
 -- `point_homography::Pairs::put_rows` meets its contract. Assumes nothing.
-use Rattle.std.proofs.Common.{◌≡◌, refl, sym, ap, ◌∙◌, ◌+◌, ◌-◌, ◌*◌, ◌<◌, ◌≤◌, inl, inr, arith, length, length-append}
+use Rattle.std.proofs.Common.{◌≡◌, refl, sym, ap, ◌∙◌, ◌+◌, ◌-◌, ◌*◌, ◌/◌, ◌≤◌, inl, inr, arith, length, drop, length-drop}
 use Rattle.std.proofs.lemmas.Slice.{put_mid-paste}
 use borrow.Rule.Slice.PartMut.{put_mid}
 use lib.Seq.{sets, sets-eq, length-sets}
 use Rattle.point_normalise.specs.Points.{point_at}
 use Rattle.point_normalise.specs.Walk.{no_pair}
-use Rattle.point_homography.specs.Rows.{pair_rows, moved_rows, design_rows}
-use Rattle.point_homography.specs.RowsLaws.{rows_chunk}
+use Rattle.point_normalise.specs.Chunks.{pair_left, pairs_count, pairs_of}
+use Rattle.point_homography.specs.Rows.{pair_rows, moved_rows}
+use Rattle.point_homography.specs.RowsLaws.{rows_next}
 use Rattle.point_homography.proofs.Pairs.put_rows.Goals as goal
 
 pub loop-i-preserved : goal.loop-i-preserved
@@ -18,35 +19,37 @@ loop-i-preserved c =
     let i = c.in-Some.i in
     let k = c.loop-i.invariant in
     let h = c.in-Some.ensures.steps in
-    let p = c.in-Some.xy.now in
-    let q = c.in-Some.uv.now in
-    let s = c.next.new.self.iter.a.rest.now in
-    let d = c.next.new.self.iter.b.rest.now in
-    let two_p : length p ≡ 2 = h.0.0.1.1 ∙ k.0 in
-    let two_q : length q ≡ 2 = h.0.1.1.1 ∙ k.1 in
-    let len : 2 * n + (2 + length s) ≡ length b.self.src.now = omega (arith, k.2, ap length h.0.0.1.0, length-append p s, two_p) in
-    let room : 18 * i + 18 ≤ length a = omega (arith, len, k.4, h.1, c.requires) in
-    let r = moved_rows b.ts b.td (point_at p 0) (point_at q 0) in
+    let s = b.self.src.now in
+    let d = b.self.dst.now in
+    let p = pair_left s n c.in-Some.field-0-1-0.now c.next.new.self.iter.a.rest.now (sym k.0 ∙ h.0.0) in
+    let q = pair_left d n c.in-Some.field-0-1-1.now c.next.new.self.iter.b.rest.now (sym k.1 ∙ h.0.1) in
+    let at = 2 * n in
+    let room : 18 * i + 18 ≤ length a = omega (arith, p.0, k.2, h.1, c.requires) in
+    let r = moved_rows b.ts b.td (point_at s at) (point_at d at) in
     let here : c.copy_from_slice.new.self ≡ r =
-    c.copy_from_slice.ensures.after ∙ c.as_flattened.ensures.value ∙ rw (c.pair_rows.ensures, c.moved-p.ensures, c.point_at.ensures, c.moved-q.ensures, c.point_at-in-loop-i.ensures) in
-    let e : put_mid (18 * i) (18 * i + 18 - 18 * i) a c.copy_from_slice.new.self ≡ sets a (18 * n) r =
-    put_mid-paste (18 * i) (18 * i + 18 - 18 * i) a c.copy_from_slice.new.self r 18 here (omega arith) refl ∙ sym (sets-eq r a (18 * i) room) ∙ rw (h.1) in (
-      h.0.0.0 ∙ k.0,
-      h.0.1.0 ∙ k.1,
-      omega (arith, len, h.2),
-      omega (arith, k.3, ap length h.0.0.1.0, length-append p s, two_p, ap length h.0.1.1.0, length-append q d, two_q),
-      ap length e ∙ length-sets a (18 * n) r ∙ k.4,
-      rw (e, h.2)
-          (rows_chunk b.ts b.td a n p s q d two_p two_q
-          ∙ (λ i. sets a (18 * n) (design_rows b.ts b.td (sym h.0.0.1.0 i) (sym h.0.1.1.0 i)))
-          ∙ k.5),
+    c.copy_from_slice.ensures.after ∙ c.as_flattened.ensures.value ∙ rw (c.pair_rows.ensures, c.moved-p.ensures, c.moved-q.ensures, p.1, q.1) in
+    let e : put_mid (18 * i) (18 * i + 18 - 18 * i) a c.copy_from_slice.new.self ≡ sets a (18 * i) r =
+    put_mid-paste (18 * i) (18 * i + 18 - 18 * i) a c.copy_from_slice.new.self r 18 here (omega arith) refl ∙ sym (sets-eq r a (18 * i) room) in
+    let from : 18 * i ≡ 9 * at = omega (arith, h.1) in
+    let next : 18 * c.next.new.self.count ≡ 9 * (at + 2) = omega (arith, h.2) in
+    let two : 2 * c.next.new.self.count ≡ at + 2 = omega (arith, h.2) in
+    let all : 9 * at ≡ 18 * n = omega arith in (
+      rw h.2 (sym p.2),
+      rw h.2 (sym q.2),
+      ap length e ∙ length-sets a (18 * i) r ∙ k.2,
+      rw (e, from, next, two) (rows_next b.ts b.td s d a at (omega (arith, p.0)) (omega (arith, q.0)) ∙ rw all k.3),
     )
 
 pub returns : goal.returns
 returns c =
     let b = c.args in
-    let it = c.loop-i.i-iterator in
+    let n = c.loop-i.i-iterator.count in
     let k = c.loop-i.invariant in
-    let short : length it.iter.a.rest.now < 2 =
-    elim c.in-None.ensures.steps.0 [ inl u ↦ omega (arith, u.1.1.0, k.0) | inr u ↦ omega (arith, u.1.1.0, k.1, k.3) ] in
-    ap (sets c.loop-i.a (18 * it.count)) (sym (no_pair (moved_rows b.ts b.td) it.iter.a.rest.now it.iter.b.rest.now (omega arith))) ∙ k.5
+    let s = b.self.src.now in
+    let d = b.self.dst.now in
+    let none : length s / 2 ≤ n =
+    elim c.in-None.ensures.steps.0 [
+      | inl u ↦ omega (arith, u.1.0, ap length k.0, length-drop n (pairs_of s), pairs_count s)
+      | inr u ↦ omega (arith, u.1.0, ap length k.1, length-drop n (pairs_of d), pairs_count d, c.requires)
+    ] in
+    ap (sets c.loop-i.a (18 * n)) (sym (no_pair (moved_rows b.ts b.td) (drop (2 * n) s) (drop (2 * n) d) (omega (arith, none, length-drop (2 * n) s)))) ∙ k.3

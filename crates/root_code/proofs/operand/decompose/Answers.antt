@@ -1,5 +1,6 @@
 -- `root_code::operand::decompose` meets its contract. Assumes nothing.
-use Rattle.std.proofs.Common.{◌≡◌, true, T, sym, ap, ◌∙◌, subst, arith, Float}
+use Rattle.std.proofs.Common.{◌≡◌, true, sym, ap, ◌∙◌, arith, Float}
+use Rattle.std.specs.Bool.{passes}
 use Rattle.std.specs.Float.{nan, binary64}
 use Rattle.std.specs.Float.Ieee.{fits, of_bits, to_bits, div}
 use lib.Ieee.Bits.{of_bits-to_bits, to_bits-lt}
@@ -10,11 +11,8 @@ use Rattle.root_code.proofs.Patterns.{at_nan, at_zero, at_minus_zero, root_top, 
 use Rattle.root_code.proofs.operand.decompose.Goals as goal
 
 -- the argument is what its bits say
-held : (x : Float) → fits binary64 x ≡ true → T (fits binary64 x)
-held x e = subst T (sym e) tt
-
 back : (x : Float) → fits binary64 x ≡ true → of_bits binary64 (to_bits binary64 x) ≡ x
-back x e = of_bits-to_bits binary64 x (held x e)
+back x e = of_bits-to_bits binary64 x (passes _ e)
 
 -- the constant f64::NAN
 constant : of_bits binary64 0x7ff8_0000_0000_0000 ≡ nan
@@ -44,4 +42,4 @@ pub returns-then-b : goal.returns-then-b
 returns-then-b c = at_minus_zero c.args.x (back c.args.x c.well_formed.0.1) c.if-b.true
 
 pub returns : goal.returns
-returns c = constant ∙ sym (root_neg (to_bits binary64 c.args.x) (omega arith) (to_bits-lt binary64 c.args.x (held c.args.x c.well_formed.0.1))) ∙ ap (root binary64) (back c.args.x c.well_formed.0.1)
+returns c = constant ∙ sym (root_neg (to_bits binary64 c.args.x) (omega arith) (to_bits-lt binary64 c.args.x (passes _ c.well_formed.0.1))) ∙ ap (root binary64) (back c.args.x c.well_formed.0.1)

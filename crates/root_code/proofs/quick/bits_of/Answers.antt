@@ -1,5 +1,6 @@
 -- `root_code::quick::bits_of` meets its contract. Assumes nothing.
-use Rattle.std.proofs.Common.{◌≡◌, ◌<◌, Bool, true, false, cond, T, sym, refl, ap, ◌∙◌, subst, arith, Float}
+use Rattle.std.proofs.Common.{◌≡◌, ◌<◌, Bool, true, false, cond, T, refl, ap, ◌∙◌, arith, Float}
+use Rattle.std.specs.Bool.{passes}
 use Rattle.std.specs.Float.{binary64}
 use Rattle.std.specs.Float.Ieee.{of_bits, to_bits, lt, fits, is_nan}
 use lib.Ieee.Bits.{of_bits-to_bits}
@@ -22,4 +23,4 @@ float_to_bits-result c = number_max (of_bits binary64 0) c.args.x c.max.result (
 
 pub returns : goal.returns
 unfolding max_of of_bits is_nan
-returns c = own_bits c.args.x c.max.result (lt (of_bits binary64 0) c.args.x) c.max.ensures (subst T (sym c.well_formed.0.1) tt)
+returns c = own_bits c.args.x c.max.result (lt (of_bits binary64 0) c.args.x) c.max.ensures (passes _ c.well_formed.0.1)

@@ -1,5 +1,5 @@
 -- `root_code::quick::quick_sqrt` meets its contract. Assumes nothing.
-use Rattle.std.proofs.Common.{◌≡◌, ℕ, ◌+◌, ◌-◌, ◌*◌, ◌/◌, ◌%◌, ◌^◌, ◌<◌, ◌≤◌, ap, ◌∙◌, arith, Float}
+use Rattle.std.proofs.Common.{◌≡◌, ℕ, ◌+◌, ◌-◌, ◌*◌, ◌/◌, ◌%◌, ◌^◌, ◌<◌, ◌≤◌, refl, ap, ◌∙◌, arith, Float}
 use Rattle.std.specs.Float.{binary64}
 use Rattle.std.specs.Float.Ieee.{of_bits}
 use lib.Bits.{bit_or}
@@ -10,6 +10,7 @@ use Rattle.root_code.specs.Or.{both_below}
 use Rattle.root_code.specs.declared.operand.Scaled.{Scaled}
 use Rattle.root_code.specs.Quick.{Quick}
 use Rattle.root_code.proofs.Rounds.{answer}
+use Rattle.root_code.proofs.Steps.{minus, minus_back}
 use Rattle.root_code.proofs.quick.quick_sqrt.Goals as goal
 
 -- the two signs leave the bits of a normal number alone
@@ -34,10 +35,8 @@ quick x b u v wide signs q s is B p e n near z =
 
 pub returns : goal.returns
 returns c =
-    let v = c.wrapping_add_u64-above in
-    let u = c.wrapping_sub_u64-below in
     let q = c.guessed_root-q in
     let s = c.as_normal-s in
     let b = c.bits_of-b in
     let a = c.args in
-    quick a.x b.result u.result v.result q.result.wide q.result.signs q.result.root s.result b.ensures b.type_inv u.ensures.value v.ensures.value s.ensures q.ensures.1
+    quick a.x b.result (minus b.result (2 ^ 52)) ((b.result + 2 ^ 52) % 2 ^ 64) q.result.wide q.result.signs q.result.root s.result b.ensures b.type_inv (minus_back b.result (2 ^ 52) b.type_inv (omega arith)) refl s.ensures q.ensures.1

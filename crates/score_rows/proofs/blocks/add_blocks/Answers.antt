@@ -1,25 +1,33 @@
 -- `score_rows::blocks::add_blocks` meets its contract. Assumes nothing.
-use Rattle.std.proofs.Common.{◌≡◌, ℕ, ◌+◌, ◌*◌, ◌≤◌, min, List, length, take, drop, ap, ◌∙◌, arith, Float}
-use Rattle.std.proofs.lemmas.List.{length-take-le, length-drop}
-use Rattle.camera_tilt.specs.Matrix.{Matrix}
-use Rattle.score_camera.specs.declared.pinhole.PinholeCamera.{PinholeCamera}
-use Rattle.score_rows.specs.Steps.{add_rows}
-use Rattle.score_rows.proofs.Steps.{rows_more}
-use Rattle.score_rows.specs.declared.ErrorSum.{ErrorSum}
+use Rattle.std.proofs.Common.{◌≡◌, ◌*◌, length, length-append, sym, ap, ◌∙◌, ⊎_elim, arith}
+use Rattle.std.specs.Slice.Iter.{chunks_rest}
+use Rattle.score_rows.proofs.Steps.{rows_none, rows_joined}
 use Rattle.score_rows.proofs.blocks.add_blocks.Goals as goal
 
-more_rows : (c : PinholeCamera) (h : Matrix) (ns : List Float) (fs : List ℕ) (s s' r : ErrorSum) (i n a b : ℕ) → i + n ≤ length fs → a ≡ 4 * n → b ≡ n → s' ≡ add_rows s c h ns fs i
-    → r ≡ add_rows s' c h (take a (drop (4 * i) ns)) (take b (drop i fs)) (length (take b (drop i fs))) → r ≡ add_rows s c h ns fs (i + n)
-more_rows c h ns fs s s' r i n a b inside e f p q =
-    let long : length (take n (drop i fs)) ≡ n = length-take-le n (drop i fs) (omega (arith, length-drop i fs)) in
-    (rw (e, f, long) at q) ∙ ap (λ (t : ErrorSum). add_rows t c h (take (4 * n) (drop (4 * i) ns)) (take n (drop i fs)) n) p ∙ rows_more s c h ns fs i n n (omega arith)
+pub loop-numbers-preserved : goal.loop-numbers-preserved
+loop-numbers-preserved c =
+    let l = c.loop-numbers in
+    let v = l.invariant in
+    let x = c.in-Some.ensures.steps in
+    let b = c.args.by in
+    let n = c.in-Some.numbers.now in
+    let f = c.in-Some.flags.now in
+    let ns = chunks_rest c.next.new.self.a in
+    let fs = chunks_rest c.next.new.self.b in
+    let long = length-append n ns in
+    let long' = length-append f fs in
+    let four : length n ≡ 4 * length f = omega (arith, x.0.1.1, x.1.1.1, v.0, v.1, v.2) in
+    let fours : length ns ≡ 4 * length fs = omega (arith, four, v.2, ap length x.0.1.0, ap length x.1.1.0, long, long') in (
+      x.0.0 ∙ v.0,
+      x.1.0 ∙ v.1,
+      fours,
+      rw c.add_block-sum.ensures (rows_joined l.sum b.camera b.h n ns f fs four fours ∙ (rw (x.0.1.0, x.1.1.0, long') at v.3)),
+    )
 
-pub loop-k-preserved : goal.loop-k-preserved
-loop-k-preserved c =
-    let l = c.loop-k in
-    let a = c.args in
-    let n = c.min-n.result in
-    let m = length a.rows.flags.now in
-    let e : min (16 * l.k) m ≡ 16 * l.k = omega arith in
-    let f : 16 * l.k + n ≡ min (16 * (l.k + 1)) m = omega arith in
-    rw f at (more_rows a.by.camera a.by.h a.rows.numbers.now a.rows.flags.now a.total l.sum c.add_block-sum.result (16 * l.k) n _ _ (omega arith) (omega arith) (omega arith) (rw e at l.invariant) c.add_block-sum.ensures)
+pub returns : goal.returns
+returns c =
+    let l = c.loop-numbers in
+    let v = l.invariant in
+    let fs = chunks_rest l.numbers-iterator.b in
+    let none : length fs ≡ 0 = ⊎_elim (λ x. omega (arith, x.1.1.0, v.2)) (λ x. x.1.1.0) c.in-None.ensures.steps in
+    sym (rows_none l.sum c.args.by.camera c.args.by.h (chunks_rest l.numbers-iterator.a) fs) ∙ (rw none at v.3)

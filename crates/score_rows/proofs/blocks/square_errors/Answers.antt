@@ -1,5 +1,5 @@
 -- `score_rows::blocks::square_errors` meets its contract. Assumes nothing.
-use Rattle.std.proofs.Common.{◌≡◌, ◌∙◌, arith, length-set}
+use Rattle.std.proofs.Common.{◌≡◌, arith}
 use Rattle.std.specs.Float.{nan}
 use Rattle.score_rows.proofs.Filled.{one_more}
 use Rattle.score_rows.specs.Steps.{square_at}
@@ -9,7 +9,4 @@ pub loop-j-preserved : goal.loop-j-preserved
 loop-j-preserved c =
     let l = c.loop-j in
     let a = c.args in
-    let long = l.invariant.0 in (
-      length-set l.squares l.j c.square_at.result ∙ long,
-      one_more l.squares nan l.j c.square_at.result (λ k x. x ≡ square_at a.by.camera a.by.h a.rows.numbers.now k) (omega arith) l.invariant.1 c.square_at.ensures,
-    )
+    one_more l.squares nan l.j c.square_at.result (λ k x. x ≡ square_at a.by.camera a.by.h a.rows.numbers.now k) (omega arith) l.invariant c.square_at.ensures

@@ -1,7 +1,6 @@
 -- `score_rows::blocks::square_errors`: the loop's invariant: the first j squares are those of the first j rows.
-use Rattle.std.proofs.Common.{◌≡◌, length}
 use Rattle.score_rows.specs.Steps.{Squares}
 use Rattle.score_rows.proofs.blocks.square_errors.Given as goal
 
 abbrev pub invariant-loop-j : goal.invariant-loop-j
-invariant-loop-j l = (length l.squares ≡ length l.rows.flags.now) × Squares l.by.camera l.by.h l.rows.numbers.now l.j l.squares
+invariant-loop-j l = Squares l.by.camera l.by.h l.rows.numbers.now l.j l.squares

@@ -1,14 +1,20 @@
 -- `search_calls::stop::stop` meets its contract, by the four ways that the call goes. Assumes nothing.
-use Rattle.std.proofs.Common.{◌≡◌, arith, rules, refl, sym, ap, ◌∙◌, Ok, Err}
+use Rattle.std.proofs.Common.{◌≤◌, ◌≡◌, arith, rules, sym, ap, ◌∙◌, true, length, Ok, Err}
+use Rattle.std.specs.Prelude.{Option}
+use Rattle.score_best.specs.declared.Candidate.{Candidate}
 use Rattle.search_record.specs.Laws.{bounds, demand_fits, too_short}
-use Rattle.search_calls.specs.Stop.{nothing_left}
+use Rattle.search_record.specs.Record.{sound}
+use Rattle.search_calls.specs.Stop.{best_so_far, nothing_left, with_floor}
 use Rattle.search_calls.proofs.StopLaws.{stop_unsound, stop_short, stop_none, stop_some}
+use Rattle.search_calls.proofs.stop.stop.Goals.{In_ok-list_refusal}
 use Rattle.search_calls.proofs.stop.stop.Goals as goal
 
+-- the run is sound, and the list long enough
+past_tests : (c : In_ok-list_refusal) → (sound c.args.run ≡ true) × (c.args.run.place.demand ≤ length c.args.list.now)
+past_tests c = (sym c.is_sound.ensures ∙ c.if-not-is_sound.false, demand_fits c.args.run _ (sym c.list_refusal.ensures ∙ c.in_ok-list_refusal.was))
+
 pub returns-then-not-is_sound : goal.returns-then-not-is_sound
-returns-then-not-is_sound c =
-    ap Ok (c.nothing_left.ensures ∙ ap nothing_left c.no_best.ensures)
-    ∙ sym (stop_unsound _ _ (sym c.is_sound.ensures ∙ c.if-not-is_sound.true))
+returns-then-not-is_sound c = ap Ok c.nothing_left.ensures ∙ sym (stop_unsound _ _ (sym c.is_sound.ensures ∙ c.if-not-is_sound.true))
 
 pub returns-in_err-list_refusal : goal.returns-in_err-list_refusal
 returns-in_err-list_refusal c =
@@ -18,15 +24,18 @@ returns-in_err-list_refusal c =
 
 pub returns-then-run : goal.returns-then-run
 returns-then-run c =
-    ap Ok (c.nothing_left-then-run.ensures ∙ ap nothing_left c.best_so_far-best.ensures)
-    ∙ sym (stop_none _ _ (sym c.is_sound.ensures ∙ c.if-not-is_sound.false) (demand_fits c.args.run _ (sym c.list_refusal.ensures ∙ c.in_ok-list_refusal.was)) c.if-run.true)
+    let p = past_tests (goal.at.returns-then-run c).In_ok-list_refusal in
+    ap Ok (c.nothing_left-then-run.ensures ∙ ap nothing_left c.best_so_far-best.ensures) ∙ sym (stop_none _ _ p.0 p.1 c.if-run.true)
 
 pub floor_left-requires : goal.floor_left-requires
 floor_left-requires c =
-    let h = bounds _ (sym c.is_sound.ensures ∙ c.if-not-is_sound.false) in
-    (c.if-run.false, omega (arith, h.list_fits, (demand_fits c.args.run _ (sym c.list_refusal.ensures ∙ c.in_ok-list_refusal.was))))
+    let p = past_tests (goal.at.floor_left-requires c).In_ok-list_refusal in
+    let h = bounds _ p.0 in
+    (c.if-run.false, omega (arith, h.list_fits, p.1))
 
 pub returns : goal.returns
 returns c =
-    ap Ok (c.with_floor.ensures ∙ rw (c.best_so_far-best.ensures, c.floor_left.ensures) refl)
-    ∙ sym (stop_some _ _ (sym c.is_sound.ensures ∙ c.if-not-is_sound.false) (demand_fits c.args.run _ (sym c.list_refusal.ensures ∙ c.in_ok-list_refusal.was)) c.if-run.false)
+    let p = past_tests (goal.at.returns c).In_ok-list_refusal in
+    let b = ap (λ (x : Option Candidate). with_floor x c.floor_left.result) c.best_so_far-best.ensures in
+    ap Ok (c.with_floor.ensures ∙ b ∙ ap (with_floor (best_so_far c.args.run)) c.floor_left.ensures)
+    ∙ sym (stop_some _ _ p.0 p.1 c.if-run.false)

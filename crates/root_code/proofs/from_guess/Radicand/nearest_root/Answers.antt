@@ -1,12 +1,23 @@
 -- `root_code::from_guess::Radicand::nearest_root` meets its contract. Assumes nothing.
 use Rattle.std.proofs.Common.{◌+◌, ◌*◌, ◌^◌, arith}
-use Rattle.root_code.proofs.Steps.{joined, nearest_of}
+use Rattle.root_code.proofs.Steps.{product, minus, minus_back, joined, nearest_of}
 use Rattle.root_code.proofs.from_guess.Radicand.nearest_root.Goals as goal
 
 pub returns-then-remainder-root : goal.returns-then-remainder-root
 returns-then-remainder-root c =
-    let l = c.low_digits-l in
-    let h = c.high_digits-h in
     let m = c.args.self.significand in
-    let e = joined m h.result l.result c.wrapping_sub_u64-a.result c.wrapping_sub_u64-d.result c.wrapping_sub_u64-remainder.result h.ensures l.ensures (omega arith) (omega arith) c.if-remainder-root.true c.wrapping_sub_u64-a.ensures.value c.wrapping_sub_u64-d.ensures.value c.wrapping_sub_u64-remainder.ensures.value in
-    rw c.nearest_whole.ensures (nearest_of (m * 4 ^ 26) (h.result * 2 ^ 26 + l.result) c.wrapping_sub_u64-remainder.result (omega arith) e c.if-remainder-root.true)
+    let h = c.high_digits-h.result in
+    let l = c.low_digits-l.result in
+    let a = minus m (h * h) in
+    let d = minus (a * 2 ^ 26) (2 * h * l) in
+    let t = minus (d * 2 ^ 26) (l * l) in
+    let H = c.high_digits-h.ensures in
+    let L = c.low_digits-l.ensures in
+    let A = c.if-a-ge536870912.false in
+    let D = c.if-d-ge137438953472.false in
+    let T = c.if-remainder-root.true in
+    let e = joined m h l a d t H L (omega (arith, A)) D T
+    (minus_back m (h * h) (omega arith) (omega (arith, product 28 28 h h H H)))
+    (minus_back (a * 2 ^ 26) (2 * h * l) (omega (arith, A)) (omega (arith, product 28 31 h l H L)))
+    (minus_back (d * 2 ^ 26) (l * l) (omega (arith, D)) (omega (arith, product 31 31 l l L L))) in
+    rw c.nearest_whole.ensures (nearest_of (m * 4 ^ 26) (h * 2 ^ 26 + l) t (omega arith) e T)

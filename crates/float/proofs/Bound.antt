@@ -6,8 +6,7 @@ use Rattle.std.proofs.lemmas.Bool.{eqb-false}
 use Rattle.std.specs.Float.{nan, inf, fin}
 use Rattle.std.specs.Float.Ieee.{up, down, below, level, lt, le, eq, neg}
 use Rattle.common.specs.Tests.{case}
-use Rattle.float.specs.Float.{abs_of}
-use Rattle.seed_rules.specs.Rules.{within}
+use Rattle.float.specs.Float.{abs_of, within}
 
 eqb_sym : (a b : ℕ) → eqb a b ≡ eqb b a
 eqb_sym a b = case (eqb a b) (λ e. rw (e, eq-eqb b a (sym (eqb-true a b e)))) (λ e. rw (e, ne_eqb b a (λ q. eqb-false a b e (sym q))))
