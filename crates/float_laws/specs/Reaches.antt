@@ -100,7 +100,7 @@ no_number : (c s : Bool) (b : Float) → Reaches (cond c nan (inf s)) b
 no_number true s b = tt
 no_number false s b = tt
 
-reaches_neg : (x b : Float) → Reaches x b → Reaches x (neg b)
+pub reaches_neg : (x b : Float) → Reaches x b → Reaches x (neg b)
 reaches_neg x b h = reaches x (neg b) (rw (abs_neg b) (not_below x b h))
 
 -- ---- a rounded fraction

@@ -40,6 +40,7 @@ impl From<Similarity> for Transform {
 }
 
 // Whether so many numbers are no list of points, or one of more than 400.
+// Kept: lengths and no lists, here and in `check_lengths`: no more of the lists is read.
 pub fn bad_length(n: usize) -> bool
     ensures { result ≡ bad_length n }
 {
@@ -47,7 +48,6 @@ pub fn bad_length(n: usize) -> bool
 }
 
 // The first reason to refuse so many numbers and room for so many.
-// Kept: two lengths and no lists: of the list to be written the check reads the length alone.
 pub fn check_lengths(numbers: usize, room: usize) -> Result<(), Refusal>
     ensures { result ≡ first_refusal (length_checks numbers room) }
 {

@@ -3,3 +3,4 @@ mod Rounds
 mod Steps
 mod Patterns
 mod Exponents
+mod Guess

@@ -5,7 +5,7 @@ use Rattle.std.specs.Float.Ieee.{of_bits}
 use Rattle.float.specs.Binary64.{◌+₆₄◌}
 use Rattle.float.specs.Float.{is_finite}
 use Rattle.root.specs.Root.{root}
-use Rattle.root_code.specs.Quick.{Quick}
+use Rattle.root_code.specs.Quick.{BitsOf, Quick}
 use Rattle.camera_tilt.specs.Matrix.{Matrix}
 use Rattle.point_normalise.specs.Points.{point_at, squared_distance}
 use Rattle.score_rows.specs.Rows.{projected}
@@ -59,6 +59,10 @@ in_front flags (suc j) = in_front flags j + one_in_front (slice_index flags j)
 -- xs starts with the squares of the errors of the first n rows
 abbrev pub Squares : PinholeCamera → Matrix → List Float → ℕ → List Float → Type 0
 Squares c h numbers n xs = (j : ℕ) → j < n → slice_index_or xs j nan ≡ square_at c h numbers j
+
+-- the first n are the bits of the first n of xs, or 0
+abbrev pub AllBits : ℕ → List ℕ → List Float → Type 0
+AllBits n operands xs = (j : ℕ) → j < n → BitsOf (slice_index operands j) (slice_index_or xs j nan)
 
 -- the bits of the roots of the first n of xs, where `wrong` says that they are right
 abbrev pub QuickRoots : ℕ → List ℕ → ℕ → List Float → Type 0

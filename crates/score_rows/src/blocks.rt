@@ -2,17 +2,19 @@
 // another, each with an exact check; then the sum in the rows' order. Where a check fails, or few rows of a block lie in front of the
 // camera, its rows are taken one by one.
 // Kept: total, by and block one beside another, here and in lib.rt: a method of one of them would still be given the other two, and add_all_rows in
-// specs/ already says of all three what its functions add. Squares and bits are two parameters, each as long as the block: a struct of two lent lists
-// would be made anew for each block, and a contract of it would name both before and after.
+// specs/ already says of all three what its functions add. Squares, their bits and those of the roots are three parameters, each as long as the block: a
+// struct of three lent lists would be made anew for each block, and a contract of it would name all before and after.
 
-ghost use Rattle.std.specs.Prelude.{◌≡◌, true, length, IfSome};
-ghost use Rattle.score_rows.specs.Steps.{add_all_rows, add_bits, one_in_front, in_front, Squares, QuickRoots, FiniteBits};
+ghost use Rattle.std.specs.Prelude.{◌≡◌, true, List, Float, length, IfSome};
+ghost use Rattle.score_rows.specs.Steps.{add_all_rows, add_bits, one_in_front, in_front, Squares, QuickRoots, FiniteBits, AllBits};
 
 use crate::rows::{Block, Rows};
 use crate::{ErrorSum, Projection, add_rows, square_at, with_error};
-use root_code::quick::{quick_guess, quick_sqrt};
+use root_code::quick::{bits_of, quick_guess, quick_sqrt};
 
 // The squares of the errors of a block's rows. No row waits for another, here and in the roots below.
+// Kept: squares and bits by their places, here and in the two loops below that fill a list for a proof: after a loop over
+// `iter_mut().zip(..)`, as `quick_guesses` has it, nothing is known of what the list holds.
 fn square_errors(squares: &mut [f64], by: Projection, rows: Rows)
     requires { length squares.old ≡ length rows.flags.now }
     ensures { Squares by.camera by.h rows.entry.numbers.now (length rows.entry.flags.now) squares.new }
@@ -22,23 +24,33 @@ fn square_errors(squares: &mut [f64], by: Projection, rows: Rows)
     }
 }
 
-// Guesses for the roots of the squares, on which nothing rests. They have a loop of their own: what is left for each row is then so
-// short that the processor works on several rows at a time. The compiled loops take one row a turn: before each comparison of floats
-// the compiler sets a fence (llvm.arithmetic.fence), and LLVM vectorises no loop that has one.
-fn quick_guesses(guesses: &mut [u64], squares: &[f64]) {
-    for (guess, square) in guesses.iter_mut().zip(squares) {
-        *guess = quick_guess(*square);
+// The bits of the squares. They have a loop of their own: the compiler sets a fence (llvm.arithmetic.fence) before each comparison of
+// floats, and LLVM vectorises no loop that has one. Guesses and roots, which compare none, are worked out two at a time.
+fn square_bits(operands: &mut [u64], squares: &[f64])
+    requires { length operands.old ≡ length squares.now }
+    ensures { AllBits (length squares.now) operands.new squares.now }
+{
+    for (j, operand) in operands.iter_mut().enumerate() {
+        *operand = bits_of(squares[j]);
     }
 }
 
-// The roots of the squares from the guesses that stand in their places. All of them are right if the reply is below 2^37.
-fn quick_roots(bits: &mut [u64], squares: &[f64]) -> u64
-    requires { length bits.old ≡ length squares.now }
-    ensures { QuickRoots (length squares.now) bits.new result squares.now }
+// Guesses for the roots, on which nothing rests. They have a loop of their own: what is left for each row is then so short that the
+// processor works on several rows at a time.
+fn quick_guesses(guesses: &mut [u64], operands: &[u64]) {
+    for (guess, operand) in guesses.iter_mut().zip(operands) {
+        *guess = quick_guess(*operand);
+    }
+}
+
+// The roots from the guesses that stand in their places. All of them are right if the reply is below 2^37.
+fn quick_roots(bits: &mut [u64], operands: &[u64]) -> u64
+    requires { length bits.old ≡ length operands.now }
+    ensures { (xs : List Float) → AllBits (length operands.now) operands.now xs → QuickRoots (length operands.now) bits.new result xs }
 {
     let mut wrong: u64 = 0;
     for (j, b) in bits.iter_mut().enumerate() {
-        let q = quick_sqrt(squares[j], *b);
+        let q = quick_sqrt(operands[j], *b);
         *b = q.bits;
         wrong |= q.wrong;
     }
@@ -54,8 +66,8 @@ fn one_in_front(flag: u8) -> u8
 }
 
 // How many of a block's rows lie in front of the camera.
-// Kept: a loop over the flags: with `filter` and `count`, which was proved too, 900 rows take 175,543 instructions in place of 157,297,
-// and 16,359 in place of 4,015 where none lies in front, both in a library of `mean_of_rows` alone.
+// Kept: a loop over the flags: with `filter` and `count`, which was proved too, 900 rows take 18,246 instructions more, and 12,344 more
+// where none lies in front.
 #[tactic(auto, using(crate::proofs::Steps::front_turns))]
 fn in_front(block: Block) -> u8
     ensures { result ≡ in_front block.entry.rows.flags.now (length block.entry.rows.flags.now) }
@@ -103,15 +115,18 @@ fn add_dense(
     by: Projection,
     block: Block,
     squares: &mut [f64],
+    operands: &mut [u64],
     bits: &mut [u64],
 ) -> Option<ErrorSum>
     requires squares { length squares.old ≡ length block.rows.flags.now }
+    requires operands { length operands.old ≡ length block.rows.flags.now }
     requires bits { length bits.old ≡ length block.rows.flags.now }
     ensures { IfSome result (λ s. s ≡ add_all_rows total by block.entry.rows) }
 {
     square_errors(squares, by, block.rows);
-    quick_guesses(bits, squares);
-    if quick_roots(bits, squares) >= 0x20_0000_0000 {
+    square_bits(operands, squares);
+    quick_guesses(bits, operands);
+    if quick_roots(bits, operands) >= 0x20_0000_0000 {
         return None;
     }
     Some(add_roots(total, block, bits))
@@ -128,20 +143,22 @@ fn add_sparse(total: ErrorSum, by: Projection, block: Block) -> ErrorSum
     add_rows(total, by, block.rows)
 }
 
-// A block's rows, whichever way is faster: squares and bits have a place for each.
+// A block's rows, whichever way is faster: the three lists have a place for each.
 fn add_block(
     total: ErrorSum,
     by: Projection,
     block: Block,
     squares: &mut [f64],
+    operands: &mut [u64],
     bits: &mut [u64],
 ) -> ErrorSum
     requires squares { length squares.old ≡ length block.rows.flags.now }
+    requires operands { length operands.old ≡ length block.rows.flags.now }
     requires bits { length bits.old ≡ length block.rows.flags.now }
     ensures { result ≡ add_all_rows total by block.entry.rows }
 {
     if 8 <= in_front(block) {
-        if let Some(sum) = add_dense(total, by, block, squares, bits) {
+        if let Some(sum) = add_dense(total, by, block, squares, operands, bits) {
             return sum;
         }
     }
@@ -153,6 +170,7 @@ pub fn add_blocks(total: ErrorSum, by: Projection, rows: Rows) -> ErrorSum
     ensures { result ≡ add_all_rows total by rows.entry }
 {
     let mut squares = [0.0; 16];
+    let mut operands = [0u64; 16];
     let mut bits = [0u64; 16];
     let mut sum = total;
     for (numbers, flags) in rows.numbers.chunks(64).zip(rows.flags.chunks(16)) {
@@ -160,7 +178,14 @@ pub fn add_blocks(total: ErrorSum, by: Projection, rows: Rows) -> ErrorSum
         let block = Block {
             rows: Rows { numbers, flags },
         };
-        sum = add_block(sum, by, block, &mut squares[..n], &mut bits[..n]);
+        sum = add_block(
+            sum,
+            by,
+            block,
+            &mut squares[..n],
+            &mut operands[..n],
+            &mut bits[..n],
+        );
     }
     sum
 }

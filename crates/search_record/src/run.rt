@@ -28,7 +28,7 @@ pub struct Options {
 // How far the run has come. `demand` is how many numbers the lent list must have. `step` is the one that the current list was made with,
 // 0 in round 0. Of the list's `len` seeds the first `at` are answered. `number` is the next candidate's, counted over the run.
 // `round` is 01's, from 0; `over` says that the run is over, with a result or with 11.
-// Kept: lengths and places in a list that isn't here, since the record holds numbers alone and the list is lent (no heap).
+// Kept: lengths and places in a list that isn't here, here and below, since the record holds numbers alone and the list is lent (no heap).
 #[derive(Clone, Copy, Default)]
 pub struct Place {
     pub demand: usize,

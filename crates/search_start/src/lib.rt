@@ -157,6 +157,7 @@ fn further_refusal(inputs: Inputs) -> Result<(), Refusal>
 }
 
 // Start's refusals after those of the options, of a lent list with this many numbers, where a run demands this many.
+// Kept: a length and no list, here and below: no more of it is read.
 fn lists_refusal(inputs: Inputs, demand: usize, list_len: usize) -> Result<(), Refusal>
     requires { demand ≡ start_demand inputs.views inputs.options inputs.tilt_x_seeds.now inputs.tilt_y_seeds.now inputs.decomposition.now }
     ensures { let i = inputs.entry in result ≡ first_refusal (lists_checks i.views i.options i.tilt_x_seeds.now i.tilt_y_seeds.now i.decomposition.now list_len) }

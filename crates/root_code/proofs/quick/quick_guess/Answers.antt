@@ -1,7 +1,7 @@
 -- `root_code::quick::quick_guess` meets its contract. Assumes nothing.
 use Rattle.std.proofs.Common.{arith}
-use Rattle.root_code.specs.Bits.{no_nan, number_bits}
-use Rattle.root_code.proofs.Max.{number_max}
+use Rattle.root_code.specs.Bits.{no_nan}
+use Rattle.root_code.proofs.Guess.{small_bits, guess_number}
 use Rattle.root_code.proofs.quick.quick_guess.Goals as goal
 
 pub float_from_bits-s : goal.float_from_bits-s
@@ -11,4 +11,5 @@ pub float_from_bits-y : goal.float_from_bits-y
 float_from_bits-y c = no_nan _ (omega arith)
 
 pub float_to_bits-result : goal.float_to_bits-result
-float_to_bits-result c = number_max _ _ _ (number_bits _ (omega arith)) c.max.ensures
+float_to_bits-result c =
+    guess_number (small_bits _ (omega arith)) (small_bits _ (omega arith)) (small_bits _ (omega arith)) (small_bits _ (omega arith)) (small_bits _ (omega arith)) (small_bits _ (omega arith))
