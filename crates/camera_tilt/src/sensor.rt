@@ -84,13 +84,14 @@ pub fn checked_inverse(h: [[f64; 3]; 3]) -> Result<[[f64; 3]; 3], Refusal>
 }
 
 // A row times (x, y, 1).
-fn row_at(row: [f64; 3], p: Pt2) -> f64
+pub fn row_at(row: [f64; 3], p: Pt2) -> f64
     ensures { result ≡ row_at row p }
 {
     row[0] * p.x + row[1] * p.y + row[2] * 1.0
 }
 
-fn forward_depth(z: f64) -> f64
+// What divides a point's first two coordinates on its way forward.
+pub fn forward_depth(z: f64) -> f64
     ensures { result ≡ forward_depth z }
 {
     float::max(1e-12, z)

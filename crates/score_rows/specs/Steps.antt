@@ -2,11 +2,15 @@
 use Rattle.std.specs.Prelude.{◌≡◌, ℕ, zero, suc, ◌+◌, ◌*◌, ◌%◌, ◌^◌, ◌<◌, Bool, true, cond, ◌&&◌, List, length, ◌==◌, slice_index, slice_index_or, Float}
 use Rattle.std.specs.Float.{nan, binary64}
 use Rattle.std.specs.Float.Ieee.{of_bits}
-use Rattle.float.specs.Binary64.{◌+₆₄◌}
+use Rattle.float.specs.Binary64.{◌+₆₄◌, ◌/₆₄◌}
 use Rattle.float.specs.Float.{is_finite}
 use Rattle.root.specs.Root.{root}
 use Rattle.root_code.specs.Quick.{BitsOf, Quick}
+use Rattle.camera_models.specs.Distortion.{distorted}
+use Rattle.camera_models.specs.Intrinsics.{sensor_to_pixel}
+use Rattle.camera_models.specs.declared.math.Pt2.{Pt2}
 use Rattle.camera_tilt.specs.Matrix.{Matrix}
+use Rattle.camera_tilt.specs.Sensor.{homogeneous, forward_depth}
 use Rattle.point_normalise.specs.Points.{point_at, squared_distance}
 use Rattle.score_rows.specs.Rows.{projected}
 use Rattle.score_camera.specs.declared.pinhole.PinholeCamera.{PinholeCamera}
@@ -55,6 +59,25 @@ one_in_front flag = cond (flag == 1) 1 0
 unfoldable pub in_front : List ℕ → ℕ → ℕ
 in_front flags zero = 0
 in_front flags (suc j) = in_front flags j + one_in_front (slice_index flags j)
+
+-- the three lists start with the first n rows' points on the sensor, not yet divided
+abbrev pub Tilted : PinholeCamera → Matrix → List Float → ℕ → List Float → List Float → List Float → Type 0
+Tilted c h numbers n xs ys zs =
+    (j : ℕ) → j < n →
+    let p = distorted c.dist (point_at numbers (4 * j)) in
+    (slice_index_or xs j nan ≡ homogeneous h p 0) × (slice_index_or ys j nan ≡ homogeneous h p 1) × (slice_index_or zs j nan ≡ homogeneous h p 2)
+
+-- and their depths
+abbrev pub Depths : ℕ → List Float → List Float → Type 0
+Depths n zs depths = (j : ℕ) → j < n → slice_index_or depths j nan ≡ forward_depth (slice_index_or zs j nan)
+
+-- squares starts with those of the errors of the first n such points
+abbrev pub SquaredErrors : PinholeCamera → List Float → ℕ → List Float → List Float → List Float → List Float → Type 0
+SquaredErrors c numbers n xs ys depths squares =
+    (j : ℕ) → j < n →
+    let d = slice_index_or depths j nan in
+    let p : Pt2 = record { x = slice_index_or xs j nan /₆₄ d; y = slice_index_or ys j nan /₆₄ d } in
+    slice_index_or squares j nan ≡ squared_distance (sensor_to_pixel c.k p) (point_at numbers (4 * j + 2))
 
 -- xs starts with the squares of the errors of the first n rows
 abbrev pub Squares : PinholeCamera → Matrix → List Float → ℕ → List Float → Type 0

@@ -6,10 +6,10 @@
 mod blocks;
 mod rows;
 
-ghost use Rattle.std.specs.Prelude.{◌≡◌, ◌<◌, length};
+ghost use Rattle.std.specs.Prelude.{◌≡◌};
 ghost use Rattle.point_normalise.specs.Points.{squared_distance};
 ghost use Rattle.score_rows.specs.Rows.{rows_of, tilt_matrix, projected, row_error, is_counted, error_sum, mean_of};
-ghost use Rattle.score_rows.specs.Steps.{add_error, square_at, add_all_rows};
+ghost use Rattle.score_rows.specs.Steps.{add_error, add_all_rows};
 
 use crate::blocks::add_blocks;
 use crate::rows::{Rows, rows_of};
@@ -101,17 +101,6 @@ fn with_error(total: ErrorSum, counted: bool, err: f64) -> ErrorSum
     let mut lent = total;
     add_if_counted(&mut lent, counted, err);
     lent
-}
-
-// The square of the error of row k.
-#[tactic(auto, unfolding(crate::specs::Steps::square_at))]
-fn square_at(by: Projection, rows: Rows, k: usize) -> f64
-    requires { k < length rows.flags.now }
-    ensures { result ≡ square_at by.camera by.h rows.entry.numbers.now k }
-{
-    let ideal = linalg::point_at(rows.numbers, 4 * k);
-    let seen = linalg::point_at(rows.numbers, 4 * k + 2);
-    squared_error(by, ideal, seen)
 }
 
 // One more row. It is counted if it lies in front of the camera and has a finite error, and not projected if it lies behind.
