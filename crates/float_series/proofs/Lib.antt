@@ -1,3 +1,2 @@
 pub mod Ranges
 pub mod Theorem
-pub mod Tables

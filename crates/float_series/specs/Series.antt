@@ -1,9 +1,8 @@
 -- Sine and cosine of a small number, from sixteen coefficients: what is computed, and the exact sum of eight terms that it stands for. Definitions only.
-use Rattle.std.specs.Prelude.{ℕ, zero, suc, ◌*◌, ◌%◌, Bool, false, leb, List, [], ◌∷◌, Float}
+use Rattle.std.specs.Prelude.{ℕ, zero, suc, ◌*◌, ◌%◌, Bool, false, leb, Float}
 use Rattle.std.specs.Float.{binary64}
 use Rattle.std.specs.Float.Ieee.{round}
 use Rattle.float.specs.Binary64.{◌+₆₄◌, ◌*₆₄◌}
-use Rattle.float.specs.Literals.{plus_zero}
 use Rattle.float_laws.specs.Fraction.{Fraction, signed, ◌⊕◌, ◌⊗◌}
 
 -- which of the two power series
@@ -32,12 +31,6 @@ unfoldable pub horner_of : Float → ℕ → ℕ → Float
 unfolding coefficient_of
 horner_of q zero n = coefficient_of n
 horner_of q (suc j) n = horner_of q j (suc (suc n)) *₆₄ q +₆₄ coefficient_of n
-
--- the same of a table of coefficients
-unfoldable pub horner_sum : Float → List Float → Float
-horner_sum q [] = plus_zero
-horner_sum q (c ∷ []) = c
-horner_sum q (c ∷ d ∷ ds) = horner_sum q (d ∷ ds) *₆₄ q +₆₄ c
 
 unfoldable pub series_of : Series → Float → Float
 unfolding horner_of

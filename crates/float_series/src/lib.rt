@@ -3,59 +3,67 @@
 
 #![tactic(auto)]
 
-ghost use Rattle.std.specs.Prelude.{◌≡◌, cond, Ok, Err};
+ghost use Rattle.std.specs.Prelude.{◌≡◌, ◌≤◌, ◌<◌, cond, Ok, Err};
 ghost use Rattle.common.specs.declared.Refusal.TheVariants.{BeyondHalf};
-ghost use Rattle.float_series.specs.Series.{sines, cosines, horner_sum, series_of};
+ghost use Rattle.float_series.specs.Series.{sines, cosines, coefficient_of, horner_of, series_of};
 ghost use Rattle.float_series.specs.Answer.{beyond_half, answer_of};
 
 use common::Refusal;
 
-// ± 1 / n!, rounded to nearest, for the even n and for the odd ones, from the lowest on.
-const COSINES: [f64; 8] = [
+// Entry n: 1 / n!, with the sign of the series' term, rounded to nearest. One rule is proved over all entries: `coefficient`.
+const COEFFICIENTS: [f64; 16] = [
+    1.0,
     1.0,
     -0.5,
-    0.041666666666666664,
-    -0.001388888888888889,
-    2.48015873015873e-05,
-    -2.755731922398589e-07,
-    2.08767569878681e-09,
-    -1.1470745597729725e-11,
-];
-
-const SINES: [f64; 8] = [
-    1.0,
     -0.16666666666666666,
+    0.041666666666666664,
     0.008333333333333333,
+    -0.001388888888888889,
     -0.0001984126984126984,
+    2.48015873015873e-05,
     2.7557319223985893e-06,
+    -2.755731922398589e-07,
     -2.505210838544172e-08,
+    2.08767569878681e-09,
     1.6059043836821613e-10,
+    -1.1470745597729725e-11,
     -7.647163731819816e-13,
 ];
 
-// From the last coefficient on, times q plus the one before.
-fn horner(coefficients: [f64; 8], q: f64) -> f64
-    ensures { result ≡ horner_sum q coefficients }
+fn coefficient(n: usize) -> f64
+    requires { n < 16 }
+    ensures { result ≡ coefficient_of n }
 {
-    coefficients[..7]
-        .iter()
-        .rev()
-        .fold(coefficients[7], |sum, &c| sum * q + c)
+    COEFFICIENTS[n]
+}
+
+// From the last of eight coefficients on, times q plus the one before: first is 0 for the cosine and 1 for the sine.
+// Kept: a loop over places: one table holds the coefficients of both sums, and each takes every other one.
+#[tactic(auto, unfolding(crate::specs::Series::horner_of))]
+fn horner(first: usize, q: f64) -> f64
+    requires { first ≤ 1 }
+    ensures { result ≡ horner_of q 7 first }
+{
+    let mut sum = coefficient(first + 14);
+    for j in (0..7).rev() {
+        sum = sum * q + coefficient(first + 2 * j);
+    }
+    sum
 }
 
 // The two sums, for any number; of one that `beyond` passes they are its sine and its cosine.
-#[tactic(auto, using(crate::proofs::Tables::sine_is))]
+#[tactic(auto, unfolding(crate::specs::Series::series_of))]
 pub fn sine_sum(x: f64) -> f64
     ensures { result ≡ series_of sines x }
 {
-    horner(SINES, x * x) * x
+    horner(1, x * x) * x
 }
 
-#[tactic(auto, using(crate::proofs::Tables::cosine_is))]
+#[tactic(auto, unfolding(crate::specs::Series::series_of))]
 pub fn cosine_sum(x: f64) -> f64
     ensures { result ≡ series_of cosines x }
 {
-    horner(COSINES, x * x)
+    horner(0, x * x)
 }
 
 // What is refused: NaN, and what is beyond 0.5 in size.

@@ -9,12 +9,11 @@ use camera_models::intrinsics::FxFyCxCy;
 use camera_tilt::sensor::ScheimpflugParams;
 use seed_rules::CandidateSeed;
 
-// By two comparisons, which take no branch on the sign of the difference.
+#[tactic(auto, unfolding(seed_rules::specs::Rules::closer))]
 fn closer(limit: f64, x: f64, y: f64) -> bool
     ensures { result ≡ rules.closer limit x y }
 {
-    let d = x - y;
-    d < limit && -d < limit
+    float::abs(x - y) < limit
 }
 
 #[tactic(auto, unfolding(seed_rules::specs::Rules::tilt_near))]

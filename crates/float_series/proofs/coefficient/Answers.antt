@@ -1,0 +1,12 @@
+-- `float_series::coefficient` meets its contract: the table is the list of the definition's sixteen values, which antt computes, and one law reads it.
+-- Assumes nothing.
+use Rattle.std.proofs.Common.{rules}
+use Rattle.std.specs.Float.{nan}
+use Rattle.std.specs.Float.Ieee.{of_bits, round}
+use Rattle.common.specs.Table.{table_at}
+use Rattle.float_series.specs.Series.{coefficient_of}
+use Rattle.float_series.proofs.coefficient.Goals as goal
+
+pub returns : goal.returns
+unfolding coefficient_of of_bits round
+returns c = table_at coefficient_of 16 c.args.n nan (search rules)
