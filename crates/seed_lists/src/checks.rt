@@ -9,11 +9,13 @@ use camera_models::intrinsics::FxFyCxCy;
 use camera_tilt::sensor::ScheimpflugParams;
 use seed_rules::CandidateSeed;
 
-#[tactic(auto, unfolding(seed_rules::specs::Rules::closer))]
+// Kept: no `float::abs`: for -0 it compares once more than is needed here, in the inner loop of a list of seeds.
 fn closer(limit: f64, x: f64, y: f64) -> bool
     ensures { result ≡ rules.closer limit x y }
 {
-    float::abs(x - y) < limit
+    let d = x - y;
+    let size = if d < 0.0 { -d } else { d };
+    size < limit
 }
 
 #[tactic(auto, unfolding(seed_rules::specs::Rules::tilt_near))]
