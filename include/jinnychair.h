@@ -465,7 +465,8 @@ jc_start_flat jc_start(size_t views, jc_options options, const double *tilt_x_se
                        jc_intrinsics base, jc_pt2 center, double *list, size_t list_len);
 /* Hands out the list's next seed, as a candidate; or says that the run is over and has a result. 9, 10, 11. */
 jc_next_flat jc_next(jc_run_record run, const double *list, size_t list_len);
-/* Copies the waiting seed's six numbers to the front of `to`, and returns 6; 0 where no seed waits, or the list or `to` is too short. */
+/* Copies the waiting seed's six numbers to the front of `to`, and returns 6; 0 where no seed waits, or the list is too short. A `to` with fewer
+ * than six places is no question: it returns 0 then too, writes nothing, and says nothing about the run. */
 size_t jc_seed(jc_run_record run, const double *list, size_t list_len, double *to, size_t to_len);
 /* Takes what the host found for the waiting seed; a round's last answer writes the next list. 12, 10, 13, 27. is_solved 0: the host failed, and
  * neither solved nor rows nor flags are read. Sines and cosines are those of the seed's tilts, by the library's own series.

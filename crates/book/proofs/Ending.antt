@@ -31,7 +31,8 @@ use Rattle.book.specs.Theorem.{Ends}
 use Rattle.book.proofs.Cases.{case_list, case_result}
 use Rattle.book.proofs.Good.{Core, Good, at_most}
 use Rattle.book.proofs.Tally.{tally_total}
-use Rattle.book.proofs.RunOf.{run_of, run_number}
+use Rattle.book.specs.RunOf.{run_of}
+use Rattle.book.proofs.RunOf.{run_number}
 
 -- ---- what stays true of the record
 -- of its numbers

@@ -13,7 +13,8 @@ use Rattle.book.proofs.Cases.{case_result, case_chosen}
 use Rattle.book.proofs.Lists.{lend, short}
 use Rattle.book.proofs.Moves.{entered_for, entry, enter_holds, entered_by}
 use Rattle.book.proofs.Good.{waits_going, steps}
-use Rattle.book.proofs.RunOf.{run_of, State, run-fields, run-bests, sound_run}
+use Rattle.book.specs.RunOf.{run_of}
+use Rattle.book.proofs.RunOf.{State, run-fields, run-bests, sound_run}
 use Rattle.book.proofs.Simulation.{when_none_waits, when_short, when_long, await_run, await_there, in_list, in_part}
 
 -- ---- the run accepts what the book enters

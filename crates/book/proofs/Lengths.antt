@@ -1,14 +1,23 @@
--- 02, E10: exactly how many seeds a later round's list has. Assumes nothing.
-use Rattle.std.proofs.Common.{ℕ, ◌<◌, ◌≡◌, ap, subst, ◌∙◌, true, false, length}
-use Rattle.std.specs.Float.Ieee.{lt, le}
-use Rattle.float.specs.Literals.{half₆₄}
+-- 02, E10: a later round's list, exactly how many seeds it has, and its tilts about y in a one-axis run. Assumes nothing.
+use Rattle.std.proofs.Common.{ℕ, ◌<◌, arith, ◌≡◌, ap, subst, ◌∙◌, true, false, List, ◌++◌, length, Float}
+use Rattle.std.specs.Float.Ieee.{lt, le, eq}
+use Rattle.common.specs.All.{all_map}
+use Rattle.common.specs.Each.{All}
+use Rattle.float.specs.Literals.{plus_zero, half₆₄}
+use Rattle.seed_rules.specs.declared.CandidateSeed.{CandidateSeed}
+use Rattle.seed_rules.specs.Rules.{untilted_y}
+use Rattle.seed_rules.specs.Layout.{flat}
+use Rattle.score_floor.specs.Floor.{seeds_between}
 use Rattle.score_best.specs.declared.Candidate.{Candidate}
 use Rattle.seed_counts.specs.Admissible.{seed_count, least_step, most_step}
 use Rattle.seed_counts.proofs.Exact.{round_length}
-use Rattle.book.specs.Book.{Inputs, Book, entries, step_of, offsets_x, offsets_y, list_around}
+use Rattle.book.specs.Book.{Inputs, demand, Book, entries, step_of, offsets_x, offsets_y, list_around}
 use Rattle.book.specs.Rounds.{LaterRound}
 use Rattle.book.proofs.Made.{around}
+use Rattle.book.proofs.Lists.{Front, seeds_there}
+use Rattle.book.proofs.Seeds.{Seeded}
 use Rattle.book.proofs.Good.{Core, Good}
+use Rattle.book.proofs.RunOf.{State}
 
 -- ---- the list around a candidate
 around_length : (i : Inputs) (r : ℕ) (w : Candidate) → lt half₆₄ i.max ≡ false → le least_step (step_of r i.step) ≡ true → le (step_of r i.step) most_step ≡ true
@@ -16,11 +25,30 @@ around_length : (i : Inputs) (r : ℕ) (w : Candidate) → lt half₆₄ i.max �
 unfolding list_around
 around_length i r w h l u = round_length i.one_axis (step_of r i.step) w.sensor w.camera.k i.max h l u
 
--- ---- of a book
-own_round : (b : Book) → Core b → 0 < b.round → LaterRound b.inputs (entries b) b.round (length b.list)
-own_round b h p =
+-- ---- of a book, whose list stands in the front of the lent one
+own_round : (b : Book) (l : List Float) → Core b → Front (demand b.inputs) b.list l → 0 < b.round → LaterRound b.inputs (entries b) b.round (length b.list) l
+own_round b l h f p =
     let a = around b h.planned h.made p in
-    record { centre = a.centre; is_best = a.is_best; exactly = λ l u. ap length a.list_is ∙ around_length b.inputs b.round a.centre h.sized.small_bound l u }
+    record {
+      centre = a.centre;
+      is_best = a.is_best;
+      total_is = ap length a.list_is;
+      behind = f.tail;
+      list_is = f.list_is ∙ ap (λ (ss : List CandidateSeed). flat ss ++ f.tail) a.list_is;
+      exactly = λ s u. ap length a.list_is ∙ around_length b.inputs b.round a.centre h.sized.small_bound s u;
+    }
 
-pub later_round : (i : Inputs) (b : Book) → Good i b → 0 < b.round → LaterRound i (entries b) b.round (length b.list)
-later_round i b g p = subst (λ (j : Inputs). LaterRound j (entries b) b.round (length b.list)) g.inputs_are (own_round b g.core p)
+pub later_round : (i : Inputs) (b : Book) (l : List Float) → State i b l → 0 < b.round → LaterRound i (entries b) b.round (length b.list) l
+later_round i b l s p = subst (λ (j : Inputs). LaterRound j (entries b) b.round (length b.list) l) s.good.inputs_are (own_round b l s.good.core s.there p)
+
+-- ---- the tilts about y that stand there in a one-axis run
+abbrev Untilted : CandidateSeed → Type 0
+Untilted s = eq s.sensor.tilt_y plus_zero ≡ true
+
+untilted_list : (i : Inputs) (b : Book) → Good i b → i.one_axis ≡ true → All Untilted b.list
+untilted_list i b g one =
+    all_map (Seeded i b.round) Untilted (λ s h. unfold untilted_y in h.untilted one) b.list
+    (subst (λ (j : Inputs). All (Seeded j b.round) b.list) g.inputs_are g.core.seeds)
+
+pub listed_untilted : (i : Inputs) (b : Book) (l : List Float) → State i b l → i.one_axis ≡ true → All Untilted (seeds_between l 0 (length b.list))
+listed_untilted i b l s one = rw (seeds_there b.list l 0 s.there (omega arith)) (untilted_list i b s.good one)

@@ -31,7 +31,8 @@ use Rattle.book.proofs.Planned.{planned_opened}
 use Rattle.book.proofs.Seeds.{Seeded}
 use Rattle.book.proofs.Made.{made_opened}
 use Rattle.book.proofs.Good.{Core}
-use Rattle.book.proofs.RunOf.{run_of, State}
+use Rattle.book.specs.RunOf.{run_of}
+use Rattle.book.proofs.RunOf.{State}
 
 empty_is : (ss : List CandidateSeed) → eqb (length ss) 0 ≡ is_empty ss
 empty_is [] = refl

@@ -1,42 +1,15 @@
 -- The run's record as a function of the book, and that it is sound. Assumes nothing.
 use Rattle.std.proofs.Common.{◌+◌, ◌*◌, ◌≤◌, arith, ◌≡◌, refl, Bool, true, false, not, List, lt-ltb, le-leb, length, length-append, Float}
-use mathlib.Core.Option.{Option, none, some}
 use Rattle.common.specs.Tests.{case}
 use Rattle.seed_rules.specs.declared.CandidateSeed.{CandidateSeed}
 use Rattle.score_best.specs.Best.{Chosen, nothing, chosen, no_best, held}
-use Rattle.search_record.specs.declared.run.Run.{Run}
-use Rattle.search_record.specs.declared.run.Waiting.{Waiting}
-use Rattle.journal_line.specs.Outcome.{recorded_as}
-use Rattle.search_record.specs.declared.run.LastAnswer.{LastAnswer}
-use Rattle.search_record.specs.Record.{nobody, no_answer, last_answer, has_place, sound}
+use Rattle.search_record.specs.Record.{has_place, sound}
 use Rattle.search_record.specs.Laws.{add_up_true}
-use Rattle.book.specs.Book.{Inputs, demand, Entry, Book, entries, number, current, round_best_of, run_best_of, step_of, is_nothing, last_of, tally}
+use Rattle.book.specs.Book.{Inputs, demand, Book, entries, number, current, round_best_of, run_best_of, is_nothing, last_of, tally}
 use Rattle.book.proofs.Lists.{Front}
 use Rattle.book.proofs.Good.{Good}
 use Rattle.book.proofs.Tally.{tally_total}
-
--- ---- the run that goes with a book
-abbrev pub waiting_of : Bool → CandidateSeed → Waiting
-waiting_of true s = record { is_waiting = true; seed = s }
-waiting_of false s = nobody
-
-abbrev pub last_in : Option Entry → LastAnswer
-last_in none = no_answer
-last_in (some e) = last_answer e.number e.round e.seed (recorded_as e.outcome)
-
-unfoldable pub run_of : Book → Run
-run_of b =
-    let i = b.inputs in
-    record {
-      options = record { refine_rounds = i.rounds; refine_step = i.step; max_abs_tilt = i.max; one_axis = i.one_axis; min_counted = i.share };
-      center = i.center;
-      place = record { demand = demand i; round = b.round; step = step_of b.round i.step; len = length b.list; at = length b.answered; number = number b; over = b.over };
-      waiting = waiting_of b.waits (current b);
-      round_best = held (round_best_of b);
-      run_best = held (run_best_of b);
-      last = last_in (last_of (entries b));
-      counts = tally (entries b);
-    }
+use Rattle.book.specs.RunOf.{run_of, waiting_of, last_in}
 
 -- a book between the calls, and the lent list: the round's seeds stand in its front
 pub record State (i : Inputs) (b : Book) (l : List Float) : Type 0 where

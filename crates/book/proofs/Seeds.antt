@@ -8,7 +8,7 @@ use Rattle.camera_tilt.specs.declared.sensor.ScheimpflugParams.{ScheimpflugParam
 use Rattle.seed_rules.specs.declared.CandidateSeed.{CandidateSeed}
 use Rattle.seed_rules.specs.Rules.{in_bound, untilted_y, offsets, y_offsets}
 use Rattle.seed_rules.specs.AnyOffsets.{most_seeds}
-use Rattle.seed_rules.proofs.AnyOffsets.{AtOffsets}
+use Rattle.seed_rules.specs.Theorem.{AtOffsets}
 use Rattle.seed_rules.proofs.AnyOffsets.{most_nine, round_over, round_few, untilted_around}
 use Rattle.score_best.specs.declared.Candidate.{Candidate}
 use Rattle.score_best.specs.Best.{chosen, best_of}

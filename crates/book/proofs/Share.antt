@@ -20,7 +20,8 @@ use Rattle.book.specs.Share.{AnsweredBy, Rests}
 use Rattle.book.proofs.Cases.{case_result}
 use Rattle.book.proofs.Moves.{entry, entered_by, grows, call_by}
 use Rattle.book.proofs.Good.{steps}
-use Rattle.book.proofs.RunOf.{run_of, State, run-fields}
+use Rattle.book.specs.RunOf.{run_of}
+use Rattle.book.proofs.RunOf.{State, run-fields}
 use Rattle.book.proofs.Simulation.{scored_append, call_agrees}
 
 -- ---- of one answer

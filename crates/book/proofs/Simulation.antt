@@ -42,7 +42,8 @@ use Rattle.book.proofs.Moves.{entry, Stands}
 use Rattle.book.proofs.Seeds.{nine}
 use Rattle.book.proofs.Good.{Proper, Good, waits_going, at_most}
 use Rattle.book.proofs.Tally.{tally_snoc}
-use Rattle.book.proofs.RunOf.{run_of, State, run_waiting, run_round_best, run_run_best, run_max, run_one_axis, run-fields, run-bests, sound_run, last_in, run_last}
+use Rattle.book.specs.RunOf.{run_of, last_in}
+use Rattle.book.proofs.RunOf.{State, run_waiting, run_round_best, run_run_best, run_max, run_one_axis, run-fields, run-bests, sound_run, run_last}
 use Rattle.book.proofs.Lists.{seed_at_lem, part_at, seeds_there, Front, lend, give_back, write_front, no_front, short}
 use Rattle.search_calls.specs.Last.{has_line, recorded_in, last_def}
 use Rattle.search_calls.specs.Counts.{counts_def}

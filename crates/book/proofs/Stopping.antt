@@ -15,7 +15,8 @@ use Rattle.score_outcome.specs.Reasons.{Outcome}
 use Rattle.score_outcome.specs.Facts.{ScoredFacts}
 use Rattle.score_best.specs.declared.Candidate.{Candidate}
 use Rattle.score_best.specs.Best.{beats, chosen, best_of, candidate_of}
-use Rattle.score_best.proofs.Order.{HasNumber, lower_beats, best_leads, lead_on, found_leads}
+use Rattle.score_best.specs.Theorem.{HasNumber}
+use Rattle.score_best.proofs.Order.{lower_beats, best_leads, lead_on, found_leads}
 use Rattle.score_floor.specs.Floor.{floor_of}
 use Rattle.score_floor.proofs.FloorLaws.{floor_number, above_floor}
 use Rattle.book.specs.Calls.{Call}

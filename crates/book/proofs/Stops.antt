@@ -19,7 +19,8 @@ use Rattle.book.specs.Trace.{all_answers, run_after, list_after}
 use Rattle.book.specs.Stop.{NothingGained, Stops}
 use Rattle.book.proofs.Made.{all_to, so_far}
 use Rattle.book.proofs.Good.{Good}
-use Rattle.book.proofs.RunOf.{run_of, State, run_over, run_round, run_run_best}
+use Rattle.book.specs.RunOf.{run_of}
+use Rattle.book.proofs.RunOf.{State, run_over, run_round, run_run_best}
 use Rattle.book.proofs.Simulation.{stop_is}
 use Rattle.book.proofs.Walks.{walks}
 use Rattle.book.proofs.Stopping.{since, nothing_gained}

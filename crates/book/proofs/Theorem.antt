@@ -32,7 +32,8 @@ use Rattle.book.proofs.Planned.{done}
 use Rattle.book.proofs.Seeds.{Seeded}
 use Rattle.book.proofs.PerRound.{handings_all, few_handed}
 use Rattle.book.proofs.Good.{Proper, Good, waits_going, current_seeded}
-use Rattle.book.proofs.RunOf.{run_of, State, run-fields, run-bests, sound_run, count_bound}
+use Rattle.book.specs.RunOf.{run_of}
+use Rattle.book.proofs.RunOf.{State, run-fields, run-bests, sound_run, count_bound}
 use Rattle.book.proofs.Growth.{waiting_handing, handed_in, handing_now}
 use Rattle.book.proofs.Winner.{numbers, winner}
 use Rattle.book.proofs.Walks.{walks}
@@ -41,7 +42,7 @@ use Rattle.book.proofs.Share.{by_calls, rests_by}
 use Rattle.book.proofs.Tilts.{all_tried}
 use Rattle.book.proofs.Taken.{not_refused}
 use Rattle.book.proofs.Simulation.{progress_is}
-use Rattle.book.proofs.Lengths.{later_round}
+use Rattle.book.proofs.Lengths.{later_round, listed_untilted}
 use Rattle.book.proofs.Starts.{starts}
 use Rattle.book.proofs.Opening.{opens}
 use Rattle.book.proofs.Ending.{run_ends}
@@ -156,7 +157,8 @@ follows i b l cs q t =
       later_untilted = λ one. rw out (all_map (HandedSeed i) PlusZeroLater (later_plus i one) (handed_in c) seeded);
       few_answers = rw same (count_bound i c g);
       answer_accepted = rw w.run_is (answer_open i c (list_after (run_of b) l cs) w.state);
-      later_round = rw (w.run_is, same, progress_is i c g) (later_round i c g);
+      later_round = rw (w.run_is, same, progress_is i c g) (later_round i c (list_after (run_of b) l cs) w.state);
+      listed_untilted = rw (w.run_is, progress_is i c g) (listed_untilted i c (list_after (run_of b) l cs) w.state);
       stops = stops i b l cs t;
     }
 

@@ -6,7 +6,8 @@ use Rattle.book.specs.Walk.{run_call, walk}
 use Rattle.book.specs.Trace.{Handing, handed_by, handed, answers, run_after, list_after}
 use Rattle.book.proofs.Moves.{entered_by, grows, call_by}
 use Rattle.book.proofs.Good.{steps}
-use Rattle.book.proofs.RunOf.{run_of, State}
+use Rattle.book.specs.RunOf.{run_of}
+use Rattle.book.proofs.RunOf.{State}
 use Rattle.book.proofs.Simulation.{call_agrees}
 use Rattle.book.proofs.Growth.{answers_agree, handed_in, hands_agree}
 

@@ -12,7 +12,8 @@ use Rattle.seed_rules.specs.Rules.{in_bound, untilted_y}
 use Rattle.float.proofs.Bound.{within_order}
 use Rattle.score_best.specs.declared.Candidate.{Candidate}
 use Rattle.score_best.specs.Best.{beats, chosen, best_of}
-use Rattle.score_best.proofs.Order.{HasNumber, lower_beats, beats_number, Leads, found_leads}
+use Rattle.score_best.specs.Theorem.{HasNumber, Leads}
+use Rattle.score_best.proofs.Order.{lower_beats, beats_number, found_leads}
 use Rattle.book.specs.Book.{Inputs, Entry, scored_of}
 use Rattle.book.specs.Theorem.{Wins}
 use Rattle.book.proofs.Cases.{case_result}

@@ -9,3 +9,4 @@ pub mod Stop
 pub mod Lent
 pub mod Share
 pub mod Theorem
+pub mod RunOf

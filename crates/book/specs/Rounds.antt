@@ -1,11 +1,12 @@
--- 02, E10: whom a later round's list lies around, and exactly how many seeds it has, as a type. Definitions only.
-use Rattle.std.specs.Prelude.{ℕ, zero, suc, ◌≡◌, true, List, leb, eqb}
+-- 02, E10: whom a later round's list lies around, that it is the list around that candidate, and exactly how many seeds it has, as a type. Definitions only.
+use Rattle.std.specs.Prelude.{ℕ, zero, suc, ◌≡◌, ◌++◌, true, List, leb, eqb, length, Float}
 use Rattle.std.specs.Float.Ieee.{le}
 use Rattle.seed_rules.specs.Merge.{keep}
+use Rattle.seed_rules.specs.Layout.{flat}
 use Rattle.seed_counts.specs.Admissible.{seed_count, least_step, most_step}
 use Rattle.score_best.specs.declared.Candidate.{Candidate}
 use Rattle.score_best.specs.Best.{Chosen, nothing, chosen, best_of}
-use Rattle.book.specs.Book.{Inputs, Entry, scored_of, or_else, step_of, offsets_x, offsets_y}
+use Rattle.book.specs.Book.{Inputs, Entry, scored_of, or_else, step_of, offsets_x, offsets_y, list_around}
 
 -- of some answered candidates those of round r, and those up to its end
 abbrev pub of_round : ℕ → List Entry → List Entry
@@ -19,9 +20,13 @@ unfoldable pub centre_of : ℕ → List Entry → Chosen
 centre_of zero es = nothing
 centre_of (suc r) es = or_else (best_of (scored_of (of_round r es))) (best_of (scored_of (up_to r es)))
 
--- Round r, which isn't round 0, and the answered candidates es: where the step that its list was made with is from 1e-11 to 1, the list has just as many seeds as
--- there are admissible x tilts times admissible y tilts. For a smaller or a greater step its length is what merging leaves.
-pub record LaterRound (i : Inputs) (es : List Entry) (r total : ℕ) : Type 0 where
+-- Round r, which isn't round 0, the answered candidates es, and the lent list l: in its front stands the list around that candidate and nothing else of this round. Where
+-- the step that the list was made with is from 1e-11 to 1, it has just as many seeds as there are admissible x tilts times admissible y tilts. For a smaller or a greater
+-- step its length is what merging leaves.
+pub record LaterRound (i : Inputs) (es : List Entry) (r total : ℕ) (l : List Float) : Type 0 where
   pub centre : Candidate
   pub is_best : centre_of r es ≡ chosen centre
+  pub total_is : total ≡ length (list_around i r centre)
+  pub behind : List Float
+  pub list_is : l ≡ flat (list_around i r centre) ++ behind
   pub exactly : le least_step (step_of r i.step) ≡ true → le (step_of r i.step) most_step ≡ true → total ≡ seed_count (offsets_x i r) (offsets_y i r) centre.sensor i.max

@@ -12,13 +12,14 @@ use Rattle.camera_tilt.specs.declared.sensor.ScheimpflugParams.{ScheimpflugParam
 use Rattle.seed_rules.specs.Rules.{tilts, seed_grid}
 use Rattle.seed_rules.specs.AnyOffsets.{most_seeds}
 use Rattle.seed_rules.specs.Layout.{six}
-use Rattle.seed_rules.proofs.Tried.{Tried}
+use Rattle.seed_rules.specs.Theorem.{Tried}
 use Rattle.score_outcome.specs.declared.Finding.{Finding}
 use Rattle.score_outcome.specs.declared.Finding.TheVariants.{Failed}
 use Rattle.score_outcome.specs.Reasons.{Outcome}
 use Rattle.score_camera.specs.Camera.{tangential_bound}
 use Rattle.score_outcome.specs.Evaluation.{row_checks, finding_refusal}
 use Rattle.score_best.specs.declared.Candidate.{Candidate}
+use Rattle.score_floor.specs.Floor.{seeds_between}
 use Rattle.search_record.specs.declared.run.Run.{Run}
 use Rattle.search_record.specs.Record.{sound}
 use Rattle.search_record.specs.declared.run.Options.{Options}
@@ -124,8 +125,11 @@ pub record ByBook (i : Inputs) (b : Book) (kept : List Entry) (r : Run) (l : Lis
   -- where a seed waits Answer takes Failed, and Solved with rows that 13 doesn't refuse: 27 comes from a changed list alone
   pub answer_accepted : (run_after r l cs).waiting.is_waiting ≡ true → (f : Finding) (rows : List Float) (flags : List ℕ)
       → (f ≡ Failed) ⊎ (first_refusal (row_checks rows flags) ≡ Ok tt) → answer_refusal (run_after r l cs) (length (list_after r l cs)) f rows flags ≡ Ok tt
-  -- the progress bar: after round 0 its total is exactly what the rules for the tilts give
-  pub later_round : 0 < (progress_def (run_after r l cs)).round → LaterRound i (all_answers kept r l cs) (progress_def (run_after r l cs)).round (progress_def (run_after r l cs)).total
+  -- after round 0 the lent list is the list around its centre, and the total of the progress bar, its length, is exactly what the rules for the tilts give
+  pub later_round : 0 < (progress_def (run_after r l cs)).round
+      → LaterRound i (all_answers kept r l cs) (progress_def (run_after r l cs)).round (progress_def (run_after r l cs)).total (list_after r l cs)
+  -- in a one-axis run every tilt about y that stands in the list is a zero, handed out or not
+  pub listed_untilted : i.one_axis ≡ true → All (λ s. eq s.sensor.tilt_y plus_zero ≡ true) (seeds_between (list_after r l cs) 0 (progress_def (run_after r l cs)).total)
   -- the stop call, of which n numbers of the list are lent: what it says of this round is so, whatever calls follow
   pub stops : (n : ℕ) (o : Outlook) → stop_def (run_after r l cs) (take n (list_after r l cs)) ≡ Ok o → Stops kept r l cs o
 

@@ -12,7 +12,8 @@ use Rattle.journal_line.specs.Line.{line_bytes, LineFits, Writable, journal_byte
 use Rattle.journal_line.specs.Reading.{newlines, Lines, read_journal}
 use Rattle.journal_line.proofs.Numbers.{newlines_append}
 use Rattle.journal_line.proofs.Whole.{whole_lines}
-use Rattle.journal_line.proofs.Fronts.{NoLine, whole_front, whole_rest, front_read, front_ended, cut_no_line, Cut, cut_journal_lem, journal_append}
+use Rattle.journal_line.specs.Theorem.{NoLine}
+use Rattle.journal_line.proofs.Fronts.{whole_front, whole_rest, front_read, front_ended, cut_no_line, Cut, cut_journal_lem, journal_append}
 use Rattle.journal_replay.specs.declared.Stop.{Stop}
 use Rattle.journal_replay.specs.declared.Stop.TheVariants.{AllTaken, NotOfForm, NotTheRun}
 use Rattle.journal_replay.specs.declared.EndedBy.TheVariants as by

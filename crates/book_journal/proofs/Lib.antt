@@ -16,3 +16,4 @@ pub mod Live
 pub mod Written
 pub mod Reported
 pub mod Theorem
+pub mod Worked

@@ -26,7 +26,8 @@ use Rattle.book.specs.Theorem.{start_of, started_list}
 use Rattle.book.proofs.Cases.{case_result, case_chosen, case_list}
 use Rattle.book.proofs.Moves.{outcome_stands, entered_by, Moves, stays, hands, enters, moves, call_by}
 use Rattle.book.proofs.Good.{Good, waits_going, steps}
-use Rattle.book.proofs.RunOf.{run_of, State, run-fields}
+use Rattle.book.specs.RunOf.{run_of}
+use Rattle.book.proofs.RunOf.{State, run-fields}
 use Rattle.book.proofs.Simulation.{refused_for, when_none_waits, when_short, when_long, outcome_agrees, run_seeds, open_run, run_else, enter_run, call_agrees}
 use Rattle.book.proofs.Starts.{accepted, list_is}
 use Rattle.book.proofs.Opening.{opens}

@@ -15,7 +15,8 @@ use Rattle.book.specs.Book.{Inputs, Book, entries, opened, tally, after}
 use Rattle.book.specs.Trace.{run_after}
 use Rattle.book.specs.Theorem.{started_list}
 use Rattle.book.proofs.Opening.{opens}
-use Rattle.book.proofs.RunOf.{run_of, State, count_bound}
+use Rattle.book.specs.RunOf.{run_of}
+use Rattle.book.proofs.RunOf.{State, count_bound}
 use Rattle.book.proofs.Simulation.{counts_is}
 use Rattle.book.proofs.Tally.{tally_total}
 use Rattle.book.proofs.Walks.{walks}

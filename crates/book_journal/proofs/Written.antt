@@ -16,7 +16,8 @@ use Rattle.book.specs.Walk.{run_call}
 use Rattle.book.specs.Theorem.{started_list}
 use Rattle.book.proofs.Moves.{entry, Stands, enter_holds, await_holds, call_by}
 use Rattle.book.proofs.Good.{Good, waits_going, steps}
-use Rattle.book.proofs.RunOf.{run_of, State}
+use Rattle.book.specs.RunOf.{run_of}
+use Rattle.book.proofs.RunOf.{State}
 use Rattle.book.proofs.Simulation.{last_snoc, last_proper, last_line_is, call_agrees}
 use Rattle.book.proofs.Opening.{opens}
 use Rattle.book_journal.specs.Lines.{lines_of}

@@ -13,7 +13,7 @@ use Rattle.book.specs.Book.{Inputs, Book, opened, after}
 use Rattle.book.specs.Conditions.{NoneHolds, conditions}
 use Rattle.book.specs.Trace.{run_after}
 use Rattle.book.specs.Theorem.{start_of, started_list}
-use Rattle.book.proofs.RunOf.{run_of}
+use Rattle.book.specs.RunOf.{run_of}
 use Rattle.book_journal.specs.Lines.{journal_of}
 use Rattle.book_journal.specs.Replay.{walked}
 

@@ -4,7 +4,7 @@ use Rattle.common.specs.declared.Refusal.{Refusal}
 use Rattle.journal_line.specs.declared.Line.{Line}
 use Rattle.journal_line.specs.Line.{line_bytes, LineFits, Writable, journal_bytes}
 use Rattle.journal_line.specs.Reading.{newlines}
-use Rattle.journal_line.proofs.Fronts.{NoLine}
+use Rattle.journal_line.specs.Theorem.{NoLine}
 use Rattle.journal_replay.specs.declared.Stop.TheVariants.{AllTaken, NotOfForm, NotTheRun}
 use Rattle.journal_replay.specs.declared.EndedBy.TheVariants as by
 use Rattle.journal_replay.specs.declared.Report.{Report}

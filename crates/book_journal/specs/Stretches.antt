@@ -5,7 +5,7 @@ use Rattle.common.specs.Each.{All}
 use Rattle.score_best.specs.declared.Candidate.{Candidate}
 use Rattle.score_best.specs.Best.{Chosen, nothing, best_of, held, candidate_of}
 use Rattle.score_best.specs.Winners.{winner_of_two, winner_of_bests, winner_of, joined}
-use Rattle.score_best.proofs.WinnerLaws.{IsNumber}
+use Rattle.score_best.specs.Theorem.{IsNumber}
 use Rattle.journal_line.specs.declared.Line.{Line}
 use Rattle.journal_line.specs.Reading.{read_journal}
 use Rattle.journal_line.specs.Outcome.{scoring_in}

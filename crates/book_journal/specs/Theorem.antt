@@ -9,7 +9,7 @@ use Rattle.book.specs.Calls.{Call}
 use Rattle.book.specs.Book.{Inputs, Book, number}
 use Rattle.book.specs.Conditions.{NoneHolds, conditions}
 use Rattle.book.specs.Lent.{Lent}
-use Rattle.book.proofs.RunOf.{run_of}
+use Rattle.book.specs.RunOf.{run_of}
 use Rattle.book_journal.specs.Lines.{lines_of}
 use Rattle.book_journal.specs.Replay.{walked, replay_of}
 use Rattle.book_journal.specs.History.{opened_by, History, book_at, list_at, InputsFit, CallFits}

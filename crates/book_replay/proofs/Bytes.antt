@@ -11,7 +11,8 @@ use Rattle.book.specs.Book.{Inputs, first_list, opened}
 use Rattle.book.specs.Conditions.{FirstHolds, NoneHolds, conditions}
 use Rattle.book.specs.Theorem.{start_of, started_list}
 use Rattle.book.proofs.Cases.{case_result}
-use Rattle.book.proofs.RunOf.{run_of, State}
+use Rattle.book.specs.RunOf.{run_of}
+use Rattle.book.proofs.RunOf.{State}
 use Rattle.book.proofs.Starts.{accepted, list_is, starts}
 use Rattle.book.proofs.Opening.{opens}
 use Rattle.seed_rules.specs.Layout.{written}

@@ -21,13 +21,15 @@ use Rattle.journal_replay.specs.Replay.{of_no_line}
 use Rattle.journal_replay.specs.Replay.{ReplayLeft, replay_from}
 use Rattle.journal_replay.specs.Resume.{ended_by_of, ResumeLeft}
 use Rattle.book.specs.Calls.{Call}
-use Rattle.book.specs.Book.{Inputs, Book, entries, number, round_best_of, run_best_of, first_list, opened, after, line_of}
+use Rattle.book.specs.Book.{Inputs, Book, entries, number, round_best_of, run_best_of, first_list, opened, replies, after, line_of}
 use Rattle.book.specs.Conditions.{NoneHolds, conditions}
 use Rattle.book.specs.Trace as trace
+use Rattle.book.specs.Walk.{walk}
 use Rattle.book.specs.Theorem.{start_of, started_list}
 use Rattle.book.proofs.Cases.{case_chosen}
 use Rattle.book.proofs.Good.{Good}
-use Rattle.book.proofs.RunOf.{run_of, State, run-fields, run-bests, run_number, sound_run}
+use Rattle.book.specs.RunOf.{run_of}
+use Rattle.book.proofs.RunOf.{State, run-fields, run-bests, run_number, sound_run}
 use Rattle.book.proofs.Simulation.{waiting_seed}
 use Rattle.book.proofs.Starts.{accepted}
 use Rattle.book.proofs.Opening.{opens}
@@ -38,6 +40,7 @@ use Rattle.book_journal.specs.Replay.{start_refused, Walked, walked, kept_of, st
 use Rattle.book_journal.specs.History.{Opening, fresh, from, opened_by, History, book_at, InputsFit, CallFits, at_rest, opened_list, list_under, list_at}
 use Rattle.book_journal.specs.Resume.{report_on, cut_journal, report, cut_run, GivesBack, GoesOn}
 use Rattle.book_journal.specs.Resume as book
+use Rattle.book_journal.specs.Written.{written_along}
 use Rattle.book_journal.proofs.Opening.{start_refused_lem}
 use Rattle.book_journal.proofs.Walk.{walk_end, any_buffer}
 use Rattle.book_journal.proofs.Again.{Sound, sound_at, lines_right, list_along, walked_again}
@@ -46,7 +49,7 @@ use Rattle.book_journal.proofs.Cut.{cut_anywhere, resume_refuses, resume_accepts
 use Rattle.book_journal.proofs.GoingOn.{goes_on_somewhere}
 use Rattle.book_journal.proofs.Live.{live_list, walked_state, resumed_continues}
 use Rattle.book_journal.proofs.Written as writing
-use Rattle.book_replay.specs.Theorem.{with_record, GivesRun, WithAnyList, ResumedRun, all_kept, ResumedRecord, CutRecord, OpenedAs, by_start, by_resume, none_waiting, StandsAs, again, file, GoesBack, CutBack, OfRun}
+use Rattle.book_replay.specs.Theorem.{with_record, GivesRun, WithAnyList, ResumedRun, all_kept, ResumedRecord, CutRecord, OpenedAs, by_start, by_resume, none_waiting, StandsAs, again, file, GoesOnAs, GoesBack, CutBack, OfRun}
 use Rattle.book_replay.proofs.Lines.{next_going, await_seed}
 use Rattle.book_replay.proofs.Bytes.{start_list_lem, start_state, either, replay_is_book, resume_is_book}
 
@@ -299,7 +302,55 @@ module _ (i : Inputs) (l : List Float) (a : NoneHolds (conditions i (length l)))
         same_again : again (trace.run_after first list before) ≡ book.again i (past cs) at there
         same_again = rw (run_now before) (simp run-fields)
 
-        back : GoesBack i l first list held cs (run_of left) left_list
+        -- ---- with any list that Resume accepts
+        module _ (z : List Float) (c : NoneHolds (conditions i (length z))) where
+          abbrev other : List Float
+          other = (walked i z cut).list
+
+          other_state : State i left other
+          other_state = rw (any_buffer i z [] cut).0 at (walked_state i z cut c)
+
+          other_given : GivesRun i z (take at (file i l first list held cs)) (run_of left) (report i (past cs) at l) other
+          other_given =
+              let w = any_buffer i z l cut in
+              rw (file_now cs)
+              (cut_record i (past cs) at z c
+              ∙ ap (λ (q : Report). record { reply = Ok (record { run = run_of left; report = q }); list = other }) (same_report cut (walked i z cut) (walked i l cut) w.1 w.2))
+
+          other_replies : (xs : List Call) → xs ≡ book.again i (past cs) at there
+              → walk (trace.run_after (run_of left) other xs) (trace.list_after (run_of left) other xs) behind ≡ walk (trace.run_after first list before) (trace.list_after first list before) behind
+          other_replies xs e =
+              let w = calls.walks i left other xs other_state in
+              let v = calls.walks i (opened_by i p) list before t in
+              rw (w.run_is, run_now before)
+              ((calls.walks i (after left xs) (trace.list_after (run_of left) other xs) behind w.state).same_replies
+              ∙ ap (λ (ys : List Call). replies (after left ys) behind) e
+              ∙ g.same_replies behind
+              ∙ sym (calls.walks i there (trace.list_after first list before) behind v.state).same_replies)
+
+          other_run : trace.run_after (run_of left) other (again (trace.run_after first list before) ++ behind) ≡ trace.run_after first list cs
+          other_run =
+              let xs = book.again i (past cs) at there ++ behind in
+              rw same_again ((calls.walks i left other xs other_state).run_is ∙ ap run_of g.same_end ∙ sym (run_now cs))
+
+          other_kept : take (report i (past cs) at l).kept (take at (file i l first list held cs)) ≡ journal_of left
+          other_kept = rw (file_now cs) ((walked_back i l cut f a).kept_journal ∙ ap journal_of (any_buffer i l [] cut).0)
+
+          other_file : take (report i (past cs) at l).kept (take at (file i l first list held cs)) ++ written_along (run_of left) other (again (trace.run_after first list before) ++ behind)
+              ≡ file i l first list held cs
+          other_file =
+              let xs = book.again i (past cs) at there ++ behind in
+              rw (other_kept, same_again) (writing.along i left other xs other_state ∙ ap journal_of g.same_end ∙ sym (file_now cs))
+
+          goes_on_as : GoesOnAs i l first list held cs (take (report i (past cs) at l).kept (take at (file i l first list held cs))) (run_of left) other before behind
+          goes_on_as = record {
+            same_replies = other_replies (again (trace.run_after first list before)) same_again;
+            same_run = other_run;
+            same_winner = ap result_def other_run;
+            same_file = other_file;
+          }
+
+        back : GoesBack i l first list held cs at (report i (past cs) at l) (run_of left) left_list
         back =
             let xs = book.again i (past cs) at there ++ behind in
             record {
@@ -310,6 +361,7 @@ module _ (i : Inputs) (l : List Float) (a : NoneHolds (conditions i (length l)))
               list_is = left_along ∙ ap (along i l) g.stands_there ∙ rest_along there ∙ sym (history_along i l (past before)) ∙ sym (list_now before);
               same_end = rw same_again ((calls.walks i left left_list xs left_state).run_is ∙ ap run_of g.same_end ∙ sym (run_now cs));
               same_list = rw same_again (live_list i left left_list xs left_state ∙ g.same_buffer l ∙ sym (list_now cs));
+              with_any_list = λ z c. (other z c, other_given z c, goes_on_as z c);
             }
           where
             rest_along : (b : Book) → along i l (at_rest b) ≡ along i l b

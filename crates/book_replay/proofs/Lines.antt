@@ -23,7 +23,8 @@ use Rattle.book.specs.Book.{Inputs, demand, Book, number, current, run_best_of, 
 use Rattle.book.proofs.Cases.{case_chosen}
 use Rattle.book.proofs.Moves.{enter_holds, await_holds}
 use Rattle.book.proofs.Good.{steps}
-use Rattle.book.proofs.RunOf.{run_of, State, run-fields, run-bests, sound_run}
+use Rattle.book.specs.RunOf.{run_of}
+use Rattle.book.proofs.RunOf.{State, run-fields, run-bests, sound_run}
 use Rattle.book.proofs.Simulation.{await_run, await_there, in_list, Ends, enter_agrees}
 use Rattle.book_journal.specs.Replay.{follows, Walked, buffer_after, walk_from, standing}
 use Rattle.book_journal.proofs.Standing.{follower}

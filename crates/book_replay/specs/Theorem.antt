@@ -23,8 +23,9 @@ use Rattle.book.specs.Calls.{Call, next}
 use Rattle.book.specs.Book.{Inputs, Book, number}
 use Rattle.book.specs.Conditions.{NoneHolds, conditions}
 use Rattle.book.specs.Trace.{run_after, list_after}
+use Rattle.book.specs.Walk.{walk}
 use Rattle.book.specs.Theorem.{start_of, started_list}
-use Rattle.book.proofs.RunOf.{run_of}
+use Rattle.book.specs.RunOf.{run_of}
 use Rattle.book_journal.specs.Lines.{journal_of}
 use Rattle.book_journal.specs.Replay.{walked, replay_of}
 use Rattle.book_journal.specs.History.{History, book_at, InputsFit, CallFits, at_rest, list_at}
@@ -109,8 +110,17 @@ module _ (i : Inputs) (l : List Float) (r : Run) (m : List Float) (held : List �
   abbrev pub file : List ℕ
   file = held ++ written_along r m cs
 
-  -- a run s and a list n given back are those of the uncut run after as many answers, no seed waiting; with the rest of the calls they come to the same end
-  pub record GoesBack (s : Run) (n : List Float) : Type 0 where
+  -- going on with the run s and a list o, with the rest `behind` of the calls, and kept bytes j: the replies, the run and so the winner, and the file are the uncut run's,
+  -- whose calls before were `before`
+  pub record GoesOnAs (j : List ℕ) (s : Run) (o : List Float) (before behind : List Call) : Type 0 where
+    pub same_replies : let u = run_after r m before in walk (run_after s o (again u)) (list_after s o (again u)) behind ≡ walk u (list_after r m before) behind
+    pub same_run : run_after s o (again (run_after r m before) ++ behind) ≡ run_after r m cs
+    pub same_winner : result_def (run_after s o (again (run_after r m before) ++ behind)) ≡ result_def (run_after r m cs)
+    pub same_file : j ++ written_along s o (again (run_after r m before) ++ behind) ≡ file
+
+  -- a run s and a list n given back, for the file cut at a place, with the report q, are those of the uncut run after as many answers, no seed waiting; with the rest of
+  -- the calls they come to the same end
+  pub record GoesBack (at : ℕ) (q : Report) (s : Run) (n : List Float) : Type 0 where
     pub before : List Call
     pub behind : List Call
     pub split : cs ≡ before ++ behind
@@ -118,6 +128,8 @@ module _ (i : Inputs) (l : List Float) (r : Run) (m : List Float) (held : List �
     pub list_is : n ≡ list_after r m before
     pub same_end : run_after s n (again (run_after r m before) ++ behind) ≡ run_after r m cs
     pub same_list : list_after s n (again (run_after r m before) ++ behind) ≡ list_after r m cs
+    -- and so they do with every list k that Resume accepts, whatever stands in it: o is what Resume makes of it
+    pub with_any_list : (k : List Float) → NoneHolds (conditions i (length k)) → (o : List Float) × GivesRun i k (take at file) s q o × GoesOnAs (take q.kept (take at file)) s o before behind
 
   -- what Resume gives back of the file cut after any byte
   pub record CutBack (at : ℕ) : Type 0 where
@@ -137,7 +149,7 @@ module _ (i : Inputs) (l : List Float) (r : Run) (m : List Float) (held : List �
     pub by_nothing : part ≡ [] → says.ended_by ≡ by.Stopped AllTaken
     pub by_newline : (part ≡ [] → ⊥) → says.ended_by ≡ by.MissingNewline
     -- and the run is what it was there, if the cut fell behind the lines that it was opened with
-    pub goes_back : r.place.number ≤ run.place.number → GoesBack run list
+    pub goes_back : r.place.number ≤ run.place.number → GoesBack at says run list
 
   pub record OfRun : Type 0 where
     -- E5: the file says how the run stands, whichever list k is lent; the list that was lent to the run is left as the run left it

@@ -2,3 +2,11 @@
 // see specs/ for the statements, and proofs/ for their proofs.
 
 #![tactic(auto)]
+
+ghost use Rattle.book_replay.specs.Theorem.{ReplayRight};
+
+/// What the code does with a journal is what the plain book says.
+#[tactic(auto, using(crate::proofs::Theorem::replay_right))]
+pub fn replay_law()
+    ensures { ReplayRight }
+{}

@@ -3,3 +3,4 @@ pub mod Math
 pub mod Intrinsics
 pub mod Distortion
 pub mod NoDistortion
+pub mod Theorem

@@ -4,4 +4,5 @@
 
 pub mod distortion;
 pub mod intrinsics;
+pub mod laws;
 pub mod math;

@@ -17,6 +17,7 @@ use Rattle.float_series.specs.Answer.{beyond_half}
 use Rattle.float_series.proofs.Ranges.{Turned, SineCosine, ranged, flat}
 use Rattle.float_series.proofs.Theorem.{sine_cosine}
 use Rattle.camera_tilt_laws.specs.Matrices.{Diagonal, rotation, projected, determinant}
+use Rattle.camera_tilt_laws.specs.Theorem.{TiltsInvertible}
 
 -- ---- numbers of at least k / l
 record AtLeast (k l : ℕ) (x : Fraction) : Type 0 where
@@ -105,3 +106,6 @@ module _ (x y : Float) (g : beyond_half x ≡ false) (h : beyond_half y ≡ fals
 
   pub never_singular : tilt_verdict (tilt_projection_matrix (record { sin_x = series_of sines x; cos_x = series_of cosines x; sin_y = series_of sines y; cos_y = series_of cosines y })) ≡ Ok tt
   never_singular = rw (not_zero _ above_half)
+
+pub tilts_invertible : TiltsInvertible
+tilts_invertible = record { above_half = above_half; never_singular = never_singular }

@@ -1,14 +1,12 @@
 -- The squared length of `distorted b p - target` falls strictly along the points that undistortion accepts, from the target on; the reply is the last Newton step
 -- from the last of them. Of that step itself nothing is claimed: no trial looks at it. Assumes nothing.
-use Rattle.std.specs.Prelude.{◌≡◌, Bool, true, false, cond, List, [], ◌∷◌, eqb, Option, Some, None, Float}
+use Rattle.std.specs.Prelude.{◌≡◌, Bool, true, false, cond, List, Option, Some, None}
 use Rattle.std.proofs.Math.Path.{refl}
 use Rattle.std.proofs.Common.{sym, ap, subst}
 use Prim.Native.Nat.{ℕ, zero, suc}
-use Rattle.std.specs.Float.Ieee.{lt, eq}
+use Rattle.std.specs.Float.Ieee.{eq}
 use Rattle.common.specs.Tests.{both_true}
-use Rattle.float.specs.Float.{is_finite}
 use Rattle.float.specs.Literals.{plus_zero}
-use Rattle.camera_models.specs.Distortion.{squared_norm, distorted}
 use Rattle.camera_models.specs.Math.{minus_point}
 use Rattle.camera_undistort.specs.Undistortion.{estimate_at, halved, squared_residual, singular, newton_step, improves, trials, small_step, after_trials, newton_turn, then_by, newton, last_step, undistorted}
 use Rattle.camera_models.specs.declared.math.Pt2.{Pt2}
@@ -17,42 +15,12 @@ use Rattle.camera_undistort.specs.declared.Estimate.{Estimate}
 use Rattle.camera_undistort.specs.declared.Trial.{Trial}
 use Rattle.camera_undistort.specs.declared.Turn.{Turn}
 use Rattle.camera_undistort.specs.declared.Turn.TheVariants.{Ended, Last, Further}
-
--- ---- the points that at most n turns accept, in their order: from an estimate, and from the target itself
-abbrev follow : Turn → (Estimate → List Pt2) → List Pt2
-follow Ended more = []
-follow (Last next) more = next.point ∷ []
-follow (Further next) more = next.point ∷ more next
-
-unfoldable pub accepted_from : ℕ → BrownConrady5 → Pt2 → Estimate → List Pt2
-accepted_from zero b target e = []
-accepted_from (suc n) b target e = follow (newton_turn b target e) (accepted_from n b target)
-
-abbrev pub accepted : ℕ → BrownConrady5 → Pt2 → List Pt2
-accepted n b target = accepted_from n b target (estimate_at b target target)
-
--- the last of some points, or p where there is none
-abbrev pub last_of : Pt2 → List Pt2 → Pt2
-last_of p [] = p
-last_of p (q ∷ qs) = last_of q qs
+use Rattle.camera_undistort.specs.Theorem.{follow, accepted_from, accepted, last_of, Closer, Falling, turns, UndistortionDescends}
 
 module _ (b : BrownConrady5) (target : Pt2) where
-  -- how far the distortion of p is from the target, squared
-  abbrev pub distance : Pt2 → Float
-  distance p = squared_norm (minus_point (distorted b p) target)
-
-  pub record Closer (q p : Pt2) : Type 0 where
-    pub finite : is_finite (distance q) ≡ true
-    pub lower : lt (distance q) (distance p) ≡ true
-
-  -- each is closer than the one before, the first than p
-  abbrev pub Falling : Pt2 → List Pt2 → Type 0
-  Falling p [] = Unit {0}
-  Falling p (q ∷ qs) = Closer q p × Falling q qs
-
   -- ---- what the trials and a turn from p accept: the estimate at a closer point
   abbrev Better : Pt2 → Estimate → Type 0
-  Better p next = (next ≡ estimate_at b target next.point) × Closer next.point p
+  Better p next = (next ≡ estimate_at b target next.point) × Closer b target next.point p
 
   improves_better : (p q : Pt2) → improves (estimate_at b target q) (estimate_at b target p) ≡ true → Better p (estimate_at b target q)
   unfolding improves estimate_at
@@ -97,12 +65,12 @@ module _ (b : BrownConrady5) (target : Pt2) where
       (or_ended (singular e.jacobian) p _ (after p _ (found 30 p (newton_step e))))
 
   -- ---- so they fall, whatever the number of turns
-  following : (p : Pt2) (t : Turn) (more : Estimate → List Pt2) → Taken p t → ((q : Pt2) → Falling q (more (estimate_at b target q))) → Falling p (follow t more)
+  following : (p : Pt2) (t : Turn) (more : Estimate → List Pt2) → Taken p t → ((q : Pt2) → Falling b target q (more (estimate_at b target q))) → Falling b target p (follow t more)
   following p Ended more h f = tt
   following p (Last next) more h f = (h.1, tt)
-  following p (Further next) more h f = (h.1, subst (λ (e : Estimate). Falling next.point (more e)) (sym h.0) (f next.point))
+  following p (Further next) more h f = (h.1, subst (λ (e : Estimate). Falling b target next.point (more e)) (sym h.0) (f next.point))
 
-  falls : (n : ℕ) (p : Pt2) → Falling p (accepted_from n b target (estimate_at b target p))
+  falls : (n : ℕ) (p : Pt2) → Falling b target p (accepted_from n b target (estimate_at b target p))
   unfolding accepted_from
   falls zero p = tt
   falls (suc n) p = following p (newton_turn b target (estimate_at b target p)) (accepted_from n b target) (taken p) (falls n)
@@ -121,17 +89,9 @@ module _ (b : BrownConrady5) (target : Pt2) where
   newton_ends zero p = refl
   newton_ends (suc n) p = ends_at p (newton_turn b target (estimate_at b target p)) (newton n b target) (accepted_from n b target) (taken p) (newton_ends n)
 
--- ---- the claim, for every lens, number of turns and target
-abbrev pub turns : ℕ → ℕ
-turns iters = cond (eqb iters 0) 20 iters
-
-pub record Descends (b : BrownConrady5) (iters : ℕ) (target : Pt2) : Type 0 where
-  pub falls : Falling b target target (accepted (turns iters) b target)
-  pub reply : undistorted b iters target ≡ last_step (estimate_at b target (last_of target (accepted (turns iters) b target)))
-
 reply_is_last_step : (b : BrownConrady5) (iters : ℕ) (target : Pt2) → undistorted b iters target ≡ last_step (estimate_at b target (last_of target (accepted (turns iters) b target)))
 unfolding undistorted
 reply_is_last_step b iters target = ap last_step (newton_ends b target (turns iters) target)
 
-pub descends : (b : BrownConrady5) (iters : ℕ) (target : Pt2) → Descends b iters target
-descends b iters target = record { falls = falls b target (turns iters) target; reply = reply_is_last_step b iters target }
+pub descends : UndistortionDescends
+descends = record { falls = λ b iters target. falls b target (turns iters) target; reply = reply_is_last_step }

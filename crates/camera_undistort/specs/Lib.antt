@@ -1,1 +1,2 @@
 pub mod Undistortion
+pub mod Theorem

@@ -3,6 +3,8 @@
 
 #![tactic(auto)]
 
+pub mod laws;
+
 ghost use Rattle.std.specs.Prelude.{◌≡◌};
 ghost use Rattle.camera_undistort.specs.Undistortion.{halved, estimate_at, jacobian_determinant, singular, newton_step, improves, trials, small_step, after_trials, newton_turn, last_step, newton_undistorted, undistorted};
 

@@ -1,5 +1,5 @@
 -- The exported calls are the walk's, and so the book's. Assumes nothing.
-use Rattle.std.proofs.Common.{ℕ, suc, ◌≤◌, arith, ◌≡◌, refl, ap, ◌∙◌, Bool, List, [], ◌∷◌, map, le-leb, ne_eqb, length, take, drop, length-take, Float, sym, Option, Some, None, Result, Ok, Err}
+use Rattle.std.proofs.Common.{ℕ, suc, ◌≤◌, arith, ◌≡◌, refl, ap, ◌∙◌, Bool, List, [], ◌∷◌, ◌++◌, le-leb, ltb-false, ne_eqb, length, take, drop, length-take, Float, sym, Option, Some, None, Result, Ok, Err}
 use Rattle.std.proofs.Math.Seq.{take-append_seam}
 use Rattle.common.specs.declared.Refusal.{Refusal}
 use Rattle.common.specs.declared.Refusal.TheVariants.{TooFewViews, NoTilts, BadBound, BadStep, TooMany, BadSeed, TiltNotFinite, SmallBuffer, SeedWaits, ShortList, NothingScored, NoSeedWaits, BadRows, NotOver, SingularTilt, DegenerateViews, BadLength, NoRoom, NoSpread, SourceNotFinite, DestinationNotFinite, TooFewPoints, CountsDiffer, SourceCollinear, DestinationCollinear, BeyondHalf, NotWritable, NotOfForm, NotTheRun, TwoAxes, TiltedSeed, ShareAboveAll, NoPlate}
@@ -32,24 +32,40 @@ use Rattle.journal_replay.specs.declared.Report.{Report}
 use Rattle.journal_replay.specs.declared.Resumed.{Resumed}
 use Rattle.journal_replay.specs.Replay.{of_no_line, reply_by, ReplayLeft, replay_from}
 use Rattle.journal_replay.specs.Resume.{ResumeLeft, resume_from}
-use Rattle.capi_records.specs.Record.{flat_run}
+use Rattle.capi_records.specs.Record.{run_from, flat_run}
 use Rattle.capi_records.specs.RoundTrip.{set_flag, run_back, line_back}
 use Rattle.capi_records.specs.Run.{flat_started, flat_handed, flat_answered, flat_result, flat_stopped, flat_last_line, finding_of, copied, copy_count}
 use Rattle.capi_records.specs.Replay.{flat_replayed, ended_number, flat_resumed}
-use Rattle.book.specs.Book.{Inputs, replies}
-use Rattle.book.specs.Calls.{Reply, part}
+use Rattle.book.specs.Book.{Inputs, Book, opened, replies, after}
+use Rattle.book.specs.Conditions.{NoneHolds, conditions}
+use Rattle.book.specs.Trace.{run_after}
+use Rattle.journal_line.specs.declared.Counts.{Counts}
+use Rattle.journal_line.specs.Writing.{write_reply, write_into}
+use Rattle.journal_line.specs.Report.{report_reply, report_into}
+use Rattle.search_calls.specs.Counts.{counts_def}
+use Rattle.capi_records.specs.declared.journal.LineRecord.{LineRecord}
+use Rattle.capi_records.specs.Journal.{line_from, flat_line, flat_written, record_reply, record_into}
+use Rattle.book.specs.Calls.{Call, next, seed, answer, ask, progress, stop, last, counts, Reply, part}
 use Rattle.book.specs.Walk.{Step, handed_reply, answered_reply, resulted_reply, progress_reply, stopped_reply, last_reply, run_call, walk}
 use Rattle.book.specs.Theorem.{start_of, started_list}
 use Rattle.book.proofs.Cases.{case_result}
-use Rattle.book.proofs.RunOf.{run_of}
+use Rattle.book.specs.RunOf.{run_of}
 use Rattle.book.proofs.Theorem.{search_is_book}
 use Rattle.book_journal.specs.Replay.{start_refused, walked, standing, replay_of}
 use Rattle.book_journal.specs.Resume.{Resumed as BookResumed, resumed, not_resumed, resume_of}
+use Rattle.book_journal.specs.Lines.{journal_of}
+use Rattle.book_journal.specs.History.{InputsFit}
+use Rattle.book_journal.specs.Resume.{report_on}
+use Rattle.book_journal.specs.Written.{buffer, front, bytes_of, written_along}
+use Rattle.book_journal.specs.Reported.{small_buffer, report_of, ReportRight}
+use Rattle.book_journal.proofs.Written.{along as written_on}
+use Rattle.book_journal.proofs.Live.{walked_state}
 use Rattle.book_journal.proofs.Theorem.{journals_right}
 use Rattle.book_replay.specs.Theorem.{with_record}
 use Rattle.book_replay.proofs.Theorem.{replay_right}
-use Rattle.capi_book.specs.Exported.{Exported, jc_next_lem, jc_seed_lem, jc_answer_lem, jc_result_lem, jc_progress_lem, jc_stop_lem, jc_last_line_lem, jc_counts_lem, call_of, read_next, read_answer, read_result, read_progress, read_stop, read_last, refusal_with, read_replay, read_ended, read_report, read_resume, FlatStep, flat_call, flat_walk}
+use Rattle.capi_book.specs.Exported.{Exported, jc_next_lem, jc_seed_lem, jc_answer_lem, jc_result_lem, jc_progress_lem, jc_stop_lem, jc_last_line_lem, jc_counts_lem, no_room, calls_of, all_calls, read_next, read_answer, read_result, read_progress, read_stop, read_last, refusal_with, read_replay, read_ended, read_report, read_resume, FlatStep, flat_call, flat_walk, flat_after, bytes_in, flat_line_bytes, flat_file}
 use Rattle.capi_book.specs.Theorem.{start_with, flat_start_list, ExportedStarts, ExportedIsWalk, ExportedIsBook, ExportedReplays, ExportedGivesBack, ExportedResumes}
+use Rattle.capi_book.specs.Theorem.{FlatReportRight, ExportedJournal, ExportedJournalGrows, ExportedReport, ExportedResumedReport, ExportedRight}
 
 -- ---- the record in a reply
 next_run : (h : Result Handed Refusal) (r : Run) → (flat_handed h r).run ≡ flat_run r
@@ -141,47 +157,93 @@ seed_read r l to room =
 
 -- ---- a call reads as the walk's, and leaves the flat record of its run and the same list
 record Same (a : FlatStep) (b : Step) : Type 0 where
-  reply : a.reply ≡ b.reply
+  reply : a.reply ≡ b.reply ∷ []
   run : a.run ≡ flat_run b.run
   list : a.list ≡ b.list
 
-call_same : (r : Run) (l : List Float) (c : Exported) → Same (flat_call (flat_run r) l c) (run_call r l (call_of c))
+-- or asks nothing, and leaves both
+data Reads (r : Run) (l : List Float) (c : Exported) (a : FlatStep) : Type 0 where
+  asks : (d : Call) → calls_of c ≡ d ∷ [] → Same a (run_call r l d) → Reads r l c a
+  silent : calls_of c ≡ [] → a.reply ≡ [] → a.run ≡ flat_run r → a.list ≡ l → Reads r l c a
+
+seed_same : (r : Run) (l : List Float) (n : ℕ) (to : List Float) → Reads r l (jc_seed_lem n to) (flat_call (flat_run r) l (jc_seed_lem n to))
+unfolding flat_call run_call
+seed_same r l n to =
+    case (no_room to)
+    (λ e. silent (rw e refl) (rw e refl) refl refl)
+    (λ e.
+    let room : 6 ≤ length to = ltb-false (length to) 6 e in
+    asks (seed n) (rw e refl) (record { reply = rw (e, run_back r) (ap (λ (z : List Float). part z ∷ []) (seed_read r (take n l) to room)); run = refl; list = refl }))
+
+call_same : (r : Run) (l : List Float) (c : Exported) → Reads r l c (flat_call (flat_run r) l c)
 unfolding flat_call run_call
 call_same r l (jc_next_lem n) =
     let a = next_def r (take n l) in
-    record { reply = rw (run_back r) (next_read a.reply a.run); run = rw (run_back r) (next_run a.reply a.run); list = refl }
-call_same r l (jc_seed_lem n to room) = record { reply = rw (run_back r) (ap part (seed_read r (take n l) to room)); run = refl; list = refl }
+    asks (next n) refl (record { reply = rw (run_back r) (ap (λ (z : Reply). z ∷ []) (next_read a.reply a.run)); run = rw (run_back r) (next_run a.reply a.run); list = refl })
+call_same r l (jc_seed_lem n to) = seed_same r l n to
 call_same r l (jc_answer_lem n solved camera rows flags) =
     let f = finding_of solved camera in
     let a = (answer_def r f rows flags (take n l)).reply in
-    record {
-      reply = rw (run_back r) (answer_read a.reply a.run);
+    asks (answer n f rows flags) refl
+    (record {
+      reply = rw (run_back r) (ap (λ (z : Reply). z ∷ []) (answer_read a.reply a.run));
       run = rw (run_back r) (answer_run a.reply a.run);
       list = rw (run_back r) refl;
-    }
-call_same r l jc_result_lem = record { reply = rw (run_back r) (result_read (result_def r)); run = refl; list = refl }
-call_same r l jc_progress_lem = record { reply = rw (run_back r) (progress_read (progress_def r)); run = refl; list = refl }
-call_same r l (jc_stop_lem n) = record { reply = rw (run_back r) (stop_read (stop_def r (take n l))); run = refl; list = refl }
-call_same r l jc_last_line_lem = record { reply = rw (run_back r) (last_read (last_def r)); run = refl; list = refl }
-call_same r l jc_counts_lem = record { reply = rw (run_back r) refl; run = refl; list = refl }
+    })
+call_same r l jc_result_lem = asks ask refl (record { reply = rw (run_back r) (ap (λ (z : Reply). z ∷ []) (result_read (result_def r))); run = refl; list = refl })
+call_same r l jc_progress_lem = asks progress refl (record { reply = rw (run_back r) (ap (λ (z : Reply). z ∷ []) (progress_read (progress_def r))); run = refl; list = refl })
+call_same r l (jc_stop_lem n) = asks (stop n) refl (record { reply = rw (run_back r) (ap (λ (z : Reply). z ∷ []) (stop_read (stop_def r (take n l)))); run = refl; list = refl })
+call_same r l jc_last_line_lem = asks last refl (record { reply = rw (run_back r) (ap (λ (z : Reply). z ∷ []) (last_read (last_def r))); run = refl; list = refl })
+call_same r l jc_counts_lem = asks counts refl (record { reply = rw (run_back r) refl; run = refl; list = refl })
 
-walk_more : (r : Run) (l : List Float) (c : Exported) (cs : List Exported)
-    → ((s : Run) (k : List Float) → flat_walk (flat_run s) k cs ≡ walk s k (map call_of cs)) → flat_walk (flat_run r) l (c ∷ cs) ≡ walk r l (map call_of (c ∷ cs))
-unfolding flat_walk walk
-walk_more r l c cs ih =
-    let s = call_same r l c in
-    let b = run_call r l (call_of c) in
-    rw (s.reply, s.run, s.list) (ap (λ (z : List Reply). b.reply ∷ z) (ih b.run b.list))
-
-pub exported_is_walk : ExportedIsWalk
-unfolding flat_walk walk
-exported_is_walk r l [] = refl
-exported_is_walk r l (c ∷ cs) = walk_more r l c cs (λ s k. exported_is_walk s k cs)
-
--- ---- after Start: its reply has the number 0 only where it is accepted
+-- ---- the bytes of a line and of a report
 no_zero : (r : Refusal) → number_of r ≡ 0 → ⊥
 no_zero r h = let e : ◌≡◌ {A = Option Refusal} None (Some r) = ap refusal_with (sym h) ∙ refusal_read r in cc
 
+front_read : (m : Line) (w : Result ℕ Refusal) → bytes_in (flat_written w) (write_into m buffer) ≡ front m w
+front_read m (Ok n) = refl
+front_read m (Err e) = rw (ne_eqb (number_of e) 0 (no_zero e))
+
+written_read : (f : LineRecord) (m : Line) → line_from f ≡ Ok m → bytes_in (flat_written (record_reply f buffer)) (record_into f buffer) ≡ front m (write_reply m buffer)
+written_read f m h = rw (record_reply, record_into, h) (front_read m (write_reply m buffer))
+
+line_bytes_read : (x : Option Line) → flat_line_bytes (flat_last_line x) ≡ bytes_of x
+line_bytes_read None = refl
+line_bytes_read (Some m) = written_read (flat_line m) m (line_back m)
+
+report_read_lem : (c : Counts) (w : Result ℕ Refusal) → bytes_in (flat_written w) (report_into c small_buffer) ≡ report_of c w
+report_read_lem c (Ok n) = refl
+report_read_lem c (Err e) = rw (ne_eqb (number_of e) 0 (no_zero e))
+
+-- ---- any calls: the replies, the record and the file are the walk's
+record Along (r : Run) (l : List Float) (cs : List Exported) : Type 0 where
+  replies : flat_walk (flat_run r) l cs ≡ walk r l (all_calls cs)
+  run : flat_after (flat_run r) l cs ≡ flat_run (run_after r l (all_calls cs))
+  file : flat_file (flat_run r) l cs ≡ written_along r l (all_calls cs)
+
+along_more : (r : Run) (l : List Float) (c : Exported) (cs : List Exported) → Reads r l c (flat_call (flat_run r) l c) → ((s : Run) (k : List Float) → Along s k cs) → Along r l (c ∷ cs)
+unfolding flat_walk flat_after flat_file all_calls walk run_after written_along
+along_more r l c cs (silent e a s k) ih =
+    let x = ih r l in
+    record { replies = rw (e, a, s, k) x.replies; run = rw (e, s, k) x.run; file = rw (e, a, s, k) x.file }
+along_more r l c cs (asks d e s) ih =
+    let b = run_call r l d in
+    let x = ih b.run b.list in
+    record {
+      replies = rw (e, s.reply, s.run, s.list) (ap (λ (z : List Reply). b.reply ∷ z) x.replies);
+      run = rw (e, s.run, s.list) x.run;
+      file = rw (e, s.reply, s.run, s.list, run_back b.run, line_bytes_read (last_def b.run), x.file) refl;
+    }
+
+along : (r : Run) (l : List Float) (cs : List Exported) → Along r l cs
+unfolding flat_walk flat_after flat_file all_calls walk run_after written_along
+along r l [] = record { replies = refl; run = refl; file = refl }
+along r l (c ∷ cs) = along_more r l c cs (call_same r l c) (λ s k. along s k cs)
+
+pub exported_is_walk : ExportedIsWalk
+exported_is_walk r l cs = (along r l cs).replies
+
+-- ---- after Start: its reply has the number 0 only where it is accepted
 accepted : (i : Inputs) (l : List Float) → (flat_started (start_of i l)).number ≡ 0 → (r : Run) × (start_of i l ≡ Ok r)
 accepted i l h = case_result (start_of i l) (λ r e. (r, e)) (λ refusal e. absurd (no_zero refusal (rw e at h)))
 
@@ -195,12 +257,12 @@ exported_starts i o l e =
 pub exported_is_book : ExportedIsBook
 exported_is_book i o l e h cs =
     let a = accepted i l (rw e at h) in
-    rw (e, a.1) (exported_is_walk a.0 (started_list i l) cs ∙ ((search_is_book i l).follows a.0 a.1 (map call_of cs)).same_replies)
+    rw (e, a.1) (exported_is_walk a.0 (started_list i l) cs ∙ ((search_is_book i l).follows a.0 a.1 (all_calls cs)).same_replies)
 
 -- ---- a journal run again: no refusal has the number 0, and neither has a line
 standing_read : (s : Result Standing Refusal) → read_replay (flat_replayed (of_no_line s)) ≡ of_no_line s
 standing_read (Ok (Winner n s)) = refl
-standing_read (Ok (Unfinished seed)) = refl
+standing_read (Ok (Unfinished s)) = refl
 standing_read (Err r) = rw (refusal_read r)
 
 reply_read : (s : Stop) (n : ℕ) (a : Result Standing Refusal) → read_replay (flat_replayed (reply_by s n a)) ≡ reply_by s n a
@@ -244,13 +306,13 @@ exported_gives_back i o l bs e =
 
 -- ---- after Resume: its reply has the number 0 only where Start refuses nothing
 resume_walk : (i : Inputs) (l : List Float) (bs : List ℕ) (cs : List Exported) → (flat_resumed (with_record (resume_of i l bs)).reply).number ≡ 0
-    → flat_walk (flat_resumed (with_record (resume_of i l bs)).reply).run (with_record (resume_of i l bs)).list cs ≡ replies (walked i l bs).book (map call_of cs)
+    → flat_walk (flat_resumed (with_record (resume_of i l bs)).reply).run (with_record (resume_of i l bs)).list cs ≡ replies (walked i l bs).book (all_calls cs)
 resume_walk i l bs cs h =
     let w = walked i l bs in
     case_result (start_refused i (length l))
     (λ u z.
     let a = (journals_right.start_first i (length l)).accepts.0 z in
-    rw (journals_right.resume_accepts i l bs a) (exported_is_walk (run_of w.book) w.list cs ∙ (journals_right.continues i l bs a (map call_of cs)).same_replies))
+    rw (journals_right.resume_accepts i l bs a) (exported_is_walk (run_of w.book) w.list cs ∙ (journals_right.continues i l bs a (all_calls cs)).same_replies))
     (λ e z.
     let c = (journals_right.start_first i (length l)).refuses e in
     absurd (no_zero e (rw (journals_right.resume_refuses i l bs e (c.0 z)) at h)))
@@ -259,3 +321,64 @@ pub exported_resumes : ExportedResumes
 exported_resumes i o l bs e h cs =
     let b = replay_right.resume_is_book i l bs in
     rw (e, b) (resume_walk i l bs cs (rw (e, b) at h))
+
+-- ---- the journal and the report, after Start and after Resume
+report_right : (r : Run) (l : List Float) (cs : List Exported) (b : Book) → ReportRight r l (all_calls cs) b → FlatReportRight (flat_run r) l cs b
+report_right r l cs b h =
+    let s = run_after r l (all_calls cs) in
+    let e : run_from (flat_after (flat_run r) l cs) ≡ s = ap run_from (along r l cs).run ∙ run_back s in
+    record { counts_are = ap counts_def e ∙ h.kept; is_written = rw e (report_read_lem (counts_def s) (report_reply (counts_def s) small_buffer) ∙ h.is_written) }
+
+pub exported_journal : ExportedJournal
+exported_journal i o l e h cs =
+    let a = accepted i l (rw e at h) in
+    rw (e, a.1) ((along a.0 (started_list i l) cs).file ∙ journals_right.written_is_journal i l a.0 (all_calls cs) a.1)
+
+pub exported_report : ExportedReport
+exported_report i o l e f h cs k =
+    let a = accepted i l (rw e at h) in
+    rw (e, a.1) (report_right a.0 (started_list i l) cs (after (opened i) (all_calls cs)) (journals_right.written_report i l a.0 (all_calls cs) f k a.1))
+
+-- what jc_resume gives back, where its number is 0
+resumed_accepts : (i : Inputs) (l : List Float) (bs : List ℕ) → (flat_resumed (with_record (resume_of i l bs)).reply).number ≡ 0 → NoneHolds (conditions i (length l))
+resumed_accepts i l bs h =
+    case_result (start_refused i (length l))
+    (λ u z. (journals_right.start_first i (length l)).accepts.0 z)
+    (λ e z.
+    let c = (journals_right.start_first i (length l)).refuses e in
+    absurd (no_zero e (rw (journals_right.resume_refuses i l bs e (c.0 z)) at h)))
+
+pub exported_resumed_report : ExportedResumedReport
+exported_resumed_report i o l bs e f h cs k =
+    let b = replay_right.resume_is_book i l bs in
+    let a = resumed_accepts i l bs (rw (e, b) at h) in
+    let w = walked i l bs in
+    rw (e, b, journals_right.resume_accepts i l bs a) (report_right (run_of w.book) w.list cs (after w.book (all_calls cs)) (journals_right.resumed_report i l bs (all_calls cs) f k a))
+
+grows : (i : Inputs) (l : List Float) (bs : List ℕ) (cs : List Exported) → InputsFit i → NoneHolds (conditions i (length l))
+    → take (report_on bs (walked i l bs)).kept bs ++ flat_file (flat_run (run_of (walked i l bs).book)) (walked i l bs).list cs ≡ journal_of (after (walked i l bs).book (all_calls cs))
+grows i l bs cs f a =
+    let w = walked i l bs in
+    let g = journals_right.gives_back i l bs f w.book w.list (report_on bs w) (journals_right.resume_accepts i l bs a) in
+    rw (g.kept_journal, (along (run_of w.book) w.list cs).file) (written_on i w.book w.list (all_calls cs) (walked_state i l bs a))
+
+pub exported_journal_grows : ExportedJournalGrows
+exported_journal_grows i o l bs e f h cs =
+    let b = replay_right.resume_is_book i l bs in
+    let a = resumed_accepts i l bs (rw (e, b) at h) in
+    let w = walked i l bs in
+    rw (e, b, journals_right.resume_accepts i l bs a) (grows i l bs cs f a)
+
+pub exported_right : ExportedRight
+exported_right = record {
+  exported_starts = exported_starts;
+  exported_is_walk = exported_is_walk;
+  exported_is_book = exported_is_book;
+  exported_replays = exported_replays;
+  exported_gives_back = exported_gives_back;
+  exported_resumes = exported_resumes;
+  exported_journal = exported_journal;
+  exported_journal_grows = exported_journal_grows;
+  exported_report = exported_report;
+  exported_resumed_report = exported_resumed_report;
+}

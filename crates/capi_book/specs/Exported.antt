@@ -1,6 +1,6 @@
 -- The exported calls, what a host reads off their flat replies, and a list of such calls, each given the flat record and the seed list as the
 -- calls before left them, by the very definitions that the exported functions' contracts name. Definitions only.
-use Rattle.std.specs.Prelude.{ℕ, ◌≤◌, cond, List, [], ◌∷◌, ◌++◌, eqb, length, take, drop, Float, Option, Some, None, Result, Ok, Err}
+use Rattle.std.specs.Prelude.{ℕ, Bool, false, cond, ltb, List, [], ◌∷◌, ◌++◌, eqb, length, take, drop, Float, Option, Some, None, Result, Ok, Err}
 use Rattle.common.specs.declared.Refusal.{Refusal}
 use Rattle.common.specs.declared.Refusal.TheVariants.{TooFewViews, NoTilts, BadBound, BadStep, TooMany, BadSeed, TiltNotFinite, SmallBuffer, SeedWaits, ShortList, NothingScored, NoSeedWaits, BadRows, NotOver, SingularTilt, DegenerateViews, BadLength, NoRoom, NoSpread, SourceNotFinite, DestinationNotFinite, TooFewPoints, CountsDiffer, SourceCollinear, DestinationCollinear, BeyondHalf, NotWritable, NotOfForm, NotTheRun, TwoAxes, TiltedSeed, ShareAboveAll, NoPlate}
 use Rattle.common.specs.Number.{number_of}
@@ -33,18 +33,23 @@ use Rattle.capi_records.specs.declared.run.ResultFlat.{ResultFlat}
 use Rattle.capi_records.specs.declared.run.StopFlat.{StopFlat}
 use Rattle.capi_records.specs.declared.replay.ReplayFlat.{ReplayFlat}
 use Rattle.capi_records.specs.declared.replay.ResumeFlat.{ResumeFlat}
-use Rattle.capi_records.specs.Journal.{line_from}
+use Rattle.capi_records.specs.declared.journal.WriteReply.{WriteReply}
+use Rattle.capi_records.specs.Journal.{line_from, flat_written, record_reply, record_into}
 use Rattle.capi_records.specs.Record.{is_set, run_from}
 use Rattle.capi_records.specs.Run.{flat_next, flat_answer, flat_result, flat_stopped, flat_last_line, finding_of, copied, copy_count}
 use Rattle.score_best.specs.Best.{nothing, chosen}
 use Rattle.book.specs.Calls.{Call, nothing_left, floor, Reply, candidate, over, part, scored, skipped, result, bar, stopped, line, no_line, counted, refused}
 use Rattle.book.specs.Calls as book
+use Rattle.journal_line.specs.Report.{report_reply, report_into}
+use Rattle.book_journal.specs.Counts.{is_answer}
+use Rattle.book_journal.specs.Written.{buffer}
+use Rattle.book_journal.specs.Reported.{small_buffer}
 
 -- An exported call with its arguments, but for the run's record and the seed list. n is how many numbers of the list are lent; jc_seed also
--- gets a destination, with room for a seed.
+-- gets a destination.
 pub data Exported : Type 0 where
   jc_next_lem : ℕ → Exported
-  jc_seed_lem : ℕ → (to : List Float) → 6 ≤ length to → Exported
+  jc_seed_lem : ℕ → List Float → Exported
   jc_answer_lem : ℕ → ℕ → PinholeCamera → List Float → List ℕ → Exported
   jc_result_lem : Exported
   jc_progress_lem : Exported
@@ -52,16 +57,24 @@ pub data Exported : Type 0 where
   jc_last_line_lem : Exported
   jc_counts_lem : Exported
 
--- the call of the book that it makes
-abbrev pub call_of : Exported → Call
-call_of (jc_next_lem n) = book.next n
-call_of (jc_seed_lem n to room) = book.seed n
-call_of (jc_answer_lem n solved camera rows flags) = book.answer n (finding_of solved camera) rows flags
-call_of jc_result_lem = book.ask
-call_of jc_progress_lem = book.progress
-call_of (jc_stop_lem n) = book.stop n
-call_of jc_last_line_lem = book.last
-call_of jc_counts_lem = book.counts
+-- a destination without room for a seed, of which jc_seed says nothing but 0
+abbrev pub no_room : List Float → Bool
+no_room to = ltb (length to) 6
+
+-- the call of the book that it makes, or none: a seed call whose destination has no room for a seed asks nothing
+abbrev pub calls_of : Exported → List Call
+calls_of (jc_next_lem n) = book.next n ∷ []
+calls_of (jc_seed_lem n to) = cond (no_room to) [] (book.seed n ∷ [])
+calls_of (jc_answer_lem n solved camera rows flags) = book.answer n (finding_of solved camera) rows flags ∷ []
+calls_of jc_result_lem = book.ask ∷ []
+calls_of jc_progress_lem = book.progress ∷ []
+calls_of (jc_stop_lem n) = book.stop n ∷ []
+calls_of jc_last_line_lem = book.last ∷ []
+calls_of jc_counts_lem = book.counts ∷ []
+
+unfoldable pub all_calls : List Exported → List Call
+all_calls [] = []
+all_calls (c ∷ cs) = calls_of c ++ all_calls cs
 
 -- ---- what a host reads off a reply: whether its number is a refusal's, and then the flags say which field counts
 abbrev pub refusals : List Refusal
@@ -134,27 +147,55 @@ resumed_unless None f = Ok (record { run = run_from f.run; report = read_report 
 abbrev pub read_resume : ResumeFlat → Result Resumed Refusal
 read_resume f = resumed_unless (refusal_with f.number) f
 
--- ---- what is read of a call, and the record and the whole seed list after it
+-- ---- what is read of a call, one reply or none, and the record and the whole seed list after it
 pub record FlatStep : Type 0 where
-  pub reply : Reply
+  pub reply : List Reply
   pub run : RunRecord
   pub list : List Float
 
 unfoldable pub flat_call : RunRecord → List Float → Exported → FlatStep
-flat_call r l (jc_next_lem n) = let f = flat_next (next_def (run_from r) (take n l)) in record { reply = read_next f; run = f.run; list = l }
-flat_call r l (jc_seed_lem n to room) =
+flat_call r l (jc_next_lem n) = let f = flat_next (next_def (run_from r) (take n l)) in record { reply = read_next f ∷ []; run = f.run; list = l }
+flat_call r l (jc_seed_lem n to) =
     let seed = seed_part (run_from r) (take n l) in
-    record { reply = part (take (copy_count seed to) (copied seed to)); run = r; list = l }
+    record { reply = cond (no_room to) [] (part (take (copy_count seed to) (copied seed to)) ∷ []); run = r; list = l }
 flat_call r l (jc_answer_lem n solved camera rows flags) =
     let a = answer_def (run_from r) (finding_of solved camera) rows flags (take n l) in
     let f = flat_answer a.reply in
-    record { reply = read_answer f; run = f.run; list = a.list ++ drop n l }
-flat_call r l jc_result_lem = record { reply = read_result (flat_result (result_def (run_from r))); run = r; list = l }
-flat_call r l jc_progress_lem = record { reply = read_progress (progress_def (run_from r)); run = r; list = l }
-flat_call r l (jc_stop_lem n) = record { reply = read_stop (flat_stopped (stop_def (run_from r) (take n l))); run = r; list = l }
-flat_call r l jc_last_line_lem = record { reply = read_last (flat_last_line (last_def (run_from r))); run = r; list = l }
-flat_call r l jc_counts_lem = record { reply = counted (counts_def (run_from r)); run = r; list = l }
+    record { reply = read_answer f ∷ []; run = f.run; list = a.list ++ drop n l }
+flat_call r l jc_result_lem = record { reply = read_result (flat_result (result_def (run_from r))) ∷ []; run = r; list = l }
+flat_call r l jc_progress_lem = record { reply = read_progress (progress_def (run_from r)) ∷ []; run = r; list = l }
+flat_call r l (jc_stop_lem n) = record { reply = read_stop (flat_stopped (stop_def (run_from r) (take n l))) ∷ []; run = r; list = l }
+flat_call r l jc_last_line_lem = record { reply = read_last (flat_last_line (last_def (run_from r))) ∷ []; run = r; list = l }
+flat_call r l jc_counts_lem = record { reply = counted (counts_def (run_from r)) ∷ []; run = r; list = l }
 
 unfoldable pub flat_walk : RunRecord → List Float → List Exported → List Reply
 flat_walk r l [] = []
-flat_walk r l (c ∷ cs) = let a = flat_call r l c in a.reply ∷ flat_walk a.run a.list cs
+flat_walk r l (c ∷ cs) = let a = flat_call r l c in a.reply ++ flat_walk a.run a.list cs
+
+-- the record after some calls
+unfoldable pub flat_after : RunRecord → List Float → List Exported → RunRecord
+flat_after r l [] = r
+flat_after r l (c ∷ cs) = let a = flat_call r l c in flat_after a.run a.list cs
+
+-- ---- the bytes that a writer put in the front of its buffer, by its reply w; none where it refused
+abbrev pub bytes_in : WriteReply → List ℕ → List ℕ
+bytes_in w after = cond (eqb w.number 0) (take w.len after) []
+
+-- what jc_write_line makes of jc_last_line's record
+abbrev pub flat_line_bytes : LastRecord → List ℕ
+flat_line_bytes f = cond (eqb f.found 0) [] (bytes_in (flat_written (record_reply f.line buffer)) (record_into f.line buffer))
+
+-- A host that asks for the last line after each accepted answer, and writes it behind the others.
+abbrev pub is_accepted : List Reply → Bool
+is_accepted [] = false
+is_accepted (a ∷ none) = eqb (is_answer a) 1
+
+unfoldable pub flat_file : RunRecord → List Float → List Exported → List ℕ
+flat_file r l [] = []
+flat_file r l (c ∷ cs) =
+    let a = flat_call r l c in
+    cond (is_accepted a.reply) (flat_line_bytes (flat_last_line (last_def (run_from a.run)))) [] ++ flat_file a.run a.list cs
+
+-- what jc_write_report makes of jc_counts' reply
+abbrev pub flat_report : RunRecord → List ℕ
+flat_report r = let c = counts_def (run_from r) in bytes_in (flat_written (report_reply c small_buffer)) (report_into c small_buffer)

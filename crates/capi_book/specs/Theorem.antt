@@ -1,5 +1,6 @@
 -- What holds of the exported calls, as types. `capi_book/proofs/Theorem.antt` proves them. Definitions only.
-use Rattle.std.specs.Prelude.{ℕ, ◌≡◌, List, map, length, Float, Result}
+use Rattle.std.specs.Prelude.{ℕ, ◌≡◌, List, ◌++◌, length, take, Float, Result}
+use Rattle.common.specs.Each.{All}
 use Rattle.common.specs.declared.Refusal.{Refusal}
 use Rattle.common.specs.Number.{number_of}
 use Rattle.search_record.specs.declared.run.Run.{Run}
@@ -8,19 +9,26 @@ use Rattle.capi_records.specs.declared.record.OptionsRecord.{OptionsRecord}
 use Rattle.capi_records.specs.declared.run.StartFlat.{StartFlat}
 use Rattle.capi_records.specs.declared.replay.ReplayFlat.{ReplayFlat}
 use Rattle.capi_records.specs.declared.replay.ResumeFlat.{ResumeFlat}
-use Rattle.capi_records.specs.Record.{options_from, flat_run}
+use Rattle.capi_records.specs.declared.record.RunRecord.{RunRecord}
+use Rattle.capi_records.specs.Record.{options_from, run_from, flat_run}
 use Rattle.capi_records.specs.Run.{flat_started}
 use Rattle.capi_records.specs.Replay.{flat_replayed, flat_resumed}
 use Rattle.journal_replay.specs.Replay.{ReplayLeft, replay_from}
 use Rattle.journal_replay.specs.Resume.{ResumeLeft, resume_from}
-use Rattle.book.specs.Book.{Inputs, opened, replies}
+use Rattle.journal_line.specs.Counts.{counts_in}
+use Rattle.journal_line.specs.Reading.{read_journal}
+use Rattle.journal_line.specs.Report.{report_bytes}
+use Rattle.search_calls.specs.Counts.{counts_def}
+use Rattle.book.specs.Book.{Inputs, Book, opened, replies, after}
 use Rattle.book.specs.Conditions.{FirstHolds, NoneHolds, conditions}
 use Rattle.book.specs.Walk.{walk}
 use Rattle.book.specs.Theorem.{options_of}
+use Rattle.book_journal.specs.Lines.{journal_of}
+use Rattle.book_journal.specs.History.{InputsFit, CallFits}
 use Rattle.book_journal.specs.Replay.{walked, replay_of}
 use Rattle.book_journal.specs.Resume.{resume_of}
 use Rattle.book_replay.specs.Theorem.{with_record}
-use Rattle.capi_book.specs.Exported.{Exported, call_of, read_replay, read_resume, flat_walk}
+use Rattle.capi_book.specs.Exported.{Exported, all_calls, read_replay, read_report, read_resume, flat_walk, flat_after, flat_file, flat_report}
 
 -- Start's reply with the options that the record reads as
 abbrev pub start_with : Inputs → OptionsRecord → List Float → Result Run Refusal
@@ -42,12 +50,12 @@ ExportedStarts = (i : Inputs) (o : OptionsRecord) (l : List Float) → options_f
 
 -- From any run on, the exported calls are the walk's.
 abbrev pub ExportedIsWalk : Type 0
-ExportedIsWalk = (r : Run) (l : List Float) (cs : List Exported) → flat_walk (flat_run r) l cs ≡ walk r l (map call_of cs)
+ExportedIsWalk = (r : Run) (l : List Float) (cs : List Exported) → flat_walk (flat_run r) l cs ≡ walk r l (all_calls cs)
 
 -- After a jc_start that refuses nothing, every reply of every list of exported calls is the book's.
 abbrev pub ExportedIsBook : Type 0
 ExportedIsBook = (i : Inputs) (o : OptionsRecord) (l : List Float) → options_from o ≡ options_of i → (flat_start i o l).number ≡ 0
-    → (cs : List Exported) → flat_walk (flat_start i o l).run (flat_start_list i o l) cs ≡ replies (opened i) (map call_of cs)
+    → (cs : List Exported) → flat_walk (flat_start i o l).run (flat_start_list i o l) cs ≡ replies (opened i) (all_calls cs)
 
 -- ---- 02, E5 and E13: from the journal's bytes bs, jc_replay's and jc_resume's replies, and the lists after them
 abbrev pub flat_replay : Inputs → OptionsRecord → List Float → List ℕ → ReplayFlat
@@ -80,4 +88,41 @@ ExportedGivesBack = (i : Inputs) (o : OptionsRecord) (l : List Float) (bs : List
 -- After a jc_resume that refuses nothing, every reply of every list of exported calls is that of the book which the kept lines lead to.
 abbrev pub ExportedResumes : Type 0
 ExportedResumes = (i : Inputs) (o : OptionsRecord) (l : List Float) (bs : List ℕ) → options_from o ≡ options_of i → (flat_resume i o l bs).number ≡ 0
-    → (cs : List Exported) → flat_walk (flat_resume i o l bs).run (resume_left i o l bs).list cs ≡ replies (walked i l bs).book (map call_of cs)
+    → (cs : List Exported) → flat_walk (flat_resume i o l bs).run (resume_left i o l bs).list cs ≡ replies (walked i l bs).book (all_calls cs)
+
+-- ---- 02, E2 and E6: the bytes that a host gets of jc_last_line and jc_write_line after each accepted answer are the run's journal. Of a run that jc_resume gave back they
+-- come behind the kept bytes.
+abbrev pub ExportedJournal : Type 0
+ExportedJournal = (i : Inputs) (o : OptionsRecord) (l : List Float) → options_from o ≡ options_of i → (flat_start i o l).number ≡ 0
+    → (cs : List Exported) → flat_file (flat_start i o l).run (flat_start_list i o l) cs ≡ journal_of (after (opened i) (all_calls cs))
+
+abbrev pub ExportedJournalGrows : Type 0
+ExportedJournalGrows = (i : Inputs) (o : OptionsRecord) (l : List Float) (bs : List ℕ) → options_from o ≡ options_of i → InputsFit i → (flat_resume i o l bs).number ≡ 0
+    → (cs : List Exported)
+    → take (read_report (flat_resume i o l bs)).kept bs ++ flat_file (flat_resume i o l bs).run (resume_left i o l bs).list cs ≡ journal_of (after (walked i l bs).book (all_calls cs))
+
+-- After any calls jc_counts' reply is the counts of the lines in the run's journal, and jc_write_report makes the report of them.
+pub record FlatReportRight (r : RunRecord) (l : List Float) (cs : List Exported) (b : Book) : Type 0 where
+  pub counts_are : counts_def (run_from (flat_after r l cs)) ≡ counts_in (read_journal (journal_of b)).lines
+  pub is_written : flat_report (flat_after r l cs) ≡ report_bytes (counts_in (read_journal (journal_of b)).lines)
+
+abbrev pub ExportedReport : Type 0
+ExportedReport = (i : Inputs) (o : OptionsRecord) (l : List Float) → options_from o ≡ options_of i → InputsFit i → (flat_start i o l).number ≡ 0
+    → (cs : List Exported) → All CallFits (all_calls cs) → FlatReportRight (flat_start i o l).run (flat_start_list i o l) cs (after (opened i) (all_calls cs))
+
+abbrev pub ExportedResumedReport : Type 0
+ExportedResumedReport = (i : Inputs) (o : OptionsRecord) (l : List Float) (bs : List ℕ) → options_from o ≡ options_of i → InputsFit i → (flat_resume i o l bs).number ≡ 0
+    → (cs : List Exported) → All CallFits (all_calls cs) → FlatReportRight (flat_resume i o l bs).run (resume_left i o l bs).list cs (after (walked i l bs).book (all_calls cs))
+
+-- ---- all of it
+pub record ExportedRight : Type 0 where
+  pub exported_starts : ExportedStarts
+  pub exported_is_walk : ExportedIsWalk
+  pub exported_is_book : ExportedIsBook
+  pub exported_replays : ExportedReplays
+  pub exported_gives_back : ExportedGivesBack
+  pub exported_resumes : ExportedResumes
+  pub exported_journal : ExportedJournal
+  pub exported_journal_grows : ExportedJournalGrows
+  pub exported_report : ExportedReport
+  pub exported_resumed_report : ExportedResumedReport

@@ -7,3 +7,4 @@ pub mod Run
 pub mod Scoring
 pub mod RoundTrip
 pub mod Replay
+pub mod Theorem

@@ -8,6 +8,7 @@ use Rattle.score_outcome.specs.declared.SkipReason.TheVariants.{HostFailed, BadC
 use Rattle.journal_line.specs.Outcome.{Recorded}
 use Rattle.capi_records.specs.Record.{flag_of, is_set, run_from, flat_run}
 use Rattle.capi_records.specs.Journal.{line_from, flat_fields, flat_line}
+use Rattle.capi_records.specs.Theorem.{ComesBack}
 
 pub set_flag : (b : Bool) → is_set (flag_of b) ≡ b
 set_flag true = refl
@@ -29,3 +30,6 @@ fields_back n r s (Err q) = reason_back n r s q
 -- a line comes back as it was
 pub line_back : (l : Line) → line_from (flat_line l) ≡ Ok l
 line_back l = fields_back l.number l.round l.seed l.outcome
+
+pub comes_back : ComesBack
+comes_back = record { run_back = run_back; line_back = line_back }

@@ -5,6 +5,7 @@
 
 pub mod camera;
 pub mod journal;
+pub mod laws;
 pub mod lists;
 pub mod plate;
 pub mod record;

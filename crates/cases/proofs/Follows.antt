@@ -17,9 +17,12 @@ use Rattle.book.proofs.Theorem.{search_is_book}
 use Rattle.cases.specs.Numbers.{bits, quarter}
 use Rattle.cases.specs.Words.{f0, sixty}
 use Rattle.cases.specs.Lost.{all_lost_inputs, all_lost_run, all_lost_calls}
-use Rattle.cases.specs.OneAxis.{axis_inputs, axis_run, axis_calls, axis_winner}
+use Rattle.cases.specs.OneAxis.{starts_so, merged_to_the_first, axis_inputs, axis_run, axis_calls, axis_winner}
 use Rattle.cases.specs.Whole.{whole_inputs, whole_run, whole_calls, whole_winner}
 use Rattle.cases.proofs.OnWalk.{on_walk}
+use Rattle.cases.proofs.OnBook.{on_book}
+use Rattle.cases.specs.Theorem.{CasesHold}
+use Rattle.cases.specs.Table.{all_hold}
 
 accepted : start_of whole_inputs sixty ≡ Ok whole_run
 unfolding start_reply every good_seed too_many demand_of initial_list seed_grid pairs keep merged_into push has_near tilt_near camera_near near closer within in_bound read_from abs_of is_finite add sub neg lt le of_bits
@@ -72,3 +75,19 @@ axis_untilted = axis_follows.untilted refl
 
 pub axis_wins : Wins axis_inputs (answers axis_run (started_list axis_inputs sixty) axis_calls) axis_winner
 axis_wins = axis_follows.wins axis_winner on_walk.one_axis_result
+
+-- ---- all of it
+pub cases_hold : CasesHold
+cases_hold = record {
+  all_hold = all_hold;
+  on_walk = on_walk;
+  on_book = on_book;
+  starts_so = starts_so;
+  merged_to_the_first = merged_to_the_first;
+  whole_handed = whole_handed;
+  whole_wins = whole_wins;
+  all_lost_tried = all_lost_tried;
+  axis_few = axis_few;
+  axis_untilted = axis_untilted;
+  axis_wins = axis_wins;
+}

@@ -1,5 +1,5 @@
 -- The worked runs on the book, computed. Assumes nothing.
-use Rattle.std.proofs.Common.{◌≡◌, refl}
+use Rattle.std.proofs.Common.{refl}
 use Rattle.std.specs.Float.Ieee.{add, sub, mul, div, neg, lt, le, eq, is_nan, of_bits, of_int, sum, round, units, odd, size, span, climb}
 use Rattle.common.specs.Each.{every}
 use Rattle.float.specs.Float.{abs_of, is_finite, min_of, max_of, clamp_of, within}
@@ -20,25 +20,7 @@ use Rattle.score_best.specs.Best.{beats, unbeaten, first_unbeaten, best_of, no_b
 use Rattle.score_floor.specs.Floor.{counted_penalty, floor_of}
 use Rattle.journal_line.specs.Counts.{count_in}
 use Rattle.book.specs.Book.{demand, scored_of, round_best_of, run_best_of, step_of, first_list, list_around, opened, with_waiting, with_entry, with_round, with_end, close_round, book_enter, book_next, book_seed, book_answer, book_result, book_progress, rest_of, book_stop, book_call, replies, tally, book_counts}
-use Rattle.cases.specs.Whole.{whole_inputs, whole_calls, whole_replies}
-use Rattle.cases.specs.Lost.{lost_inputs, first_calls, first_replies, between_calls, between_replies, all_lost_inputs, all_lost_calls, all_lost_replies}
-use Rattle.cases.specs.OneAxis.{axis_inputs, axis_calls, axis_replies}
-use Rattle.cases.specs.Few.{few_inputs, few_calls, enough_replies, few_replies}
-use Rattle.cases.specs.Asked.{asked_inputs, asked_calls, asked_replies}
-use Rattle.cases.specs.Ended.{empty_inputs, empty_calls, empty_replies, failed_inputs, failed_calls, failed_replies}
-
--- the replies of each run
-pub record OnBook : Type 0 where
-  pub empty : replies (opened empty_inputs) empty_calls ≡ empty_replies
-  pub failed : replies (opened failed_inputs) failed_calls ≡ failed_replies
-  pub whole : replies (opened whole_inputs) whole_calls ≡ whole_replies
-  pub first_lost : replies (opened lost_inputs) first_calls ≡ first_replies
-  pub between_lost : replies (opened lost_inputs) between_calls ≡ between_replies
-  pub asked : replies (opened asked_inputs) asked_calls ≡ asked_replies
-  pub all_lost : replies (opened all_lost_inputs) all_lost_calls ≡ all_lost_replies
-  pub one_axis : replies (opened axis_inputs) axis_calls ≡ axis_replies
-  pub enough_counted : replies (opened (few_inputs 33)) few_calls ≡ enough_replies
-  pub few_counted : replies (opened (few_inputs 34)) few_calls ≡ few_replies
+use Rattle.cases.specs.Theorem.{OnBook}
 
 pub on_book : OnBook
 unfolding coefficient_of horner_of series_of beyond_half trig_of every abs_of is_finite min_of max_of clamp_of root_in isqrt root_of root product_of first_other second_other minor_of cofactor_of determinant_of inverse_of tilt_projection_matrix forward_depth inverse_depth apply_homography apply_homography_inverse radial_factor tangential_x tangential_y distorted jacobian_radial radial_derivative jacobian_at keep has_near push merged_into closer tilt_near camera_near near within in_bound pairs seed_grid initial_list offsets y_offsets next_list laid read_from damped finite_intrinsics finite_distortion valid_camera distortion_penalty tilt_penalty centre_penalty score_of rows_of tilt_matrix projected row_error is_counted counted_errors summed error_sum mean_of any_above_one solved_refusal finding_refusal errors_with mean_with enough enough_with scoring_of scored_as evaluated outcome_of beats unbeaten first_unbeaten best_of no_best is_better improved demand scored_of round_best_of run_best_of step_of first_list list_around opened with_waiting with_entry with_round with_end close_round book_enter book_next book_seed book_answer book_result book_progress rest_of book_stop book_call replies counted_penalty floor_of add sub mul div neg lt le eq is_nan of_bits of_int sum round units odd size span climb count_in tally book_counts

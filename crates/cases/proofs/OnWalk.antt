@@ -1,6 +1,5 @@
 -- The worked runs on the walk, from Start on, computed. Assumes nothing.
-use Rattle.std.proofs.Common.{◌≡◌, refl, [], ◌∷◌, Ok, Err}
-use Rattle.common.specs.declared.Refusal.TheVariants.{NothingScored, ShareAboveAll}
+use Rattle.std.proofs.Common.{refl}
 use Rattle.std.specs.Float.Ieee.{add, sub, mul, div, neg, lt, le, eq, is_nan, of_bits, of_int, sum, round, units, odd, size, span, climb}
 use Rattle.common.specs.Each.{every}
 use Rattle.float.specs.Float.{abs_of, is_finite, min_of, max_of, clamp_of, within}
@@ -28,35 +27,9 @@ use Rattle.search_calls.specs.Progress.{progress_def}
 use Rattle.search_calls.specs.Counts.{counts_def}
 use Rattle.search_calls.specs.Stop.{left_seeds, best_so_far, outlook_of, stop_def}
 use Rattle.score_floor.specs.Floor.{counted_penalty, floor_of, seeds_from}
-use Rattle.book.specs.Calls.{next, candidate, refused}
 use Rattle.book.specs.Walk.{run_call, walk}
 use Rattle.book.specs.Trace.{run_after}
-use Rattle.book.specs.Theorem.{started_list}
-use Rattle.cases.specs.Words.{sixty, walk_from}
-use Rattle.cases.specs.Whole.{whole_inputs, whole_run, whole_calls, whole_winner, whole_replies}
-use Rattle.cases.specs.Lost.{lost_inputs, first_calls, first_replies, between_calls, between_replies, all_lost_inputs, all_lost_run, all_lost_calls, all_lost_replies}
-use Rattle.cases.specs.OneAxis.{axis_inputs, axis_run, axis_calls, axis_winner, axis_replies}
-use Rattle.cases.specs.Few.{few_inputs, few_calls, enough_replies, few_replies}
-use Rattle.cases.specs.Asked.{asked_inputs, asked_calls, asked_replies}
-use Rattle.cases.specs.Ended.{empty_inputs, empty_calls, empty_replies, failed_inputs, failed_calls, failed_replies}
-
-pub record OnWalk : Type 0 where
-  pub empty : walk_from empty_inputs empty_calls ≡ empty_replies
-  pub failed : walk_from failed_inputs failed_calls ≡ failed_replies
-  pub whole : walk_from whole_inputs whole_calls ≡ whole_replies
-  pub first_lost : walk_from lost_inputs first_calls ≡ first_replies
-  pub between_lost : walk_from lost_inputs between_calls ≡ between_replies
-  pub asked : walk_from asked_inputs asked_calls ≡ asked_replies
-  pub all_lost : walk_from all_lost_inputs all_lost_calls ≡ all_lost_replies
-  pub one_axis : walk_from axis_inputs axis_calls ≡ axis_replies
-  pub enough_counted : walk_from (few_inputs 33) few_calls ≡ enough_replies
-  pub few_counted : walk_from (few_inputs 34) few_calls ≡ few_replies
-  -- 100 per cent may be asked for, and 101 may not
-  pub all_asked : walk_from (few_inputs 100) (next 54 ∷ []) ≡ candidate 0 ∷ []
-  pub more_asked : walk_from (few_inputs 101) (next 54 ∷ []) ≡ refused ShareAboveAll ∷ []
-  pub all_lost_result : result_def (run_after all_lost_run (started_list all_lost_inputs sixty) all_lost_calls) ≡ Err NothingScored
-  pub one_axis_result : result_def (run_after axis_run (started_list axis_inputs sixty) axis_calls) ≡ Ok axis_winner
-  pub whole_result : result_def (run_after whole_run (started_list whole_inputs sixty) whole_calls) ≡ Ok whole_winner
+use Rattle.cases.specs.Theorem.{OnWalk}
 
 pub on_walk : OnWalk
 unfolding coefficient_of horner_of series_of beyond_half trig_of every abs_of is_finite min_of max_of clamp_of root_in isqrt root_of root product_of first_other second_other minor_of cofactor_of determinant_of inverse_of tilt_projection_matrix forward_depth inverse_depth apply_homography apply_homography_inverse radial_factor tangential_x tangential_y distorted jacobian_radial radial_derivative jacobian_at keep has_near push merged_into closer tilt_near camera_near near within in_bound pairs seed_grid initial_list untilted_y offsets y_offsets next_list laid read_from damped finite_intrinsics finite_distortion valid_camera distortion_penalty tilt_penalty centre_penalty score_of rows_of tilt_matrix projected row_error is_counted counted_errors summed error_sum mean_of any_above_one solved_refusal finding_refusal errors_with mean_with enough enough_with scoring_of scored_as evaluated outcome_of beats unbeaten first_unbeaten best_of no_best is_better improved has_place sound awaiting with_outcome entered next_step round_opened ended good_seed only_zero too_many demand_of opening_of start_reply start_list next_def seed_lent seed_part next_seeds close_round enter_def outcome_for answer_def result_def progress_def left_seeds best_so_far outlook_of stop_def counted_penalty floor_of seeds_from run_call walk run_after add sub mul div neg lt le eq is_nan of_bits of_int sum round units odd size span climb total add_up counts_def

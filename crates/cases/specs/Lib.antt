@@ -8,3 +8,4 @@ pub mod Lost
 pub mod OneAxis
 pub mod Few
 pub mod Asked
+pub mod Theorem

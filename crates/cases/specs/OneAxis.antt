@@ -22,7 +22,7 @@ use Rattle.cases.specs.Words.{f0, f1, f50, f100, pinhole, centre, solved_with, s
 abbrev sixteenth : Float
 sixteenth = bits 0x3fb0_0000_0000_0000
 
-abbrev minus_zero : Float
+abbrev pub minus_zero : Float
 minus_zero = bits 0x8000_0000_0000_0000
 
 -- a run with the bound max, one typed x tilt, 0.25, the typed y tilts ys, and the decomposition ds
@@ -50,10 +50,10 @@ pub record Row : Type 0 where
   pub inputs : Inputs
   pub refusal : Result ⊤ Refusal
 
-abbrev row : Inputs → Result ⊤ Refusal → Row
+abbrev pub row : Inputs → Result ⊤ Refusal → Row
 row i r = record { inputs = i; refusal = r }
 
-abbrev Gives : Row → Type 0
+abbrev pub Gives : Row → Type 0
 Gives r = let i = r.inputs in start_refusal i.views (options_of i) i.xs i.ys i.decomposition (length sixty) ≡ r.refusal
 
 -- NaN, 0.75
@@ -89,7 +89,7 @@ unfolding every good_seed only_zero untilted_y too_many demand_of within in_boun
 starts_so = (refl, (refl, (refl, (refl, (refl, (refl, (refl, (refl, (refl, (refl, (refl, (refl, (refl, tt)))))))))))))
 
 -- ---- a step of 2^-42, below 1e-12: of x − s, x, x + s the first is kept, and −0 about y becomes 0
-abbrev tiny : Float
+abbrev pub tiny : Float
 tiny = bits 0x3d50_0000_0000_0000
 
 pub merged_to_the_first : next_list (offsets tiny) (y_offsets true tiny) (tilts f0 minus_zero) pinhole quarter ≡ seed_with pinhole (tilts (neg tiny) f0) ∷ []

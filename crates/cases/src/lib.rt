@@ -4,3 +4,11 @@
 // Lost.antt, Few.antt, Asked.antt, OneAxis.antt.
 
 #![tactic(auto)]
+
+ghost use Rattle.cases.specs.Theorem.{CasesHold};
+
+/// Each worked case holds: the table, the worked runs, and the theorem at three of them.
+#[tactic(auto, using(crate::proofs::Follows::cases_hold))]
+pub fn cases_law()
+    ensures { CasesHold }
+{}

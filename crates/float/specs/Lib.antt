@@ -9,3 +9,4 @@ pub mod Finite
 pub mod Binary64
 pub mod Exact
 pub mod Whole
+pub mod Theorem

@@ -12,3 +12,4 @@ pub mod NotBelow
 pub mod Sums
 pub mod Lower
 pub mod Squares
+pub mod OneTest

@@ -1,11 +1,11 @@
 -- Numbers of at most a known size: sums, differences and products of such numbers don't overflow where those of the limits don't. Assumes nothing.
 use Rattle.std.specs.Prelude.{◌≡◌, refl, Bool, true, false, cond, ℕ, zero, suc, ◌+◌, ◌*◌, ◌^◌, ltb, Float}
-use Rattle.std.proofs.Common.{sym, true≢false}
+use Rattle.std.proofs.Common.{true≢false}
 use Rattle.std.specs.Float.{nan, inf, fin, Format, binary64}
-use Rattle.std.specs.Float.Ieee.{prec, emax, low, odd, units, round, neg, add, sub, mul, is_nan}
+use Rattle.std.specs.Float.Ieee.{prec, emax, low, odd, units, round, add, mul, is_nan}
 use Rattle.float.specs.Float.{is_finite, sign_bit}
 use Rattle.float_laws.specs.Rounded.{Number, number, number_of, mul_rounds, add_rounds}
-use Rattle.float_laws.specs.Reaches.{Reaches, Below, below_finite, below_reached, reaches_neg, mul_reaches, add_reaches}
+use Rattle.float_laws.specs.Reaches.{Reaches, Below, below_finite, below_reached, mul_reaches, add_reaches}
 
 -- x is a number of at most b in size
 pub record Limited (b x : Float) : Type 0 where
@@ -54,16 +54,3 @@ add_number (number {s = s} {m = m} {e = e}) (number {s = t} {m = n} {e = d}) = l
 
 pub add_limited : {b c x y : Float} → sign_bit b ≡ false → sign_bit c ≡ false → Limited b x → Limited c y → is_finite (add binary64 b c) ≡ true → Limited (add binary64 b c) (add binary64 x y)
 add_limited {b} {c} {x} {y} p q g h f = limited (number_of _ f) (add_number (number_of x g.finite) (number_of y h.finite)) (add_reaches binary64 b c x y p q g.reached h.reached)
-
-neg_finite : (x : Float) → is_finite x ≡ true → is_finite (neg x) ≡ true
-unfolding is_finite neg
-neg_finite nan h = h
-neg_finite (inf s) h = absurd (true≢false (sym h))
-neg_finite (fin s m e) h = refl
-
-neg_limited : {c y : Float} → Limited c y → Limited c (neg y)
-neg_limited {c} {y} h = record { finite = neg_finite y h.finite; reached = reaches_neg c y h.reached }
-
-pub sub_limited : {b c x y : Float} → sign_bit b ≡ false → sign_bit c ≡ false → Limited b x → Limited c y → is_finite (add binary64 b c) ≡ true → Limited (add binary64 b c) (sub binary64 x y)
-unfolding sub
-sub_limited p q g h f = add_limited p q g (neg_limited h) f

@@ -1,5 +1,5 @@
--- What the answers are, for every argument and both series. Assumes nothing.
-use Rattle.std.specs.Prelude.{◌≡◌, refl, Bool, true, false, ℕ, ◌*◌, ◌^◌, ◌≤◌, ◌<◌, ℤ, Float, Result, Ok, Err}
+-- What the answers are, for every argument and both series: all of `specs/Theorem.antt`. Assumes nothing.
+use Rattle.std.specs.Prelude.{◌≡◌, refl, Bool, true, false, ℕ, ◌*◌, ◌^◌, ◌≤◌, ◌<◌, ℤ, Float, Ok}
 use Rattle.std.proofs.Common.{true≢false, arith, ltb-false}
 use Rattle.std.specs.Float.{nan, inf, fin}
 use Rattle.std.specs.Float.Ieee.{of_bits, up, down, lt, is_nan, mul, add}
@@ -8,14 +8,13 @@ use Rattle.float.specs.Float.{abs_of, is_finite}
 use Rattle.float.specs.Literals.{one₆₄, zero_of}
 use Rattle.float_laws.specs.Fraction.{Fraction}
 use Rattle.float_laws.specs.Rounded.{Within, within, value_of, value_pos}
-use Rattle.float_laws.specs.Integers.{apart, near_apart}
+use Rattle.float_laws.specs.Integers.{near_apart}
 use Rattle.float_series.specs.Series.{Series, cosines, sines, first, series_of, exact_of}
 use Rattle.float_series.specs.Exact.{terms_pos}
 use Rattle.float_series.specs.Answer.{beyond_half, answer_of}
 use Rattle.float_series.specs.Bound.{series_within}
+use Rattle.float_series.specs.Theorem.{Close, Right, SeriesRight}
 use Rattle.float_series.proofs.Ranges.{SineCosine, series_ranged}
-use Rattle.common.specs.declared.Refusal.{Refusal}
-use Rattle.common.specs.declared.Refusal.TheVariants.{BeyondHalf}
 
 -- ---- what is not refused is a number of at most 0.5 in size
 at_most_half : (s : Bool) (m : ℕ) (e : ℤ) → beyond_half (fin s m e) ≡ false → 2 * (m * up e) ≤ down e
@@ -35,31 +34,24 @@ sine_cosine nan h = absurd (true≢false h)
 sine_cosine (inf s) h = absurd (true≢false h)
 sine_cosine (fin s m e) h = series_ranged s m e (at_most_half s m e h)
 
--- ---- a number within 2 ^ -50 of the exact value, or a refusal; `apart` is the difference of two fractions, times both denominators
-pub record Close (y : Float) (e : Fraction) : Type 0 where
-  pub fraction : 0 < e.den
-  pub number : is_finite y ≡ true
-  pub close : 2 ^ 50 * apart (value_of y) e ≤ (value_of y).den * e.den
-
-abbrev pub Right : Series → Float → Result Float Refusal → Type 0
-Right w x (Ok y) = (beyond_half x ≡ false) × Close y (exact_of w (value_of x))
-Right w x (Err r) = (beyond_half x ≡ true) × (r ≡ BeyondHalf)
-
 close_of : {y : Float} {e : Fraction} → 0 < e.den → Within (2 ^ 50) 1 y e → Close y e
 unfolding is_finite
 close_of p (within h) = record { fraction = p; number = refl; close = omega (arith, near_apart h) }
 
-pub right : (w : Series) (x : Float) → Right w x (answer_of w x)
+right : (w : Series) (x : Float) → Right w x (answer_of w x)
 unfolding answer_of
 right w x = case (beyond_half x) (λ t. rw t (t, refl)) (λ f. rw f (f, close_of (terms_pos (value_of x) (value_pos x) 8 (first w)) (series_near w x f)))
 
 -- ---- a zero gives itself, sign included, and exactly 1
-pub sine_zero : (s : Bool) → answer_of sines (zero_of s) ≡ Ok (zero_of s)
+sine_zero : (s : Bool) → answer_of sines (zero_of s) ≡ Ok (zero_of s)
 unfolding answer_of beyond_half series_of abs_of is_nan lt of_bits add mul
 sine_zero true = refl
 sine_zero false = refl
 
-pub cosine_zero : (s : Bool) → answer_of cosines (zero_of s) ≡ Ok one₆₄
+cosine_zero : (s : Bool) → answer_of cosines (zero_of s) ≡ Ok one₆₄
 unfolding answer_of beyond_half series_of abs_of is_nan lt of_bits add mul
 cosine_zero true = refl
 cosine_zero false = refl
+
+pub series_right : SeriesRight
+series_right = record { right = right; sine_zero = sine_zero; cosine_zero = cosine_zero }

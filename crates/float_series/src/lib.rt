@@ -1,7 +1,9 @@
 // Sine and cosine of a number of at most 0.5 in size, by eight terms of their power series: the same bits on every computer.
-// Any other argument, NaN too, is refused. How near the answers are to the exact sums is `proofs/Theorem.antt`.
+// Any other argument, NaN too, is refused. How near the answers are to the exact sums is `specs/Theorem.antt`.
 
 #![tactic(auto)]
+
+pub mod laws;
 
 ghost use Rattle.std.specs.Prelude.{◌≡◌, ◌≤◌, ◌<◌, cond, Ok, Err};
 ghost use Rattle.common.specs.declared.Refusal.TheVariants.{BeyondHalf};
@@ -70,6 +72,10 @@ pub fn cosine_sum(x: f64) -> f64
 pub fn beyond(x: f64) -> bool
     ensures { result ≡ beyond_half x }
 {
+    // Mostly the square tells, which the series needs too: a rounded square keeps the order of sizes.
+    if x * x < 0.5 * 0.5 {
+        return false;
+    }
     !float::within(0.5, x)
 }
 

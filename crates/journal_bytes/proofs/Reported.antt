@@ -8,7 +8,8 @@ use Rattle.journal_line.specs.Line.{decimal_width, decimal}
 use Rattle.journal_line.specs.Steps.{comma_fields, Stored}
 use Rattle.journal_line.specs.Report.{total, small_total, report_bytes, refuses_report, report_reply, report_into}
 use Rattle.journal_line.proofs.DigitLaws.{decimal_length}
-use Rattle.journal_line.proofs.ReportLaws.{others, report_front, report_is, report_bounds}
+use Rattle.journal_line.specs.Theorem.{others, report_front}
+use Rattle.journal_line.proofs.ReportLaws.{report_is, report_bounds}
 use Rattle.journal_bytes.proofs.Stores.{stored_then, stored_as, stored_front}
 
 -- ---- the report

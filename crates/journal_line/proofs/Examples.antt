@@ -1,5 +1,5 @@
 -- Some fields, and some reports, as they are written, by computation. Assumes nothing.
-use Rattle.std.specs.Prelude.{◌≡◌, refl, ℕ, [], ◌∷◌, map, length, replicate, Ok, Err}
+use Rattle.std.specs.Prelude.{◌≡◌, refl, [], ◌∷◌, map, length, replicate, Ok, Err}
 use Rattle.std.specs.Float.{nan, binary64}
 use Rattle.std.specs.Float.Ieee.{of_bits, to_bits, is_nan}
 use Rattle.float.specs.Float.{bits_of}
@@ -8,6 +8,7 @@ use Rattle.score_outcome.specs.declared.SkipReason.TheVariants.{HostFailed, BadC
 use Rattle.common.specs.declared.Refusal.TheVariants.{NotWritable}
 use Rattle.journal_line.specs.Line.{digit_byte, digits, decimal_width, decimal, real, reason_letter, rest_of_line}
 use Rattle.journal_line.specs.Report.{total, report_bytes, refuses_report, report_reply, report_into}
+use Rattle.journal_line.specs.Theorem.{of, FieldsWritten}
 
 -- "0", "10", "655"
 numbers : map decimal (0 ∷ 10 ∷ 655 ∷ []) ≡ (48 ∷ []) ∷ (49 ∷ 48 ∷ []) ∷ (54 ∷ 53 ∷ 53 ∷ []) ∷ []
@@ -30,9 +31,6 @@ unfolding reason_letter
 letters = refl
 
 -- ---- reports
-abbrev of : ℕ → ℕ → ℕ → ℕ → ℕ → Counts
-of s h c e n = record { scored = s; host_failed = h; bad_camera = c; no_mean = e; no_number = n }
-
 -- "0,0,0,0,0,0" and a newline: 12 bytes
 nothing_yet : report_bytes (of 0 0 0 0 0) ≡ 48 ∷ 44 ∷ 48 ∷ 44 ∷ 48 ∷ 44 ∷ 48 ∷ 44 ∷ 48 ∷ 44 ∷ 48 ∷ 10 ∷ []
 unfolding report_bytes total rest_of_line decimal decimal_width digits digit_byte
@@ -62,3 +60,17 @@ no_wrap = refl
 small_buffer_lem : (report_reply (of 0 0 0 0 0) (replicate 23 7) ≡ Err NotWritable) × (report_into (of 0 0 0 0 0) (replicate 23 7) ≡ replicate 23 7)
 unfolding report_reply report_into refuses_report total
 small_buffer_lem = (refl, refl)
+
+pub fields_written : FieldsWritten
+fields_written = record {
+  numbers = numbers;
+  one = one;
+  not_a_number = not_a_number;
+  letters = letters;
+  nothing_yet = nothing_yet;
+  in_order = in_order;
+  longest = longest;
+  totals = totals;
+  no_wrap = no_wrap;
+  small_buffer = small_buffer_lem;
+}

@@ -16,13 +16,11 @@ use Rattle.journal_line.specs.declared.Read.{Read}
 use Rattle.journal_line.specs.declared.Read.TheVariants.{Got, End, NotOfForm}
 use Rattle.journal_line.specs.Line.{line_bytes, LineFits, Writable, journal_bytes}
 use Rattle.journal_line.specs.Reading.{newlines, read_line, Ending, ended, refused, unread, Lines, goes_on, read_all, read_journal}
-use Rattle.journal_line.proofs.Unique.{Correct, read_correct, line_bounds, line_injective}
+use Rattle.journal_line.specs.Theorem.{Correct}
+use Rattle.journal_line.proofs.Unique.{read_correct, line_bounds, line_injective}
 use Rattle.journal_line.proofs.Numbers.{newlines_append, line_newlines, cut_line}
 use Rattle.journal_line.proofs.Whole.{whole_stops}
-
--- no line that the writer takes begins here
-abbrev pub NoLine : List ℕ → Type 0
-NoLine s = (l : Line) (rest : List ℕ) → LineFits l → Writable l → s ≡ line_bytes l ++ rest → ⊥
+use Rattle.journal_line.specs.Theorem.{NoLine}
 
 -- what was read of s, and the rest
 pub record Front (s : List ℕ) (r : Lines) : Type 0 where

@@ -18,7 +18,8 @@ use Rattle.journal_line.specs.Line.{digit_byte, digits, decimal, real, reason_le
 use Rattle.journal_line.specs.Reading.{newlines, line_number_of, read_line, refused, Lines, goes_on, read_all, read_journal}
 use Rattle.journal_line.specs.Steps.{comma_fields}
 use Rattle.journal_line.proofs.FieldLaws.{rest_of_commas}
-use Rattle.journal_line.proofs.Unique.{LineAt, Correct, read_correct}
+use Rattle.journal_line.specs.Theorem.{LineAt, Correct}
+use Rattle.journal_line.proofs.Unique.{read_correct}
 
 -- ---- no newline in a field
 pub newlines_append : (s t : List ℕ) → newlines (s ++ t) ≡ newlines s + newlines t

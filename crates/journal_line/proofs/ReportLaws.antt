@@ -5,18 +5,14 @@ use Rattle.common.specs.Each.{All}
 use Rattle.journal_line.specs.declared.Counts.{Counts}
 use Rattle.journal_line.specs.Line.{decimal_width, decimal, rest_of_line}
 use Rattle.journal_line.specs.Reading.{newlines, number_at, decimal_width_at}
-use Rattle.journal_line.specs.Steps.{comma_fields}
 use Rattle.journal_line.specs.Report.{five, total, report_bytes}
 use Rattle.journal_line.proofs.DigitLaws.{width_fits, decimal_length, width_back, number_back}
 use Rattle.journal_line.proofs.FieldLaws.{wide, rest_length}
 use Rattle.journal_line.proofs.Unique.{past_comma}
 use Rattle.journal_line.proofs.Numbers.{NoNewline, decimal_no_newline, fields_are, fields_no_newline}
+use Rattle.journal_line.specs.Theorem.{others, report_front}
 
 -- ---- the counts and their total
--- the numbers behind the first one, of which the last is the total
-abbrev pub others : Counts → ℕ → List ℕ
-others c sum = c.host_failed ∷ c.bad_camera ∷ c.no_mean ∷ c.no_number ∷ sum ∷ []
-
 abbrev pub Small : ℕ → Type 0
 Small n = n ≤ 656
 
@@ -25,10 +21,6 @@ unfolding total
 all_small c h = (omega arith, (omega arith, (omega arith, (omega arith, (omega arith, (h, tt))))))
 
 -- ---- bytes
--- a report without its last byte
-unfoldable pub report_front : Counts → List ℕ
-report_front c = decimal c.scored ++ comma_fields (map decimal (others c (total c)))
-
 pub report_is : (c : Counts) → report_bytes c ≡ report_front c ++ (10 ∷ [])
 unfolding report_bytes report_front
 report_is c = fields_are (decimal c.scored) (map decimal (others c (total c)))

@@ -17,12 +17,12 @@ use Rattle.score_outcome.specs.declared.SkipReason.{SkipReason}
 use Rattle.score_outcome.specs.declared.SkipReason.TheVariants.{HostFailed, BadCamera, NoMean, NoNumber}
 use Rattle.journal_line.specs.Outcome.{Recorded}
 use Rattle.journal_line.specs.declared.Line.{Line}
-use Rattle.journal_line.specs.declared.Read.{Read}
-use Rattle.journal_line.specs.declared.Read.TheVariants.{Got, End, NotOfForm}
+use Rattle.journal_line.specs.declared.Read.TheVariants.{Got}
 use Rattle.journal_line.specs.Line.{decimal_width, decimal, real, reason_letter, eight, outcome_fields, rest_of_line, line_bytes, recordable, writable, Fits, recorded_numbers, LineFits, Writable}
-use Rattle.journal_line.specs.Reading.{real_at, reals, scored_at, reason_of, outcome_at, from_round, from_seed, line_with, unchecked_line, begins, of_form, line_number_of, read_line}
+use Rattle.journal_line.specs.Reading.{real_at, reals, scored_at, reason_of, outcome_at, from_round, from_seed, line_with, unchecked_line, begins, of_form, read_line}
 use Rattle.journal_line.proofs.DigitLaws.{width_back, number_back, decimal_length, width_fits}
 use Rattle.journal_line.proofs.FieldLaws.{next_field, reals_back, past_reals, wide, rest_length, reals_wide}
+use Rattle.journal_line.specs.Theorem.{LineAt, Correct}
 
 -- ---- what was written is what the bytes would be
 reason_back : (r : SkipReason) → (eqb (reason_letter r) 83 ≡ false) × (reason_of (reason_letter r) ≡ Some r)
@@ -191,33 +191,21 @@ pub one_reading : (l : Line) → LineFits l → Writable l → (before rest : Li
 one_reading l ok can before rest = one_reading_at (before ++ (line_bytes l ++ rest)) (length before) l rest ok can (drop-append_seam before (line_bytes l ++ rest))
 
 -- ---- each reading has one line
-pub record LineAt (s : List ℕ) (at next : ℕ) (l : Line) : Type 0 where
-  pub can_be_written : Writable l
-  pub line_fits : LineFits l
-  pub next_is : next ≡ at + length (line_bytes l)
-  pub bytes_are : drop at s ≡ line_bytes l ++ drop next s
-
 module _ (s : List ℕ) (at : ℕ) where
   found : (l : Line) → unchecked_line (drop at s) ≡ Some l → of_form (drop at s) l ≡ true → LineAt s at (at + length (line_bytes l)) l
   found l u h =
       let b = form_is (drop at s) l u h in
       record { can_be_written = b.can_be_written; line_fits = b.line_fits; next_is = refl; bytes_are = b.written_so ∙ ap (λ (r : List ℕ). line_bytes l ++ r) (drop-drop (length (line_bytes l)) at s) }
 
-  -- what an answer tells
-  abbrev pub Correct : Read → Type 0
-  Correct (Got l next) = LineAt s at next l
-  Correct End = length s ≤ at
-  Correct (NotOfForm n) = (n ≡ line_number_of s at) × (at < length s) × ((l : Line) (rest : List ℕ) → LineFits l → Writable l → drop at s ≡ line_bytes l ++ rest → ⊥)
-
   -- bytes that begin with a line would be that line, and of its form
   of_line : (l : Line) (rest : List ℕ) → LineFits l → Writable l → drop at s ≡ line_bytes l ++ rest → (unchecked_line (drop at s) ≡ Some l) × (of_form (drop at s) l ≡ true)
   of_line l rest ok can q = (ap unchecked_line q ∙ unchecked_back l ok can rest, ap (λ (t : List ℕ). of_form t l) q ∙ form_own l ok can rest)
 
-  pub read_correct : Correct (read_line s at)
+  pub read_correct : Correct s at (read_line s at)
   unfolding read_line
   read_correct = case (ltb at (length s)) (λ e. by_line (unchecked_line (drop at s)) refl e) (λ e. rw e (ltb-false at (length s) e))
     where
-      by_line : (o : Option Line) → unchecked_line (drop at s) ≡ o → ltb at (length s) ≡ true → Correct (read_line s at)
+      by_line : (o : Option Line) → unchecked_line (drop at s) ≡ o → ltb at (length s) ≡ true → Correct s at (read_line s at)
       by_line None u e = unfold read_line in
           rw (e, u) (refl, ltb-true at (length s) e, λ l rest ok can q. let p : ◌≡◌ {A = Option Line} None (Some l) = sym u ∙ (of_line l rest ok can q).0 in cc)
       by_line (Some l) u e = unfold read_line in

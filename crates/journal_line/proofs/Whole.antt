@@ -7,7 +7,9 @@ use Rattle.journal_line.specs.declared.Read.{Read}
 use Rattle.journal_line.specs.declared.Read.TheVariants.{Got, End, NotOfForm}
 use Rattle.journal_line.specs.Line.{line_bytes, LineFits, Writable, journal_bytes}
 use Rattle.journal_line.specs.Reading.{read_line, Ending, ended, refused, unread, Lines, goes_on, read_all, read_journal}
-use Rattle.journal_line.proofs.Unique.{Correct, read_correct, one_reading, line_bounds}
+use Rattle.journal_line.specs.Theorem.{Correct}
+use Rattle.journal_line.proofs.Unique.{read_correct, one_reading, line_bounds}
+use Rattle.journal_line.specs.Theorem.{Written}
 
 -- ---- what was written is read
 end_at : (s : List ℕ) (at : ℕ) → length s ≤ at → read_line s at ≡ End
@@ -44,11 +46,6 @@ pub whole_reading : (ls : List Line) → All LineFits ls → All Writable ls →
 whole_reading ls ok can = written_read ls ok can [] (suc (length (journal_bytes ls))) (omega (arith, journal_long ls can))
 
 -- ---- what is read was written
-pub record Written (s : List ℕ) (ls : List Line) : Type 0 where
-  pub lines_fit : All LineFits ls
-  pub can_be_written : All Writable ls
-  pub bytes_are : s ≡ journal_bytes ls
-
 -- what was read up to the end, or up to a line that was refused
 abbrev Wrote : List ℕ → ℕ → Lines → Type 0
 Wrote s at r = r.ending ≡ ended → Written (drop at s) r.lines

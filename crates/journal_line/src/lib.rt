@@ -3,6 +3,7 @@
 
 #![tactic(auto)]
 
+pub mod laws;
 pub mod outcome;
 pub mod total;
 

@@ -13,7 +13,8 @@ use Rattle.point_normalise.specs.Linalg.{epsilon, mean_distance, centroid_of, de
 use Rattle.point_homography.specs.Line.{collinear_of}
 use Rattle.point_homography.specs.Rows.{design_conditions, rows_refusal}
 use Rattle.point_homography.specs.RowsLaws.{Fine, fine}
-use Rattle.point_homography.specs.Spread.{mean_close, close_collinear}
+use Rattle.point_homography.specs.Spread.{mean_close, close_collinear, two_points, three_points}
+use Rattle.point_homography.specs.Theorem.{RowsNormalised}
 
 -- ---- so the mean distance of 3 to 400 points that aren't collinear, from any point, is not at most 2^-52
 module _ (s : List Float) (n : 6 ≤ length s) (m : length s ≤ 800) where
@@ -35,3 +36,12 @@ normalised src dst room h =
 -- so the Rust's two checks after its line tests, with whatever refusal, refuse nothing
 pub checks_refuse_nothing : (r : Refusal) (src dst : List Float) (room : ℕ) → first_refusal (design_conditions src dst room ++ (r when degenerate src) ∷ (r when degenerate dst) ∷ []) ≡ rows_refusal src dst room
 checks_refuse_nothing r src dst room = refuses_no_more (design_conditions src dst room) ((r when degenerate src) ∷ (r when degenerate dst) ∷ []) (λ h. let f = normalised src dst room h in rw (f.0, f.1))
+
+pub rows_normalised : RowsNormalised
+rows_normalised = record {
+  mean_above = mean_above;
+  normalised = normalised;
+  checks_refuse_nothing = checks_refuse_nothing;
+  two_points = two_points;
+  three_points = three_points;
+}

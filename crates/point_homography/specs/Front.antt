@@ -1,5 +1,5 @@
 -- Normalise and Rows write the front that they promise and nothing else, and nothing at all where they refuse. Assumes nothing.
-use Rattle.std.specs.Prelude.{◌≡◌, refl, false, List, [], ◌∷◌, ◌++◌, ℕ, ◌*◌, ◌/◌, ltb, length, take, drop, Float, Ok, Err}
+use Rattle.std.specs.Prelude.{◌≡◌, refl, false, List, [], ◌∷◌, ◌++◌, ℕ, ◌*◌, ◌/◌, ltb, length, drop, Float, Ok, Err}
 use Rattle.std.proofs.Common.{sym, ◌∙◌, arith}
 use Rattle.std.proofs.Math.Seq.{take-append_seam, drop-append_seam}
 use Rattle.common.specs.declared.Refusal.{Refusal}
@@ -12,11 +12,7 @@ use Rattle.point_normalise.specs.Linalg.{degenerate, similarity_of, move_xy, mov
 use Rattle.point_homography.specs.Rows.{rows_refusal, design_rows, rows_into}
 use Rattle.point_normalise.specs.Walk.{each_length}
 use Rattle.point_homography.specs.RowsLaws.{fine, rows_length}
-
--- `to` is `from` with the numbers w in place of its first n
-pub record Front (n : ℕ) (w from to : List Float) : Type 0 where
-  pub written : take n to ≡ w
-  pub kept : drop n to ≡ drop n from
+use Rattle.point_homography.specs.Theorem.{Front, FrontsRight}
 
 front : (n : ℕ) (w d : List Float) → length w ≡ n → Front n w d (w ++ drop (length w) d)
 front n w d e = rw (sym e) (record { written = take-append_seam w (drop (length w) d); kept = drop-append_seam w (drop (length w) d) })
@@ -50,3 +46,6 @@ rows_front src dst a h =
 pub rows_refused : (src dst a : List Float) (r : Refusal) → rows_refusal src dst (length a) ≡ Err r → rows_into src dst a ≡ a
 unfolding rows_into
 rows_refused src dst a r h = rw (h, rows_into)
+
+pub fronts_right : FrontsRight
+fronts_right = record { normalize_front = normalize_front; normalize_refused = normalize_refused; rows_front = rows_front; rows_refused = rows_refused }

@@ -3,3 +3,4 @@ pub mod Rows
 pub mod RowsLaws
 pub mod Front
 pub mod Spread
+pub mod Theorem

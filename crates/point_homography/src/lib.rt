@@ -2,6 +2,8 @@
 
 #![tactic(auto)]
 
+pub mod laws;
+
 ghost use Rattle.std.specs.Prelude.{◌≡◌, ◌*◌, ◌≤◌, [], ◌∷◌, length};
 ghost use Rattle.std.proofs.lemmas.List.Edits.{sets};
 ghost use Rattle.common.specs.Checks.{first_refusal};
@@ -36,14 +38,19 @@ fn cross(p0: Pt2, p1: Pt2, p2: Pt2) -> f64
 }
 
 // Whether p2 is neither in the place of p0 nor on the line through p0 and p1.
-#[tactic(auto, unfolding(crate::specs::Line::off_line))]
+#[tactic(auto, using(crate::proofs::NearLine::near_line), unfolding(crate::specs::Line::off_line))]
 fn off_line(p0: Pt2, p1: Pt2, p2: Pt2) -> bool
     ensures { result ≡ off_line p0 p1 p2 }
 {
     if linalg::distance(p2, p0) <= 1e-9 {
         return false;
     }
-    float::abs(cross(p0, p1, p2)) > 1e-6
+    let c = cross(p0, p1, p2);
+    // Mostly the squares tell: a rounded square keeps the order of sizes.
+    if c * c < 1e-6 * 1e-6 {
+        return false;
+    }
+    float::abs(c) > 1e-6
 }
 
 fn any_off_line(points: &[f64], p0: Pt2, p1: Pt2) -> bool

@@ -1,8 +1,9 @@
 // The centre of the observed pixels.
 
-ghost use Rattle.std.specs.Prelude.{◌≡◌, ◌&&◌};
+ghost use Rattle.std.specs.Prelude.{◌≡◌, ◌&&◌, true};
 ghost use Rattle.std.specs.Float.Ieee.{le};
 ghost use Rattle.float.specs.Binary64.{◌+₆₄◌, ◌*₆₄◌};
+ghost use Rattle.float.specs.Float.{is_finite, min_of, max_of};
 ghost use Rattle.float.specs.Literals.{plus_zero, half₆₄};
 ghost use Rattle.point_maps.specs.Centre.{widen, extent_of, center_of, center_reply};
 
@@ -18,16 +19,44 @@ pub struct Extent {
     pub max_y: f64,
 }
 
-// The extent with one more pixel, if both of its coordinates are finite.
+// The lower of two numbers, as `float::min` has it, where the second is no NaN: then one comparison tells, since it fails for a first
+// that is one.
+fn lower(x: f64, y: f64) -> f64
+    requires { is_finite y ≡ true }
+    ensures { result ≡ min_of x y }
+{
+    if x <= y { x } else { y }
+}
+
+// The higher, likewise.
+fn higher(x: f64, y: f64) -> f64
+    requires { is_finite y ≡ true }
+    ensures { result ≡ max_of x y }
+{
+    if y <= x { x } else { y }
+}
+
+// Whether a pixel lies in the extent.
+fn holds(e: Extent, p: Pt2) -> bool
+    ensures { result ≡ (le e.min_x p.x && le p.x e.max_x && le e.min_y p.y && le p.y e.max_y) }
+{
+    e.min_x <= p.x && p.x <= e.max_x && e.min_y <= p.y && p.y <= e.max_y
+}
+
+// The extent with one more pixel, if both of its coordinates are finite. Most pixels lie in it: then no selection waits for another.
+#[tactic(auto, using(crate::proofs::Held::held))]
 fn widened(e: Extent, p: Pt2) -> Extent
     ensures { result ≡ widen e p }
 {
-    if float::all_finite(&[p.x, p.y]) {
+    if holds(e, p) {
+        return e;
+    }
+    if float::is_finite(p.x) && float::is_finite(p.y) {
         return Extent {
-            min_x: float::min(e.min_x, p.x),
-            min_y: float::min(e.min_y, p.y),
-            max_x: float::max(e.max_x, p.x),
-            max_y: float::max(e.max_y, p.y),
+            min_x: lower(e.min_x, p.x),
+            min_y: lower(e.min_y, p.y),
+            max_x: higher(e.max_x, p.x),
+            max_y: higher(e.max_y, p.y),
         };
     }
     e

@@ -5,3 +5,4 @@ pub mod Linalg
 pub mod Hartley
 pub mod MeanDistance
 pub mod AllPoints
+pub mod Theorem

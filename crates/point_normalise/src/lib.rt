@@ -2,4 +2,5 @@
 
 #![tactic(auto)]
 
+pub mod laws;
 pub mod linalg;

@@ -81,7 +81,7 @@ pub fn squared_distance(p: Pt2, q: Pt2) -> f64
 pub fn distance(p: Pt2, q: Pt2) -> f64
     ensures { result ≡ distance_of p q }
 {
-    root_code::sqrt(squared_distance(p, q))
+    root_code::machine::sqrt(squared_distance(p, q))
 }
 
 fn centroid(points: &[f64]) -> Pt2
@@ -118,7 +118,7 @@ fn scaled_to(c: Pt2, mean: f64) -> Similarity
     ensures { result ≡ scaled_to c mean }
 {
     Similarity {
-        scale: root_code::sqrt(2.0) / mean,
+        scale: root_code::machine::sqrt(2.0) / mean,
         cx: c.x,
         cy: c.y,
     }

@@ -23,17 +23,17 @@ use Rattle.root.proofs.NearestWhole.{nearest_one, no_tie}
 use Rattle.root.proofs.Squares.{root_of_square}
 
 -- ---- a value that fits, in the format's smallest values
-place : (l : ℕ) (m : ℕ) (e : ℤ) → down e ≤ 2 ^ l → (j : ℕ) × (m * up e * 2 ^ l ≡ m * 2 ^ j * down e)
+pub place : (l : ℕ) (m : ℕ) (e : ℤ) → down e ≤ 2 ^ l → (j : ℕ) × (m * up e * 2 ^ l ≡ m * 2 ^ j * down e)
 place l m (pos a) h = (a + l, mul_assoc m (2 ^ a) (2 ^ l) ∙ ap (λ (x : ℕ). m * x) (sym (pow-add 2 a l)) ∙ sym (mul-one (m * 2 ^ (a + l))))
 place l m (negsuc a) h =
     let g : suc a ≤ l = power_le (suc a) l h in
     (l - suc a, ap (λ (x : ℕ). x * 2 ^ l) (mul-one m) ∙ ap (λ (x : ℕ). m * 2 ^ x) (sym (sub-add_cancel g)) ∙ ap (λ (x : ℕ). m * x) (pow-add 2 (l - suc a) (suc a)) ∙ sym (mul_assoc m (2 ^ (l - suc a)) (2 ^ suc a)))
 
 -- its digits, below 2 ^ prec, and their place; it is below the format's end
-abbrev InUnits : Format → ℕ → ℤ → Type 0
+abbrev pub InUnits : Format → ℕ → ℤ → Type 0
 InUnits f m e = (m < 2 ^ prec f) × (down e ≤ 2 ^ low f) × (m * up e < 2 ^ suc (emax f) * down e)
 
-in_units : (f : Format) (s : Bool) (m : ℕ) (e : ℤ) → T (fits f (fin s (suc m) e)) → InUnits f (suc m) e
+pub in_units : (f : Format) (s : Bool) (m : ℕ) (e : ℤ) → T (fits f (fin s (suc m) e)) → InUnits f (suc m) e
 unfolding fits
 in_units f s m e h =
     let A = eqb (suc m % 2) 1 in

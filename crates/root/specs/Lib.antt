@@ -3,3 +3,4 @@ pub mod IntegerRoot
 pub mod ByValue
 pub mod Compare
 pub mod Nearer
+pub mod Theorem

@@ -1,6 +1,4 @@
-mod Max
 mod Rounds
 mod Steps
 mod Patterns
 mod Exponents
-mod Guess

@@ -1,5 +1,5 @@
 -- The numbers of the digit-by-digit loops and of the root from a guess. Assumes nothing.
-use Rattle.std.proofs.Common.{◌≡◌, ℕ, zero, suc, ◌+◌, ◌-◌, ◌*◌, ◌/◌, ◌%◌, ◌^◌, ◌<◌, ◌≤◌, Bool, true, false, cond, not, T, ltb, sym, ap, ◌∙◌, subst, le_trans, le_of_eq, lt_of_le_of_lt, le_of_lt, mul_assoc, mul-le-mul_left, pow-suc, add-one, arith, ltb→lt, nltb→le, shl_lt, shr-shr}
+use Rattle.std.proofs.Common.{◌≡◌, ℕ, zero, suc, ◌+◌, ◌-◌, ◌*◌, ◌/◌, ◌%◌, ◌^◌, ◌<◌, ◌≤◌, Bool, true, false, cond, not, T, ltb, sym, ap, ◌∙◌, le_trans, le_of_eq, lt_of_le_of_lt, le_of_lt, mul_assoc, mul-le-mul_left, pow-suc, add-one, arith, ltb→lt, nltb→le, shl_lt, shr-shr}
 use native.Mathlib.Nat.{pow-le-pow_right}
 use Rattle.root_code.specs.NearestRoot.{NearestRoot}
 use Rattle.root.specs.IntegerRoot.{square_lt_back, square_mono}
@@ -63,47 +63,3 @@ nearest_of n r t p e T≤ = go (ltb r t) (ltb→lt r t) (nltb→le r t)
     go : (b : Bool) → (T b → r < t) → (T (not b) → t ≤ r) → NearestRoot n (cond b (r + 1) r)
     go true g l = up (g tt)
     go false g l = down r e (l tt)
-
--- ---- the same with no branch
-
-pub near_sum : (h l u : ℕ) → h < 2 ^ 28 → l < 2 ^ 31 → u < 2 ^ 64 → h * 2 ^ 26 + l + u / 2 ^ 63 < 2 ^ 55
-near_sum h l u H L U = omega arith
-
--- the sign of a difference of small numbers is a comparison
-sign_is : (r t u : ℕ) → u < 2 ^ 64 → t < 2 ^ 62 → r < 2 ^ 62 → (u + t) % 2 ^ 64 ≡ r → cond (ltb r t) (r + 1) r ≡ r + u / 2 ^ 63
-sign_is r t u U T< R e = go (ltb r t) (ltb→lt r t) (nltb→le r t)
-  where
-    up : r < t → r + 1 ≡ r + u / 2 ^ 63
-    up k = omega arith
-
-    down : t ≤ r → r ≡ r + u / 2 ^ 63
-    down k = omega arith
-
-    go : (b : Bool) → (T b → r < t) → (T (not b) → t ≤ r) → cond b (r + 1) r ≡ r + u / 2 ^ 63
-    go true g l = up (g tt)
-    go false g l = down (l tt)
-
--- what the five differences leave of the guess h, l where nothing in them is too great
-module _ (m h l a d t u w : ℕ) (P : 0 < m) (H : h < 2 ^ 28) (L : l < 2 ^ 31) (U : u < 2 ^ 64) (e : (a + h * h) % 2 ^ 64 ≡ m)
-    (f : (d + 2 * (h * l)) % 2 ^ 64 ≡ a * 2 ^ 26 % 2 ^ 64) (g : (t + l * l) % 2 ^ 64 ≡ d * 2 ^ 26 % 2 ^ 64) (A : a < 2 ^ 37) (D : d < 2 ^ 37) where
-  nearest : (t ≤ 3 * (h * 2 ^ 26 + l) + 2) → (u + t) % 2 ^ 64 ≡ h * 2 ^ 26 + l → NearestRoot (m * 4 ^ 26) (h * 2 ^ 26 + l + u / 2 ^ 63)
-  nearest T≤ s =
-      let f' : (d + 2 * h * l) % 2 ^ 64 ≡ a * 2 ^ 26 = ap (λ (x : ℕ). (d + x) % 2 ^ 64) (mul_assoc 2 h l) ∙ f ∙ whole a A in
-      let g' : (t + l * l) % 2 ^ 64 ≡ d * 2 ^ 26 = g ∙ whole d D in
-      subst (NearestRoot (m * 4 ^ 26)) (sign_is (h * 2 ^ 26 + l) t u U (bound h l t H L T≤) (omega arith) s)
-      (nearest_of (m * 4 ^ 26) (h * 2 ^ 26 + l) t (omega arith) (joined m h l a d t H L A D T≤ e f' g') T≤)
-    where
-      whole : (x : ℕ) → x < 2 ^ 37 → x * 2 ^ 26 % 2 ^ 64 ≡ x * 2 ^ 26
-      whole x k = omega arith
-
-      bound : (h l t : ℕ) → h < 2 ^ 28 → l < 2 ^ 31 → t ≤ 3 * (h * 2 ^ 26 + l) + 2 → t < 2 ^ 62
-      bound h l t H L T≤ = omega arith
-
-  pub right : (u + t) % 2 ^ 64 ≡ h * 2 ^ 26 + l → w ≡ (u + 2 * (h * 2 ^ 26 + l)) % 2 ^ 64 → t < 2 ^ 63 → w < 2 ^ 63 → NearestRoot (m * 4 ^ 26) (h * 2 ^ 26 + l + u / 2 ^ 63)
-  right s v T< W< = nearest (small_rest (h * 2 ^ 26 + l) t w u (low_root h l H L) U T< W< s v) s
-    where
-      low_root : (h l : ℕ) → h < 2 ^ 28 → l < 2 ^ 31 → h * 2 ^ 26 + l < 2 ^ 55
-      low_root h l H L = omega arith
-
-      small_rest : (r t w u : ℕ) → r < 2 ^ 55 → u < 2 ^ 64 → t < 2 ^ 63 → w < 2 ^ 63 → (u + t) % 2 ^ 64 ≡ r → w ≡ (u + 2 * r) % 2 ^ 64 → t ≤ 3 * r + 2
-      small_rest r t w u R U T< W< s v = omega arith

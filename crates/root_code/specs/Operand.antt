@@ -1,5 +1,5 @@
 -- What the code's parts say of the float that they take apart. Definitions only.
-use Rattle.std.specs.Prelude.{◌≡◌, ℕ, ◌-◌, ◌*◌, ◌^◌, ◌<◌, ◌≤◌, from_bits, Float}
+use Rattle.std.specs.Prelude.{◌≡◌, ◌-◌, ◌*◌, ◌^◌, ◌<◌, ◌≤◌, Float}
 use Rattle.std.specs.Float.{binary64}
 use Rattle.root.specs.Root.{root_of, root}
 use Rattle.root_code.specs.declared.operand.Scaled.{Scaled}
@@ -16,11 +16,3 @@ pub record Bounded (s : Scaled) : Type 0 where
 abbrev pub Decomposed : Float → Operand → Type 0
 Decomposed x (Known r) = r ≡ root binary64 x
 Decomposed x (Positive s) = Bounded s × (root_of binary64 (s.significand * 4 ^ s.half) ≡ root binary64 x)
-
--- what any bits give, and what those of a normal number give
-pub record AsNormal (b : ℕ) (s : Scaled) : Type 0 where
-  pub least : 2 ^ 52 ≤ s.significand
-  pub most : s.significand < 2 ^ 54
-  pub half_least : 511 ≤ s.half
-  pub half_most : s.half < 2600
-  pub right : 2 ^ 52 ≤ b → b < 0x7ff0_0000_0000_0000 → Decomposed (from_bits binary64 b) (Positive s)

@@ -54,35 +54,6 @@ impl Radicand {
         }
         self.nearest_by_digits()
     }
-
-    // The same with no branch, so that several roots are worked out side by side: where the guess is not near enough it says so.
-    pub fn guessed_root(self) -> Guessed
-        ensures { (result.root < 2 ^ 55) × (result.wide < 2 ^ 37 → result.signs < 2 ^ 63 → NearestRoot (self.significand * 4 ^ 26) result.root) }
-    {
-        let h = self.high_digits();
-        let a = self.significand.wrapping_sub(h * h);
-        let l = low_digits(a % 0x1_0000_0000, self.guess);
-        let d = (a << 26).wrapping_sub(2 * (h * l));
-        let root = h * 0x400_0000 + l;
-        let remainder = (d << 26).wrapping_sub(l * l);
-        let above = root.wrapping_sub(remainder);
-        let over = above.wrapping_add(2 * root);
-        Guessed {
-            root: root + (above >> 63),
-            wide: a | d,
-            signs: remainder | over,
-        }
-    }
-}
-
-// A whole number near a root. It is the nearest one if `wide` is below 2^37 and `signs` below 2^63.
-// Kept: words and no Option: in words one `or` joins the checks of 16 roots, and one test follows. With an Option each root would have a
-// `match` in the loop, and that one of them is wrong would still have to be kept as a flag.
-#[derive(Clone, Copy)]
-pub struct Guessed {
-    pub root: u64,
-    pub wide: u64,
-    pub signs: u64,
 }
 
 // The whole number that is nearest to the root: the root lies above root + 1/2 exactly where the remainder is above the root.

@@ -8,8 +8,8 @@
 mod digits;
 pub mod estimate;
 pub mod from_guess;
+pub mod machine;
 pub mod operand;
-pub mod quick;
 
 ghost use Rattle.std.specs.Prelude.{◌≡◌, ◌*◌, ◌^◌};
 ghost use Rattle.std.specs.Float.{binary64};

@@ -1,12 +1,12 @@
 // A float taken apart for the root: a root that is known at once, or a significand and an exponent, the latter even.
 
-ghost use Rattle.std.specs.Prelude.{◌≡◌, ◌+◌, ◌*◌, ◌%◌, ◌^◌, ◌<◌, ◌≤◌, from_bits};
+ghost use Rattle.std.specs.Prelude.{◌≡◌, ◌+◌, ◌*◌, ◌^◌, ◌<◌, ◌≤◌, from_bits};
 ghost use Rattle.std.specs.Float.{binary64};
-ghost use Rattle.root_code.specs.Operand.{Bounded, Decomposed, AsNormal};
+ghost use Rattle.root_code.specs.Operand.{Bounded, Decomposed};
 ghost use Rattle.root_code.specs.Exponent.{shifted};
 
 // The value significand * 4^(half - 1074).
-// Kept: contracts say within which bounds, and no ghost field, since those of `as_normal` are wider than those of `decompose`.
+// Kept: contracts say within which bounds, by `Bounded`, and no ghost fields: there what makes a value would have to prove four of them.
 #[derive(Clone, Copy)]
 pub struct Scaled {
     pub significand: u64,
@@ -66,28 +66,6 @@ fn normal(b: u64) -> Scaled
 {
     let m = b % 0x10_0000_0000_0000 + 0x10_0000_0000_0000;
     with_even_exponent(m, exponent((b >> 52) + 52))
-}
-
-// m where e is odd, else 0.
-fn if_odd(e: u64, m: u64) -> u64
-    ensures { result ≡ m * (e % 2) }
-{
-    if e % 2 == 0 {
-        return 0;
-    }
-    m
-}
-
-// The same for any bits, without a branch: right where they are a normal number's.
-pub fn as_normal(b: u64) -> Scaled
-    ensures { AsNormal b result }
-{
-    let e = (b >> 52) + 1073;
-    let m = b % 0x10_0000_0000_0000 + 0x10_0000_0000_0000;
-    Scaled {
-        significand: m + if_odd(e, m),
-        half: e / 2,
-    }
 }
 
 // The tests are on the bits: their order is the numbers' for positive ones, and a sign makes them greater than all those.

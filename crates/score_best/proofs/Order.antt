@@ -1,6 +1,6 @@
 -- The comparison of candidates, for every pair, and the best of a list, for every list: the earliest of the lowest scores that are numbers is what a run keeps that
 -- replaces its best by a better one. Assumes nothing.
-use Rattle.std.specs.Prelude.{ℕ, ◌≡◌, ◌&&◌, ◌||◌, ◌⊎◌, List, [], ◌∷◌, ◌++◌}
+use Rattle.std.specs.Prelude.{ℕ, ◌≡◌, ◌&&◌, ◌||◌, List, [], ◌∷◌, ◌++◌}
 use Rattle.std.proofs.Common.{arith, sym, ◌∙◌, true≢false, inl, inr, ⊎_elim, append_assoc, append-nil}
 use mathlib.Core.Bool.{and-false, not-not}
 use Rattle.std.proofs.Math.Path.{refl}
@@ -13,13 +13,7 @@ use Rattle.float.specs.Order.{lt_asym, lt_cotrans}
 use Rattle.score_best.specs.declared.Candidate.{Candidate}
 use Rattle.score_best.specs.declared.Best.{Best}
 use Rattle.score_best.specs.Best.{is_number, beats, nothing, chosen, unbeaten, first_unbeaten, best_of, no_best, held, is_better, improved}
-
--- the score is a number, or it is NaN
-abbrev pub HasNumber : Candidate → Type 0
-HasNumber w = is_nan w.score ≡ false
-
-abbrev pub HasNan : Candidate → Type 0
-HasNan w = is_nan w.score ≡ true
+use Rattle.score_best.specs.Theorem.{HasNumber, HasNan, Leads, Led, BestRight}
 
 -- ---- the comparison
 -- a NaN never beats
@@ -72,15 +66,6 @@ module _ (v : Candidate) (b : Best) where
   pub lower_better : HasNumber v → b.found ≡ true → is_better v b ≡ (is_nan b.candidate.score || lt v.score b.candidate.score)
   unfolding is_better beats
   lower_better h f = simp (f, h, not-not)
-
--- ---- w leads ws: its score is a number, it is better than all before it, and none after it is better
-pub record Leads (ws : List Candidate) (w : Candidate) : Type 0 where
-  pub before : List Candidate
-  pub behind : List Candidate
-  pub split : ws ≡ before ++ w ∷ behind
-  pub number : HasNumber w
-  pub ahead : All (λ v. beats w v ≡ true) before
-  pub unbeaten_by : All (λ v. beats v w ≡ false) behind
 
 -- ---- the leader is found
 unbeaten_true : (w : Candidate) (ws : List Candidate) → All (λ v. beats v w ≡ false) ws → unbeaten w ws ≡ true
@@ -161,9 +146,6 @@ pub lead_first : (ws : List Candidate) (v : Candidate) → All HasNan ws → Has
 lead_first ws v h n = record { before = ws; behind = []; split = refl; number = n; ahead = all_map HasNan (λ u. beats v u ≡ true) (λ u k. number_beats_nan v u n k) ws h; unbeaten_by = tt }
 
 -- ---- a list has a leader, unless no score of it is a number
-abbrev pub Led : List Candidate → Type 0
-Led ws = ((w : Candidate) × Leads ws w) ⊎ All HasNan ws
-
 led_more : (ws : List Candidate) (v : Candidate) → Led ws → Led (ws ++ v ∷ [])
 led_more ws v =
     ⊎_elim
@@ -205,3 +187,14 @@ best_snoc ws v =
         case (is_nan v.score)
         (λ n. simp (best_none ws h, best_none (ws ++ v ∷ []) (all_append HasNan ws (v ∷ []) h (n, tt)), n))
         (λ n. simp (best_none ws h, best_leads (ws ++ v ∷ []) v (lead_first ws v h n), n))
+
+pub best_right : BestRight
+best_right = record {
+  nan_never_better = nan_never_better;
+  first_better = first_better;
+  lower_better = lower_better;
+  led = led;
+  best_leads = best_leads;
+  best_none = best_none;
+  best_snoc = best_snoc;
+}

@@ -10,7 +10,8 @@ use Rattle.common.specs.Tests.{case}
 use Rattle.score_best.specs.declared.Candidate.{Candidate}
 use Rattle.score_best.specs.declared.Best.{Best}
 use Rattle.score_best.specs.Best.{beats, Chosen, nothing, chosen, first_unbeaten, best_of, no_best, held, is_better}
-use Rattle.score_best.proofs.Order.{HasNumber, HasNan, nan_never_beats, number_beats_nan, asym, cotrans, Leads, best_leads, best_none, led, lead_first}
+use Rattle.score_best.specs.Theorem.{HasNumber, HasNan, Leads, IsNumber, WinnersRight}
+use Rattle.score_best.proofs.Order.{nan_never_beats, number_beats_nan, asym, cotrans, best_leads, best_none, led, lead_first}
 use Rattle.score_best.specs.Winners.{winner_of_two, winner_of_bests, present, winner_of, joined}
 
 -- ---- the winner of two
@@ -152,11 +153,6 @@ best_fold [] = none_best
 best_fold (w ∷ ws) = best_append (w ∷ []) ws ∙ ap (winner_of_two (best_of (w ∷ []))) (best_fold ws)
 
 -- ---- of any number of winners
--- a winner's score is a number
-abbrev pub IsNumber : Chosen → Type 0
-IsNumber nothing = Unit {0}
-IsNumber (chosen w) = HasNumber w
-
 pub best_number : (ws : List Candidate) → IsNumber (best_of ws)
 best_number ws = ⊎_elim (λ p. rw (best_leads ws p.0 p.1) p.1.number) (λ n. rw (best_none ws n) tt) (led ws)
 
@@ -192,3 +188,14 @@ pub joined_twice : {A : Type 0} (gs : List (List (List A))) → joined (map join
 unfolding flat_map
 joined_twice {A = A} [] = refl
 joined_twice {A = A} (g ∷ gs) = ap (λ (z : List A). joined g ++ z) (joined_twice gs) ∙ sym (joined_append g (joined gs))
+
+pub winners_right : WinnersRight
+winners_right = record {
+  associative = associative;
+  none_first = none_first;
+  none_second = none_second;
+  best_append = best_append;
+  best_fold = best_fold;
+  winner_fold = winner_fold;
+  cut_anywhere = cut_anywhere;
+}

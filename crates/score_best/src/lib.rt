@@ -3,6 +3,8 @@
 
 #![tactic(auto)]
 
+pub mod laws;
+
 ghost use Rattle.std.specs.Prelude.{◌≡◌};
 ghost use Rattle.score_best.specs.Best.{is_better, no_best, or_best, best_candidate};
 ghost use Rattle.score_best.specs.Winners.{winner_of_bests};

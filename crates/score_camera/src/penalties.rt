@@ -43,13 +43,20 @@ pub fn tilt_complexity(sensor: ScheimpflugParams) -> f64
     0.25 * squared_tilt(sensor)
 }
 
+// The number or 1, whichever is higher; 1 for NaN. One comparison tells, since it fails for NaN.
+fn at_least_one(x: f64) -> f64
+    ensures { result ≡ max_of x one₆₄ }
+{
+    if 1.0 <= x { x } else { 1.0 }
+}
+
 // The principal point's distance from the centre, in focal lengths.
 fn relative_offset(intrinsics: FxFyCxCy, center: Pt2) -> Pt2
     ensures { result ≡ record { x = (intrinsics.cx -₆₄ center.x) /₆₄ max_of intrinsics.fx one₆₄; y = (intrinsics.cy -₆₄ center.y) /₆₄ max_of intrinsics.fy one₆₄ } }
 {
     Pt2 {
-        x: (intrinsics.cx - center.x) / float::max(intrinsics.fx, 1.0),
-        y: (intrinsics.cy - center.y) / float::max(intrinsics.fy, 1.0),
+        x: (intrinsics.cx - center.x) / at_least_one(intrinsics.fx),
+        y: (intrinsics.cy - center.y) / at_least_one(intrinsics.fy),
     }
 }
 

@@ -23,6 +23,7 @@ use Rattle.score_outcome.specs.Facts.{ScoredFacts}
 use Rattle.score_outcome.proofs.Facts.{scored_facts}
 use Rattle.score_floor.specs.Floor.{counted_penalty, floor_of}
 use Rattle.score_floor.proofs.Penalty.{scored_not_below, penalty_number}
+use Rattle.score_floor.specs.Theorem.{Attained, FloorRight}
 
 -- ---- a number
 pub counted_number : (t : ScheimpflugParams) → is_nan (counted_penalty t) ≡ false
@@ -47,11 +48,6 @@ floor_below (t ∷ ss) {s} m =
     (Memᴰ.cases_cons m)
 
 -- ---- it is one of them
-pub record Attained (ss : List CandidateSeed) : Type 0 where
-  pub seed : CandidateSeed
-  pub listed : Memᴰ seed ss
-  pub penalty : counted_penalty seed.sensor ≡ floor_of ss
-
 not_below_infinity : (p : Float) → lt infinity p ≡ false
 unfolding lt div of_bits
 not_below_infinity nan = refl
@@ -86,3 +82,12 @@ above_floor ss {s} m center g f =
 pub floor_holds : (ss : List CandidateSeed) {s : CandidateSeed} → Memᴰ s ss → (share : ℕ) (f : Finding) (center : Pt2) (rows : List Float) (flags : List ℕ) (g : Scoring)
     → outcome_of share f s.sensor center rows flags ≡ Ok g → lt g.score (floor_of ss) ≡ false
 floor_holds ss {s} m share f center rows flags g h = above_floor ss m center g (scored_facts share f s.sensor center rows flags g h)
+
+pub floor_right : FloorRight
+floor_right = record {
+  scored_not_below = scored_not_below;
+  floor_number = floor_number;
+  floor_attained = floor_attained;
+  floor_below = floor_below;
+  floor_holds = floor_holds;
+}

@@ -1,3 +1,4 @@
 pub mod FloorFold
 pub mod FloorLaws
 pub mod Penalty
+pub mod FloorKept

@@ -1,2 +1,3 @@
 pub mod Floor
 pub mod Penalty
+pub mod Theorem

@@ -2,7 +2,10 @@
 
 #![tactic(auto)]
 
+pub mod laws;
+
 ghost use Rattle.std.specs.Prelude.{◌≡◌, ◌*◌, ◌≤◌, length};
+ghost use Rattle.float.specs.Float.{min_of};
 ghost use Rattle.score_floor.specs.Floor.{counted_penalty, seeds_between, floor_of};
 
 use camera_tilt::sensor::ScheimpflugParams;
@@ -21,6 +24,17 @@ pub fn counted_penalty(sensor: ScheimpflugParams) -> f64
     penalty
 }
 
+// The lower of a floor and a seed's counted penalty. Mostly the floor is at most the penalty: one comparison tells, and no selection waits for it.
+#[tactic(auto, using(crate::proofs::FloorKept::floor_kept))]
+fn lowered(floor: f64, sensor: ScheimpflugParams) -> f64
+    ensures { result ≡ min_of floor (counted_penalty sensor) }
+{
+    if floor <= tilt_complexity(sensor) {
+        return floor;
+    }
+    float::min(floor, counted_penalty(sensor))
+}
+
 // The floor of the seeds that stand in the list from place `from` up to place `to`; infinity where there is none.
 pub fn floor_between(list: &[f64], from: usize, to: usize) -> f64
     requires { (from ≤ to) × (6 * to ≤ length list.now) }
@@ -31,7 +45,5 @@ pub fn floor_between(list: &[f64], from: usize, to: usize) -> f64
         .0
         .iter()
         .map(|six| CandidateSeed::from(*six))
-        .fold(f64::INFINITY, |floor, seed| {
-            float::min(floor, counted_penalty(seed.sensor))
-        })
+        .fold(f64::INFINITY, |floor, seed| lowered(floor, seed.sensor))
 }

@@ -23,6 +23,7 @@ use Rattle.score_outcome.specs.declared.SkipReason.{SkipReason}
 use Rattle.score_outcome.specs.declared.SkipReason.TheVariants.{HostFailed, BadCamera, NoMean, NoNumber}
 use Rattle.score_outcome.specs.Reasons.{reason_number, reason_numbered}
 use Rattle.score_outcome.specs.Facts.{ScoredFacts}
+use Rattle.score_outcome.specs.Theorem.{OutcomesRight}
 
 -- ---- what the camera check says
 -- the numbers of a camera that passes it
@@ -124,3 +125,6 @@ pub skipped_failed : (share : ℕ) (f : Finding) (sensor : ScheimpflugParams) (c
 unfolding outcome_of
 skipped_failed share Failed sensor center rows flags h = refl
 skipped_failed share (Solved c) sensor center rows flags h = absurd (solved_reason share (solved_at c sensor) sensor center rows flags h)
+
+pub outcomes_right : OutcomesRight
+outcomes_right = record { scored_facts = scored_facts; skipped_failed = skipped_failed }

@@ -19,6 +19,7 @@ use Rattle.score_outcome.specs.declared.Finding.{Finding}
 use Rattle.score_outcome.specs.declared.Finding.TheVariants.{Failed, Solved}
 use Rattle.score_outcome.specs.declared.SkipReason.TheVariants.{NoMean}
 use Rattle.score_outcome.specs.Share.{RestsOn, evaluated01, outcome01}
+use Rattle.score_outcome.specs.Theorem.{ShareRight}
 
 mean_of_lem : (s : SolvedCamera) (sensor : ScheimpflugParams) (center : Pt2) (rows : List Float) (flags : List ℕ) → (scoring_of s sensor center rows flags).mean ≡ mean_with s rows flags
 unfolding scoring_of
@@ -110,3 +111,13 @@ four_of_many = (refl, refl)
 pub all_of_all : (enough 100 7 7 ≡ true) × (enough 101 7 7 ≡ false)
 unfolding enough
 all_of_all = (refl, refl)
+
+pub share_right : ShareRight
+share_right = record {
+  scored_rests = scored_rests;
+  zero_share = zero_share;
+  no_rows = no_rows;
+  one_of_three = one_of_three;
+  four_of_many = four_of_many;
+  all_of_all = all_of_all;
+}

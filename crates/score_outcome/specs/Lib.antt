@@ -3,3 +3,4 @@ pub mod Mean
 pub mod Facts
 pub mod Reasons
 pub mod Share
+pub mod Theorem

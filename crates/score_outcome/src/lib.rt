@@ -3,6 +3,8 @@
 
 #![tactic(auto)]
 
+pub mod laws;
+
 ghost use Rattle.std.specs.Prelude.{◌≡◌, ◌≤◌};
 ghost use Rattle.score_camera.specs.Penalties.{score_of};
 ghost use Rattle.score_outcome.specs.Reasons.{reason_number, reason_numbered};

@@ -1,24 +1,22 @@
 -- The theorems on specs/Steps.antt: rows added one by one, some at a time, and by their flags. Assumes nothing.
 use Rattle.std.specs.Prelude.{◌≡◌, ℕ, zero, suc, ◌+◌, ◌*◌, ◌%◌, ◌^◌, ◌<◌, ◌≤◌, Bool, true, false, cond, ◌&&◌, List, [], ◌∷◌, ◌++◌, length, drop, take, ◌==◌, slice_index, slice_index_or, refl, Float}
 use Rattle.std.proofs.Common.{◌/◌, min, not, T, ltb, ltb→lt, nltb→le, sym, ap, ap₂, subst, ◌∙◌, arith, get_or, mod-eq_of_lt, add-one, drop-cons, ⊎_elim, eq-or-lt_of_le}
-use mathlib.Core.Bool.{and-true}
 use Rattle.std.proofs.Math.Seq.{drop-length}
 use Rattle.std.proofs.lemmas.List.{get_or-take, get_or-drop, take_all, take_at, drop_at}
-use Rattle.std.specs.Float.{nan, binary64}
+use Rattle.std.specs.Float.{nan, inf, fin, binary64}
 use Rattle.std.specs.Simd.{first_chunks}
-use Rattle.std.specs.Float.Ieee.{of_bits, div}
+use Rattle.std.specs.Float.Ieee.{of_bits, add, div}
+use Rattle.std.proofs.lemmas.Bool.{false≢true}
 use Rattle.float.specs.Binary64.{◌+₆₄◌}
 use Rattle.float.specs.Float.{is_finite}
 use Rattle.float.specs.Literals.{plus_zero, infinity}
-use Rattle.root.specs.Root.{root}
-use Rattle.root_code.specs.Bits.{finite_bits}
 use Rattle.camera_tilt.specs.Matrix.{Matrix}
 use Rattle.point_normalise.specs.Points.{point_at}
 use Rattle.score_rows.specs.Rows.{rows_of, row_error, is_counted, counted_errors, no_errors, summed, error_sum}
 use Rattle.score_camera.specs.declared.pinhole.PinholeCamera.{PinholeCamera}
 use Rattle.score_rows.specs.declared.Row.{Row}
 use Rattle.score_rows.specs.declared.ErrorSum.{ErrorSum}
-use Rattle.score_rows.specs.Steps.{add_error, square_at, add_row, add_rows, add_bits, add_all, one_in_front, in_front, Squares, QuickRoots, row_at}
+use Rattle.score_rows.specs.Steps.{add_error, with_row, row_at, add_rows, add_errors, one_in_front, in_front, Errors}
 
 -- ---- row by row: s has the errors of the first i rows, and adding those of the rest to it gives the whole
 pub record Passed (c : PinholeCamera) (h : Matrix) (rows : List Row) (i : ℕ) (s : ErrorSum) : Type 0 where
@@ -113,12 +111,12 @@ row_at_lem (x ∷ y ∷ u ∷ v ∷ ns) [] i r h = absurd (omega arith)
 row_at_lem (x ∷ y ∷ u ∷ v ∷ ns) (f ∷ fs) zero r h = refl
 row_at_lem (x ∷ y ∷ u ∷ v ∷ ns) (f ∷ fs) (suc i) r h =
     let p = past_four x y u v ns in
-    simp (p (4 * suc i) (4 * i) (omega arith), p (4 * suc i + 1) (4 * i + 1) (omega arith), p (4 * suc i + 2) (4 * i + 2) (omega arith), p (4 * suc i + 3) (4 * i + 3) (omega arith))
+    simp (p (4 * suc i) (4 * i) (omega arith), p (4 * suc i + 1) (4 * i + 1) (omega arith), p (4 * suc i + 2) (4 * i + 2) (omega arith), p (4 * suc i + 2 + 1) (4 * i + 2 + 1) (omega arith))
     (row_at_lem ns fs i r (omega arith))
 
 -- so are the four numbers that an iterator over the fours gives
 four_at : (ns : List Float) (i : ℕ) → i < length ns / 4
-    → get_or (first_chunks 4 (length ns / 4) ns) i [] ≡ slice_index_or ns (4 * i) nan ∷ slice_index_or ns (4 * i + 1) nan ∷ slice_index_or ns (4 * i + 2) nan ∷ slice_index_or ns (4 * i + 3) nan ∷ []
+    → get_or (first_chunks 4 (length ns / 4) ns) i [] ≡ slice_index_or ns (4 * i) nan ∷ slice_index_or ns (4 * i + 1) nan ∷ slice_index_or ns (4 * i + 2) nan ∷ slice_index_or ns (4 * i + 2 + 1) nan ∷ []
 four_at [] i h = absurd (omega (arith, h))
 four_at (x ∷ []) i h = absurd (omega (arith, h))
 four_at (x ∷ y ∷ []) i h = absurd (omega (arith, h))
@@ -127,7 +125,7 @@ four_at (x ∷ y ∷ u ∷ v ∷ ns) zero h = let more : suc (suc (suc (suc (len
 four_at (x ∷ y ∷ u ∷ v ∷ ns) (suc i) h =
     let more : suc (suc (suc (suc (length ns)))) / 4 ≡ suc (length ns / 4) = omega arith in
     let p = past_four x y u v ns in
-    rw (more, p (4 * suc i) (4 * i) (omega arith), p (4 * suc i + 1) (4 * i + 1) (omega arith), p (4 * suc i + 2) (4 * i + 2) (omega arith), p (4 * suc i + 3) (4 * i + 3) (omega arith))
+    rw (more, p (4 * suc i) (4 * i) (omega arith), p (4 * suc i + 1) (4 * i + 1) (omega arith), p (4 * suc i + 2) (4 * i + 2) (omega arith), p (4 * suc i + 2 + 1) (4 * i + 2 + 1) (omega arith))
     (four_at ns i (omega (arith, h, more)))
 
 -- ---- a list's part, n from place m on
@@ -140,30 +138,29 @@ unfolding add_rows
 rows_none s c h ns fs = refl
 
 pub rows_next : (s : ErrorSum) (c : PinholeCamera) (h : Matrix) (ns : List Float) (fs : List ℕ) (j : ℕ)
-    → add_rows s c h ns fs (j + 1) ≡ add_row (add_rows s c h ns fs j) c h ns fs j
+    → add_rows s c h ns fs (j + 1) ≡ with_row c h (add_rows s c h ns fs j) (row_at ns fs j)
 unfolding add_rows
 rows_next s c h ns fs j = rw (add-one j)
 
 pub ruleset turns = (rows_none, rows_next)
 
--- ---- the same where the bits of their errors are known
-pub bits_none : (s : ErrorSum) (fs bits : List ℕ) → add_bits s fs bits 0 ≡ s
-unfolding add_bits
-bits_none s fs bits = refl
+-- ---- the same by their flags alone
+pub errors_none : (s : ErrorSum) (fs : List ℕ) (es : List Float) → add_errors s fs es 0 ≡ s
+unfolding add_errors
+errors_none s fs es = refl
 
-pub bits_next : (s : ErrorSum) (fs bits : List ℕ) (j : ℕ)
-    → add_bits s fs bits (j + 1) ≡ add_error (add_bits s fs bits j) (slice_index fs j == 1) (of_bits binary64 (slice_index bits j))
-unfolding add_bits
-bits_next s fs bits j = rw (add-one j)
+pub errors_next : (s : ErrorSum) (fs : List ℕ) (es : List Float) (j : ℕ)
+    → add_errors s fs es (j + 1) ≡ add_error (add_errors s fs es j) (slice_index fs j == 1) (slice_index_or es j nan)
+unfolding add_errors
+errors_next s fs es j = rw (add-one j)
 
-pub ruleset bits_turns = (bits_none, bits_next)
+pub ruleset errors_turns = (errors_none, errors_next)
 
 -- ---- blocks of rows
 -- row j of the rows that are cut out after the first m is row m + j of all
-part_row : (s : ErrorSum) (c : PinholeCamera) (h : Matrix) (ns : List Float) (fs : List ℕ) (m n j : ℕ) → j < n
-    → add_row s c h (take (4 * n) (drop (4 * m) ns)) (take n (drop m fs)) j ≡ add_row s c h ns fs (m + j)
-unfolding add_row square_at
-part_row s c h ns fs m n j l =
+part_row : (ns : List Float) (fs : List ℕ) (m n j : ℕ) → j < n → row_at (take (4 * n) (drop (4 * m) ns)) (take n (drop m fs)) j ≡ row_at ns fs (m + j)
+unfolding row_at
+part_row ns fs m n j l =
     let at : (q k : ℕ) → q < 4 * n → 4 * m + q ≡ k → slice_index_or (take (4 * n) (drop (4 * m) ns)) q nan ≡ slice_index_or ns k nan = part (4 * m) (4 * n) ns nan in
     simp (part m n fs 0 j (m + j) l refl, at (4 * j) (4 * (m + j)) (omega arith) (omega arith), at (4 * j + 1) (4 * (m + j) + 1) (omega arith) (omega arith), at (4 * j + 2) (4 * (m + j) + 2) (omega arith) (omega arith), at (4 * j + 2 + 1) (4 * (m + j) + 2 + 1) (omega arith) (omega arith))
 
@@ -173,7 +170,7 @@ unfolding add_rows
 rows_more s c h ns fs m n zero l = let e : m + 0 ≡ m = omega arith in rw e
 rows_more s c h ns fs m n (suc j) l =
     let e : m + suc j ≡ suc (m + j) = omega arith in
-    rw (e, rows_more s c h ns fs m n j (omega arith), part_row (add_rows s c h ns fs (m + j)) c h ns fs m n j (omega arith))
+    rw (e, rows_more s c h ns fs m n j (omega arith), part_row ns fs m n j (omega arith))
 
 -- two parts of the lists, one behind the other
 pub rows_joined : (s : ErrorSum) (c : PinholeCamera) (h : Matrix) (xs ns : List Float) (ys fs : List ℕ) → length xs ≡ 4 * length ys → length ns ≡ 4 * length fs
@@ -188,22 +185,33 @@ rows_joined s c h xs ns ys fs e f =
     rw (drop_at xs ns (4 * n) e, drop_at ys fs n refl, take_all (4 * k) ns (omega arith), take_all k fs (omega arith)) at (rows_more s c h (xs ++ ns) (ys ++ fs) n k k (omega arith)) in
     rw first rest
 
--- a root whose bits are a finite number's is counted by its flag alone
-bits_row : (s : ErrorSum) (flag b : ℕ) (x : Float) → b < 0x7ff0_0000_0000_0000 → of_bits binary64 b ≡ root binary64 x
-    → add_error s (flag == 1) (of_bits binary64 b) ≡ add_error s (flag == 1 && is_finite (root binary64 x)) (root binary64 x)
-bits_row s flag b x small e =
-    let finite : is_finite (root binary64 x) ≡ true = ap is_finite (sym e) ∙ finite_bits b small in
-    ap₂ (add_error s) (sym (ap (λ (t : Bool). (flag == 1) && t) finite ∙ and-true (flag == 1))) e
+-- a sum is finite only where both of its terms are
+finite_terms : (x y : Float) → is_finite (x +₆₄ y) ≡ true → (is_finite x ≡ true) × (is_finite y ≡ true)
+unfolding add is_finite
+finite_terms nan y h = absurd (false≢true h)
+finite_terms (inf s) nan h = absurd (false≢true h)
+finite_terms (inf true) (inf true) h = absurd (false≢true h)
+finite_terms (inf true) (inf false) h = absurd (false≢true h)
+finite_terms (inf false) (inf true) h = absurd (false≢true h)
+finite_terms (inf false) (inf false) h = absurd (false≢true h)
+finite_terms (inf s) (fin t n d) h = absurd (false≢true h)
+finite_terms (fin s m e) nan h = absurd (false≢true h)
+finite_terms (fin s m e) (inf t) h = absurd (false≢true h)
+finite_terms (fin s m e) (fin t n d) h = (refl, refl)
 
-pub from_bits : (s : ErrorSum) (c : PinholeCamera) (h : Matrix) (ns : List Float) (fs : List ℕ) (xs : List Float) (bits : List ℕ) (wrong n : ℕ)
-    → Squares c h ns n xs → QuickRoots n bits wrong xs → wrong < 2 ^ 37 → add_bits s fs bits n ≡ add_rows s c h ns fs n
-unfolding add_bits add_rows add_row
-from_bits s c h ns fs xs bits wrong zero squares quick z = refl
-from_bits s c h ns fs xs bits wrong (suc j) squares quick z =
-    let q = quick j (omega arith) z in
-    let x = squares j (omega arith) in
-    rw (from_bits s c h ns fs xs bits wrong j (λ k l. squares k (omega (arith, l))) (λ k l. quick k (omega (arith, l))) z)
-    (bits_row (add_rows s c h ns fs j) (slice_index fs j) (slice_index bits j) (square_at c h ns j) q.0 (q.1 ∙ ap (root binary64) x))
+-- so where it is finite, what was added counts by its flag alone
+by_flag : (s : ErrorSum) (v : Bool) (e : Float) → is_finite (add_error s v e).sum ≡ true → (is_finite s.sum ≡ true) × (add_error s v e ≡ add_error s (v && is_finite e) e)
+unfolding add_error
+by_flag s true e h = let t = finite_terms s.sum e h in (t.0, rw t.1 refl)
+by_flag s false e h = (h, refl)
+
+pub from_errors : (s : ErrorSum) (c : PinholeCamera) (h : Matrix) (ns : List Float) (fs : List ℕ) (es : List Float) (n : ℕ)
+    → Errors c h ns n es → is_finite (add_errors s fs es n).sum ≡ true → add_errors s fs es n ≡ add_rows s c h ns fs n
+unfolding add_errors add_rows with_row row_at is_counted row_error
+from_errors s c h ns fs es zero errors finite = refl
+from_errors s c h ns fs es (suc j) errors finite =
+    let t = by_flag (add_errors s fs es j) (slice_index fs j == 1) (slice_index_or es j nan) finite in
+    t.1 ∙ rw (errors j (omega arith), from_errors s c h ns fs es j (λ k l. errors k (omega (arith, l))) t.0) refl
 
 -- ---- how many rows lie in front
 pub one_at_most : (flag : ℕ) → one_in_front flag ≤ 1
@@ -242,29 +250,21 @@ front_each fs (suc m) j all h =
     let step = all_step (slice_index fs m == 1) (in_front fs m) m (front_at_most fs m) all in
     ⊎_elim (λ e. rw e step.0) (λ l. front_each fs m j step.1 l) (eq-or-lt_of_le {n = j} {m = m} (omega arith))
 
--- their flags say nothing more
-pub all_bits : (s : ErrorSum) (fs bits : List ℕ) (n : ℕ) → in_front fs n ≡ n → add_all s bits n ≡ add_bits s fs bits n
-unfolding add_all add_bits in_front one_in_front
-all_bits s fs bits zero all = refl
-all_bits s fs bits (suc j) all =
-    let step = all_step (slice_index fs j == 1) (in_front fs j) j (front_at_most fs j) all in
-    rw (step.0, all_bits s fs bits j step.1)
-
 -- none of them: nothing is added
 none_step : (v : Bool) (m : ℕ) → m + cond v 1 0 ≡ 0 → (v ≡ false) × (m ≡ 0)
 none_step true m e = absurd (omega (arith, e))
 none_step false m e = (refl, omega (arith, e))
 
 pub none_counted : (s : ErrorSum) (c : PinholeCamera) (h : Matrix) (ns : List Float) (fs : List ℕ) (n : ℕ) → in_front fs n ≡ 0 → s ≡ add_rows s c h ns fs n
-unfolding add_rows add_row add_error in_front one_in_front
+unfolding add_rows with_row row_at is_counted add_error in_front one_in_front
 none_counted s c h ns fs zero none = refl
 none_counted s c h ns fs (suc j) none =
     let step = none_step (slice_index fs j == 1) (in_front fs j) none in
     rw step.0 (none_counted s c h ns fs j step.1)
 
 one_more : (s : ErrorSum) (c : PinholeCamera) (h : Matrix) (r : Row) (rs : List Row)
-    → s.count + 1 < 2 ^ 64 → summed (add_error s (is_counted c h r) (row_error c h r)) (counted_errors c h rs) ≡ summed s (counted_errors c h (r ∷ rs))
-unfolding add_error counted_errors summed
+    → s.count + 1 < 2 ^ 64 → summed (with_row c h s r) (counted_errors c h rs) ≡ summed s (counted_errors c h (r ∷ rs))
+unfolding with_row add_error counted_errors summed
 one_more s c h r rs small =
     let e = row_error c h r in
     let es = counted_errors c h rs in
@@ -273,31 +273,28 @@ one_more s c h r rs small =
       | false ↦ refl
     ]
 
-count_more : (s : ErrorSum) (v : Bool) (e : Float) → (add_error s v e).count ≤ s.count + 1
-unfolding add_error
-count_more s true e = omega arith
-count_more s false e = omega arith
+count_more : (c : PinholeCamera) (h : Matrix) (s : ErrorSum) (r : Row) → (with_row c h s r).count ≤ s.count + 1
+unfolding with_row add_error
+count_more c h s r = go (is_counted c h r)
+  where
+    go : (v : Bool) → (cond v (record { sum = s.sum +₆₄ row_error c h r; count = (s.count + 1) % 2 ^ 64 }) s).count ≤ s.count + 1
+    go true = omega arith
+    go false = omega arith
 
 passed_more : (c : PinholeCamera) (h : Matrix) (rows : List Row) (i : ℕ) (s : ErrorSum) (r : Row)
-    → i < length rows → i + 1 < 2 ^ 64 → slice_index_or rows i r ≡ r → Passed c h rows i s → Passed c h rows (i + 1) (add_error s (is_counted c h r) (row_error c h r))
+    → i < length rows → i + 1 < 2 ^ 64 → slice_index_or rows i r ≡ r → Passed c h rows i s → Passed c h rows (i + 1) (with_row c h s r)
 passed_more c h rows i s r below small at p =
     record {
-      few = omega (arith, count_more s (is_counted c h r) (row_error c h r));
+      few = omega (arith, count_more c h s r);
       rest = rw (add-one i) (one_more s c h r (drop (suc i) rows) (omega arith) ∙ (rw (drop-cons rows i r below, at) at p.rest));
     }
-
--- as the rules have it
-add_row_at : (s : ErrorSum) (c : PinholeCamera) (h : Matrix) (ns : List Float) (fs : List ℕ) (k : ℕ)
-    → add_row s c h ns fs k ≡ add_error s (is_counted c h (row_at ns fs k)) (row_error c h (row_at ns fs k))
-unfolding add_row square_at row_at is_counted row_error
-add_row_at s c h ns fs k = let last : 4 * k + 2 + 1 ≡ 4 * k + 3 = omega arith in rw last
 
 -- one more of the fours and of the flags is one more row
 pub one_more_four : (s z : ErrorSum) (c : PinholeCamera) (h : Matrix) (ns : List Float) (fs : List ℕ) (k : ℕ) (four : List Float) (flag : ℕ)
     → s ≡ add_rows z c h ns fs k → k < length ns / 4 → four ≡ get_or (first_chunks 4 (length ns / 4) ns) k [] → flag ≡ slice_index fs k
-    → let r : Row = record { ideal = point_at four 0; seen = point_at four 2; flag = flag } in add_error s (is_counted c h r) (row_error c h r) ≡ add_rows z c h ns fs (k + 1)
+    → let r : Row = record { ideal = point_at four 0; seen = point_at four 2; flag = flag } in with_row c h s r ≡ add_rows z c h ns fs (k + 1)
 unfolding row_at
-one_more_four s z c h ns fs k four flag e below f g = rw (rows_next z c h ns fs k, add_row_at (add_rows z c h ns fs k) c h ns fs k, e, f ∙ four_at ns k below, g)
+one_more_four s z c h ns fs k four flag e below f g = rw (rows_next z c h ns fs k, e, f ∙ four_at ns k below, g)
 
 passed : (c : PinholeCamera) (h : Matrix) (ns : List Float) (fs : List ℕ) (n : ℕ)
     → n ≤ length (rows_of ns fs) → n < 2 ^ 64 → Passed c h (rows_of ns fs) n (add_rows no_errors c h ns fs n)
@@ -307,9 +304,8 @@ passed c h ns fs (suc k) inside small =
     let s = add_rows no_errors c h ns fs k in
     let r = row_at ns fs k in
     let below : k < length (rows_of ns fs) = omega arith in
-    rw (add_row_at s c h ns fs k)
-    (subst (λ (j : ℕ). Passed c h (rows_of ns fs) j (add_error s (is_counted c h r) (row_error c h r))) (add-one k)
-    (passed_more c h (rows_of ns fs) k s r below (omega arith) (row_at_lem ns fs k r below) (passed c h ns fs k (omega arith) (omega arith))))
+    subst (λ (j : ℕ). Passed c h (rows_of ns fs) j (with_row c h s r)) (add-one k)
+    (passed_more c h (rows_of ns fs) k s r below (omega arith) (row_at_lem ns fs k r below) (passed c h ns fs k (omega arith) (omega arith)))
 
 pub all_rows : (c : PinholeCamera) (h : Matrix) (ns : List Float) (fs : List ℕ) (n : ℕ) → n ≡ length (rows_of ns fs) → n < 2 ^ 64
     → add_rows no_errors c h ns fs n ≡ error_sum c h (rows_of ns fs)

@@ -4,12 +4,12 @@
 #![tactic(auto)]
 
 mod blocks;
+pub mod laws;
 mod rows;
 
 ghost use Rattle.std.specs.Prelude.{◌≡◌};
-ghost use Rattle.point_normalise.specs.Points.{squared_distance};
-ghost use Rattle.score_rows.specs.Rows.{rows_of, tilt_matrix, projected, row_error, is_counted, error_sum, mean_of};
-ghost use Rattle.score_rows.specs.Steps.{add_error, add_all_rows};
+ghost use Rattle.score_rows.specs.Rows.{rows_of, tilt_matrix, projected, error_sum, mean_of};
+ghost use Rattle.score_rows.specs.Steps.{add_error, with_row, add_all_rows};
 
 use crate::blocks::add_blocks;
 use crate::rows::{Rows, rows_of};
@@ -65,13 +65,6 @@ fn project_point(by: Projection, ideal: Pt2) -> Pt2
     )
 }
 
-// The square of a row's error.
-fn squared_error(by: Projection, ideal: Pt2, seen: Pt2) -> f64
-    ensures { result ≡ squared_distance (projected by.camera by.h ideal) seen }
-{
-    linalg::squared_distance(project_point(by, ideal), seen)
-}
-
 // One more error, counted or not.
 #[tactic(auto, unfolding(crate::specs::Steps::add_error))]
 fn add_error(total: ErrorSum, counted: bool, err: f64) -> ErrorSum
@@ -86,40 +79,30 @@ fn add_error(total: ErrorSum, counted: bool, err: f64) -> ErrorSum
     total
 }
 
-// Kept: a function of its own beside add_error and with_error: the rules name this form, the sum and count lent by `&mut` to the step.
-// The step for one row, once it is known whether it counts: the running sum and count are lent to it, and it changes them.
-fn add_if_counted(total: &mut ErrorSum, counted: bool, err: f64)
-    ensures { total.new ≡ add_error total.old counted err }
-{
-    *total = add_error(*total, counted, err);
-}
-
-// The same by value: its callers lend nothing.
-fn with_error(total: ErrorSum, counted: bool, err: f64) -> ErrorSum
-    ensures { result ≡ add_error total counted err }
-{
-    let mut lent = total;
-    add_if_counted(&mut lent, counted, err);
-    lent
-}
-
-// One more row. It is counted if it lies in front of the camera and has a finite error, and not projected if it lies behind.
-#[tactic(auto, unfolding(crate::specs::Steps::add_error, crate::specs::Rows::is_counted, crate::specs::Rows::row_error))]
-fn add_row(total: ErrorSum, by: Projection, row: Row) -> ErrorSum
-    ensures { result ≡ add_error total (is_counted by.camera by.h row) (row_error by.camera by.h row) }
+// The running sum and count with one more row. It counts if it lies in front of the camera and has a finite error, and isn't projected
+// if it lies behind.
+#[tactic(auto, unfolding(crate::specs::Steps::with_row, crate::specs::Steps::add_error, crate::specs::Rows::is_counted, crate::specs::Rows::row_error))]
+fn with_row(total: ErrorSum, by: Projection, row: Row) -> ErrorSum
+    ensures { result ≡ with_row by.camera by.h total row }
 {
     if row.flag != 1 {
         return total;
     }
-    let err = root_code::sqrt(squared_error(by, row.ideal, row.seen));
+    let err = linalg::distance(project_point(by, row.ideal), row.seen);
     if float::is_finite(err) {
-        return with_error(total, true, err);
+        return add_error(total, true, err);
     }
     total
 }
 
-// Some rows, one by one. There are as many flags as fours: they are cut to that, so that one test a row ends the compiled loop. Uncut,
-// seven rows take 1,381 instructions in place of 1,365, in a library of `mean_of_rows` alone.
+// The step for one row: the running sum and count are lent to it, and it changes them.
+fn add_row(total: &mut ErrorSum, by: Projection, row: Row)
+    ensures { total.new ≡ with_row by.camera by.h total.old row }
+{
+    *total = with_row(*total, by, row);
+}
+
+// Some rows, one by one. There are as many flags as fours: they are cut to that, so that one test a row ends the compiled loop.
 #[tactic(auto, using(crate::proofs::Steps::turns))]
 fn add_rows(total: ErrorSum, by: Projection, rows: Rows) -> ErrorSum
     ensures { result ≡ add_all_rows total by rows.entry }
@@ -132,14 +115,13 @@ fn add_rows(total: ErrorSum, by: Projection, rows: Rows) -> ErrorSum
             seen: Pt2 { x: u, y: v },
             flag: *flag,
         };
-        sum = add_row(sum, by, row);
+        add_row(&mut sum, by, row);
     }
     sum
 }
 
 // Sum and count of the errors of all rows. Few rows are added one by one: for them it isn't worth while to make a block ready.
-// Inlined, so that camera and matrix aren't copied for a call: a mean of one row takes 365 instructions in place of 402, of 900 rows
-// 156,590 in place of 157,156.
+// Inlined, so that camera and matrix aren't copied for a call.
 #[tactic(auto, using(crate::proofs::Steps::cut_rows))]
 #[inline(always)]
 pub fn reproj_error_sum(

@@ -21,6 +21,7 @@ use Rattle.search_record.specs.Laws.{bounds, waiting_at}
 use Rattle.search_record.specs.declared.run.Run.{Run}
 use Rattle.search_calls.specs.declared.stop.Outlook.{Outlook}
 use Rattle.search_calls.specs.Stop.{left_seeds, best_so_far, nothing_left, with_floor, outlook_of, stop_def}
+use Rattle.search_calls.specs.Theorem.{StopFloorHolds}
 
 -- ---- whether a seed is left
 between_none : (l : List Float) (i n : ℕ) → n ≤ i → seeds_between l i n ≡ []
@@ -94,3 +95,6 @@ pub none_below : (r : Run) (l : List Float) (o : Outlook) → stop_def r l ≡ O
     → (share : ℕ) (f : Finding) (center : Pt2) (rows : List Float) (flags : List ℕ) (g : Scoring) → outcome_of share f s.sensor center rows flags ≡ Ok g → lt g.score x ≡ false
 none_below r l o e x h {s} m share f center rows flags g k =
     ap (lt g.score) (stop_floor r l o e x h) ∙ floor_holds (left_seeds r l) m share f center rows flags g k
+
+pub stop_floor_holds : StopFloorHolds
+stop_floor_holds = record { none_below = none_below }

@@ -5,3 +5,4 @@ pub mod Result
 pub mod Progress
 pub mod Stop
 pub mod NextLaws
+pub mod Theorem

@@ -4,6 +4,7 @@
 
 pub mod counts;
 pub mod last;
+pub mod laws;
 pub mod next;
 pub mod progress;
 pub mod result;

@@ -17,7 +17,7 @@ use Rattle.seed_rules.specs.Merge.{keep}
 use Rattle.seed_rules.specs.Rules.{closer, tilt_limit, offsets}
 use Rattle.seed_rules.proofs.Unmerged.{keep_apart}
 use Rattle.seed_counts.specs.Admissible.{admitted}
-use Rattle.seed_counts.proofs.Counts.{TiltsApart}
+use Rattle.seed_counts.specs.Theorem.{TiltsApart}
 use Rattle.seed_counts.proofs.Offsets.{centred, Step, step, offsets_apart}
 
 -- ---- what isn't below 0.75 in size goes

@@ -1,25 +1,16 @@
 -- Cases by computing: the bound counts after rounding, both axes count by themselves, far out the product isn't the length, and neither is it for a step below 1e-11.
 -- Assumes nothing.
-use Rattle.std.specs.Prelude.{◌≡◌, refl, [], ◌∷◌, length, Float}
+use Rattle.std.specs.Prelude.{◌≡◌, refl, [], ◌∷◌, length}
 use Rattle.std.specs.Float.{binary64}
 use Rattle.std.specs.Float.Ieee.{of_bits, add, sub, neg, lt, le, eq}
 use Rattle.float.specs.Float.{abs_of, within}
 use Rattle.float.specs.Literals.{plus_zero, half₆₄}
-use Rattle.camera_models.specs.declared.intrinsics.FxFyCxCy.{FxFyCxCy}
 use Rattle.seed_rules.specs.Merge.{keep, has_near, push, merged_into}
 use Rattle.seed_rules.specs.Rules.{closer, tilt_limit, tilt_near, camera_near, near, in_bound, tilts, pairs, offsets, next_list}
 use Rattle.seed_counts.specs.Admissible.{admitted, seed_count, least_step}
+use Rattle.seed_counts.specs.Theorem.{at28, by02, to30, some_camera, far, wide}
 
 -- ---- step 0.02 and bound 0.3: 0.28 + 0.02 is above 0.3 once it is rounded
-abbrev at28 : Float
-at28 = of_bits binary64 0x3fd1_eb85_1eb8_51ec
-
-abbrev by02 : Float
-by02 = of_bits binary64 0x3f94_7ae1_47ae_147b
-
-abbrev to30 : Float
-to30 = of_bits binary64 0x3fd3_3333_3333_3333
-
 -- centre (0.28, 0), and (0, 0.28)
 pub six_in_x : seed_count (offsets by02) (offsets by02) (tilts at28 plus_zero) to30 ≡ 6
 unfolding seed_count admitted keep offsets neg add abs_of le lt eq within of_bits
@@ -40,15 +31,6 @@ unfolding seed_count admitted keep offsets neg add abs_of le lt eq within of_bit
 nine_by_half = refl
 
 -- ---- centre (131072, 0), step 1e-11, bound 2e5: nine pairs are admissible, and six seeds are left
-abbrev some_camera : FxFyCxCy
-some_camera = record { fx = of_bits binary64 0x4089_0000_0000_0000; fy = of_bits binary64 0x4089_0000_0000_0000; cx = of_bits binary64 0x4074_0000_0000_0000; cy = of_bits binary64 0x406e_0000_0000_0000 }
-
-abbrev far : Float
-far = of_bits binary64 0x4100_0000_0000_0000
-
-abbrev wide : Float
-wide = of_bits binary64 0x4108_6a00_0000_0000
-
 pub far_admissible : seed_count (offsets least_step) (offsets least_step) (tilts far plus_zero) wide ≡ 9
 unfolding seed_count admitted keep offsets neg add abs_of le lt eq within of_bits
 far_admissible = refl

@@ -15,12 +15,10 @@ use Rattle.seed_rules.specs.Merge.{keep, merged}
 use Rattle.seed_rules.proofs.MergeLaws.{keep_append}
 use Rattle.seed_rules.specs.Rules.{closer, tilt_limit, tilt_near, near, in_bound, tilts, pairs, seed_with, moved, next_list}
 use Rattle.seed_rules.proofs.RulesLaws.{pairs_length}
-use Rattle.seed_rules.proofs.Unmerged.{Apart, merged_apart, append_apart, map_apart}
+use Rattle.seed_rules.specs.Theorem.{Apart}
+use Rattle.seed_rules.proofs.Unmerged.{merged_apart, append_apart, map_apart}
 use Rattle.seed_counts.specs.Admissible.{admitted, seed_count}
-
--- no tilt is nearer than 1e-12 to a later one, as the rounded difference says
-abbrev pub TiltsApart : List Float → Type 0
-TiltsApart ts = Apart (closer tilt_limit) ts
+use Rattle.seed_counts.specs.Theorem.{TiltsApart}
 
 -- ---- those of all pairs that lie within the bound are the pairs of those that do
 row_within : (max x : Float) (ys : List Float) → keep (in_bound max) (map (tilts x) ys) ≡ cond (within max x) (map (tilts x) (keep (within max) ys)) []

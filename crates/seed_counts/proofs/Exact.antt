@@ -10,9 +10,12 @@ use Rattle.camera_tilt.specs.declared.sensor.ScheimpflugParams.{ScheimpflugParam
 use Rattle.seed_rules.specs.Rules.{closer, tilt_limit, offsets, y_offsets, moved, next_list}
 use Rattle.seed_rules.proofs.Unmerged.{keep_apart}
 use Rattle.seed_counts.specs.Admissible.{admitted, seed_count, least_step, most_step}
-use Rattle.seed_counts.proofs.Counts.{TiltsApart, exact_length}
+use Rattle.seed_counts.specs.Theorem.{TiltsApart}
+use Rattle.seed_counts.proofs.Counts.{exact_length}
 use Rattle.seed_counts.proofs.Offsets.{step_of}
 use Rattle.seed_counts.proofs.Anywhere.{offsets_admitted}
+use Rattle.seed_counts.proofs.Cases.{six_in_x, six_in_y, two_in_x, nine_by_half, far_admissible, far_merges, small_admissible, small_step_merges}
+use Rattle.seed_counts.specs.Theorem.{ExactLength}
 
 -- ---- the two lists of offsets that a run has: -s, 0, s, and 0 alone
 three_apart : (max c s : Float) → lt half₆₄ max ≡ false → le least_step s ≡ true → le s most_step ≡ true → TiltsApart (admitted max c (offsets s))
@@ -32,3 +35,17 @@ pub round_length : (one_axis : Bool) (s : Float) (centre : ScheimpflugParams) (c
     → length (next_list (offsets s) (y_offsets one_axis s) centre camera max) ≡ seed_count (offsets s) (y_offsets one_axis s) centre max
 round_length one_axis s centre camera max h l u =
     exact_length (offsets s) (y_offsets one_axis s) centre camera max (three_apart max centre.tilt_x s h l u) (y_apart one_axis max centre.tilt_y s h l u)
+
+pub list_length : ExactLength
+list_length = record {
+  exact_length = exact_length;
+  round_length = round_length;
+  six_in_x = six_in_x;
+  six_in_y = six_in_y;
+  two_in_x = two_in_x;
+  nine_by_half = nine_by_half;
+  far_admissible = far_admissible;
+  far_merges = far_merges;
+  small_admissible = small_admissible;
+  small_step_merges = small_step_merges;
+}

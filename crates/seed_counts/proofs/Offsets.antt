@@ -17,7 +17,7 @@ use Rattle.float_laws.specs.Exceeds.{Exceeds, plus_exceeds}
 use Rattle.float_laws.specs.Differences.{difference_not_below}
 use Rattle.seed_rules.specs.Rules.{closer, tilt_limit, offsets, moved}
 use Rattle.seed_counts.specs.Admissible.{least_step, most_step}
-use Rattle.seed_counts.proofs.Counts.{TiltsApart}
+use Rattle.seed_counts.specs.Theorem.{TiltsApart}
 
 -- ---- what the premises say of the numbers
 -- at most 0.75 in size

@@ -4,11 +4,12 @@
 #![tactic(auto)]
 
 ghost use Rattle.std.specs.Prelude.{◌≡◌, map, ◌+◌, ◌*◌, ◌/◌, ◌≤◌, length, Float};
-ghost use Rattle.seed_rules.specs.Layout.{six, two, read_from, seeds_of, all_seeds, Leaves};
+ghost use Rattle.seed_rules.specs.Layout.{six, two, read_from, seeds_of, tilts_of, all_seeds, Leaves};
 ghost use Rattle.seed_lists.specs.Pushed.{Pushed};
 ghost use Rattle.seed_rules.specs.Merge.{merged_into, merged};
 ghost use Rattle.seed_rules.specs.Rules as rules;
-ghost use Rattle.seed_rules.specs.Rules.{tilts, pairs, entries_within, seed_grid, initial_list, next_list};
+ghost use Rattle.seed_rules.specs.Rules.{tilts, pairs, seed_with, entries_within, seed_grid, initial_list, next_list};
+ghost use Rattle.seed_grids.specs.Typed.{TiltsApart};
 
 use camera_models::intrinsics::FxFyCxCy;
 use camera_tilt::sensor::ScheimpflugParams;
@@ -114,20 +115,27 @@ fn seed_grid(x_seeds: &[f64], y_seeds: &[f64], max_abs_tilt: f64, grid: &mut [f6
     )
 }
 
-// Offers the first entries of other numbers as seeds, in their order.
-// Kept: the numbers beside their count: of a slice cut to them the count would be a quotient by the entries' width, which the trait has for contracts
-// alone; and a struct of borrowed numbers and a count would serve these two calls alone.
-fn push_entries<F: Entry>(
-    list: &mut Entries<CandidateSeed>,
-    from: &[f64],
-    number: usize,
-    base_k: FxFyCxCy,
-)
-    requires { (F.width * number ≤ length from.now) × (6 * (list.old.count + number) ≤ length list.old.numbers.now) }
-    ensures { Pushed six 6 (merged_into rules.near (seeds_of list.old.count list.old.numbers.now) (map (F.seeded base_k) (read_from F.first F.width number from.now))) list.old list.new }
+// Offers the decomposition's seeds, in their order.
+fn push_solved(list: &mut Entries<CandidateSeed>, decomposition: &[f64])
+    requires { 6 * (list.old.count + length decomposition.now / 6) ≤ length list.old.numbers.now }
+    ensures { Pushed six 6 (merged_into rules.near (seeds_of list.old.count list.old.numbers.now) (all_seeds decomposition.now)) list.old list.new }
 {
+    for i in 0..decomposition.len() / 6 {
+        list.push(CandidateSeed::at(decomposition, i));
+    }
+}
+
+// Offers typed tilts, which are apart, as seeds with the base camera, in their order. Then those of them that are kept are no nearer, and
+// only the seeds that were kept before them are looked at.
+fn push_typed(list: &mut Entries<CandidateSeed>, grid: &[f64], number: usize, base_k: FxFyCxCy)
+    requires room { (2 * number ≤ length grid.now) × (6 * (list.old.count + number) ≤ length list.old.numbers.now) }
+    requires apart { TiltsApart (tilts_of number grid.now) }
+    ensures { Pushed six 6 (merged_into rules.near (seeds_of list.old.count list.old.numbers.now) (map (seed_with base_k) (tilts_of number grid.now))) list.old list.new }
+{
+    let before = list.count;
     for i in 0..number {
-        list.push(F::at(from, i).as_seed(base_k));
+        let seed = CandidateSeed::with_tilts(base_k, ScheimpflugParams::at(grid, i));
+        list.push_among(seed, before);
     }
 }
 
@@ -148,8 +156,7 @@ pub fn initial_seed_grid(
     let mut grid = [0.0; 512];
     let number = seed_grid(x_seeds, y_seeds, max_abs_tilt, &mut grid);
     let mut list = Entries::<CandidateSeed>::new(seeds);
-    let solved = decomposition.len() / 6;
-    push_entries::<CandidateSeed>(&mut list, decomposition, solved, base_k);
-    push_entries::<ScheimpflugParams>(&mut list, &grid, number, base_k);
+    push_solved(&mut list, decomposition);
+    push_typed(&mut list, &grid, number, base_k);
     list.count
 }

@@ -1,1 +1,3 @@
 pub mod Search
+pub mod Far
+pub mod Among

@@ -3,7 +3,7 @@
 
 ghost use Rattle.std.specs.Prelude.{◌≡◌};
 ghost use Rattle.seed_rules.specs.Rules as rules;
-ghost use Rattle.seed_rules.specs.Rules.{tilt_near, camera_near, in_bound};
+ghost use Rattle.seed_rules.specs.Rules.{tilt_limit, tilt_near, camera_near, in_bound};
 
 use camera_models::intrinsics::FxFyCxCy;
 use camera_tilt::sensor::ScheimpflugParams;
@@ -18,11 +18,24 @@ fn closer(limit: f64, x: f64, y: f64) -> bool
     size < limit
 }
 
+// Whether two tilts about one axis are nearer than 1e-12. Mostly they are far apart, and their squares tell, since a rounded square
+// keeps the order of sizes: no sign is looked at.
+#[tactic(auto, using(crate::proofs::Far::far), unfolding(seed_rules::specs::Rules::closer))]
+fn tilt_closer(x: f64, y: f64) -> bool
+    ensures { result ≡ rules.closer tilt_limit x y }
+{
+    let d = x - y;
+    if 1e-12 * 1e-12 < d * d {
+        return false;
+    }
+    closer(1e-12, x, y)
+}
+
 #[tactic(auto, unfolding(seed_rules::specs::Rules::tilt_near))]
 pub fn tilt_near(s: ScheimpflugParams, t: ScheimpflugParams) -> bool
     ensures { result ≡ tilt_near s t }
 {
-    closer(1e-12, s.tilt_x, t.tilt_x) && closer(1e-12, s.tilt_y, t.tilt_y)
+    tilt_closer(s.tilt_x, t.tilt_x) && closer(1e-12, s.tilt_y, t.tilt_y)
 }
 
 #[tactic(auto, unfolding(seed_rules::specs::Rules::camera_near))]

@@ -5,16 +5,14 @@
 
 pub mod checks;
 
-ghost use Rattle.std.specs.Prelude.{◌≡◌, ◌∷◌, [], ◌+◌, ◌*◌, ◌≤◌, ◌<◌, length, ℕ, Bool, List, Float, drop};
+ghost use Rattle.std.specs.Prelude.{◌≡◌, ◌∷◌, [], ◌+◌, ◌*◌, ◌≤◌, ◌<◌, length, ℕ, Bool, false, List, Float, drop};
 ghost use Rattle.std.proofs.Common.{lit<};
 ghost use Rattle.std.proofs.lemmas.List.Edits.{sets};
-ghost use Rattle.camera_models.specs.declared.intrinsics.FxFyCxCy.{FxFyCxCy};
 ghost use Rattle.camera_tilt.specs.declared.sensor.ScheimpflugParams.{ScheimpflugParams};
-ghost use Rattle.seed_rules.specs.declared.CandidateSeed.{CandidateSeed};
 ghost use Rattle.seed_lists.specs.Pushed.{Pushed};
 ghost use Rattle.seed_rules.specs.Layout.{six, seed_at, two, tilts_at, read_from};
 ghost use Rattle.seed_rules.specs.LayoutLaws.{Layout, seeds_layout, tilts_layout};
-ghost use Rattle.seed_rules.specs.Merge.{newest_near, push, merged_into};
+ghost use Rattle.seed_rules.specs.Merge.{has_near, newest_near, push, merged_into};
 ghost use Rattle.seed_rules.specs.Rules as rules;
 ghost use Rattle.seed_rules.specs.Rules.{tilt_near, seed_with, entries_within};
 
@@ -42,9 +40,6 @@ pub trait Entry: Copy {
     // The entry that tilts make with what is beside them.
     ghost tilted: { Self.Beside → ScheimpflugParams → Self };
 
-    // The entry as a seed; a pair of tilts gets the base camera.
-    ghost seeded: { FxFyCxCy → Self → CandidateSeed };
-
     fn at(list: &[f64], i: usize) -> Self
         requires { width * i + width ≤ length list.now }
         ensures { result ≡ first (drop (width * i) list.now) };
@@ -58,9 +53,6 @@ pub trait Entry: Copy {
 
     fn with_tilts(beside: Self::Beside, tilts: ScheimpflugParams) -> Self
         ensures { result ≡ tilted beside tilts };
-
-    fn as_seed(self, base_k: FxFyCxCy) -> CandidateSeed
-        ensures { result ≡ seeded base_k self };
 
     // What is written is read back, and an entry has a number at least.
     ghost lies: { Layout numbers first width };
@@ -89,8 +81,6 @@ impl Entry for CandidateSeed {
 
     ghost tilted = { seed_with };
 
-    ghost seeded = { λ base s. s };
-
     ghost lies = { seeds_layout };
 
     ghost wide = { lit< tt };
@@ -114,10 +104,6 @@ impl Entry for CandidateSeed {
             sensor,
         }
     }
-
-    fn as_seed(self, _base_k: FxFyCxCy) -> CandidateSeed {
-        self
-    }
 }
 
 impl Entry for ScheimpflugParams {
@@ -132,8 +118,6 @@ impl Entry for ScheimpflugParams {
     ghost near = { tilt_near };
 
     ghost tilted = { λ nothing t. t };
-
-    ghost seeded = { seed_with };
 
     ghost lies = { tilts_layout };
 
@@ -160,10 +144,6 @@ impl Entry for ScheimpflugParams {
     fn with_tilts(_beside: (), tilts: ScheimpflugParams) -> ScheimpflugParams {
         tilts
     }
-
-    fn as_seed(self, base_k: FxFyCxCy) -> CandidateSeed {
-        CandidateSeed::with_tilts(base_k, self)
-    }
 }
 
 // A list of entries at the front of lent numbers.
@@ -188,15 +168,30 @@ impl<'a, E: Entry> Entries<'a, E> {
         }
     }
 
-    // The newest of the kept entries that is near this one: a decomposition's seeds lie close to their predecessors.
+    // The newest of the first kept entries, as many as `among`, that is near this one: a decomposition's seeds lie close to their predecessors.
     // Its place is given, though push asks only whether there is one: 02's E4 names the newest, and a yes or no would be the same from either end.
-    fn find_near(&self, entry: E) -> Option<usize>
-        requires { E.width * self.now.count ≤ length self.now.numbers.now }
-        ensures { result ≡ newest_near E.near 0 (read_from E.first E.width self.now.count self.now.numbers.now) entry }
+    fn find_near(&self, entry: E, among: usize) -> Option<usize>
+        requires { E.width * among ≤ length self.now.numbers.now }
+        ensures { result ≡ newest_near E.near 0 (read_from E.first E.width among self.now.numbers.now) entry }
     {
-        (0..self.count)
+        (0..among)
             .rev()
             .find(|i| E::at(self.numbers, *i).is_near(entry))
+    }
+
+    // Puts an entry behind the kept ones, unless one of them is near it. Only the first of them, as many as `among`, are looked at: the
+    // others are known not to be near.
+    pub fn push_among(&mut self, entry: E, among: usize)
+        requires room { E.width * self.old.count + E.width ≤ length self.old.numbers.now }
+        requires kept { among ≤ self.old.count }
+        requires others_far { has_near E.near (drop among (read_from E.first E.width self.old.count self.old.numbers.now)) entry ≡ false }
+        ensures { Pushed E.numbers E.width (push E.near (read_from E.first E.width self.old.count self.old.numbers.now) entry) self.old self.new }
+    {
+        if self.find_near(entry, among).is_some() {
+            return;
+        }
+        entry.put(self.numbers, self.count);
+        self.count += 1;
     }
 
     // Puts an entry behind the kept ones, unless one of them is near it.
@@ -204,11 +199,8 @@ impl<'a, E: Entry> Entries<'a, E> {
         requires { E.width * self.old.count + E.width ≤ length self.old.numbers.now }
         ensures { Pushed E.numbers E.width (push E.near (read_from E.first E.width self.old.count self.old.numbers.now) entry) self.old self.new }
     {
-        if self.find_near(entry).is_some() {
-            return;
-        }
-        entry.put(self.numbers, self.count);
-        self.count += 1;
+        let all = self.count;
+        self.push_among(entry, all);
     }
 
     // The same for tilts, dropped too where they lie beyond the bound.

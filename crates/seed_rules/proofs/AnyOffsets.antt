@@ -2,38 +2,20 @@
 use Rattle.std.specs.Prelude.{◌≡◌, refl, Bool, true, false, ◌*◌, ◌≤◌, length, Float}
 use Rattle.std.proofs.Common.{⊎_elim, arith}
 use mathlib.Core.List.Memᴰ
-use mathlib.Core.List.{List, [], ◌∷◌, ◌++◌, Memᴰ}
-use Rattle.common.specs.Each.{All}
+use mathlib.Core.List.{List, [], Memᴰ}
 use Rattle.float.specs.Binary64.{◌+₆₄◌}
 use Rattle.float.specs.Literals.{plus_zero}
 use Rattle.float.specs.Zero.{zero_add_plus}
 use Rattle.camera_models.specs.declared.intrinsics.FxFyCxCy.{FxFyCxCy}
 use Rattle.camera_tilt.specs.declared.sensor.ScheimpflugParams.{ScheimpflugParams}
 use Rattle.seed_rules.specs.declared.CandidateSeed.{CandidateSeed}
-use Rattle.seed_rules.specs.Merge.{has_near}
-use Rattle.seed_rules.proofs.MergeLaws.{mem_keep, Covered, merged_covers, merged_fresh}
+use Rattle.seed_rules.specs.Theorem.{Covered}
+use Rattle.seed_rules.proofs.MergeLaws.{mem_keep, merged_covers, merged_fresh}
 use Rattle.seed_rules.specs.Rules.{near, in_bound, untilted_y, pairs, seed_with, seeds_within, offsets, y_offsets, moved, next_list}
 use Rattle.seed_rules.proofs.RulesLaws.{next_length}
-use Rattle.seed_rules.proofs.Facts.{pairs_mem, next_all}
+use Rattle.seed_rules.proofs.Facts.{pairs_mem, next_all, next_some, zero_offset, zero_y_offset}
 use Rattle.seed_rules.specs.AnyOffsets.{offset_seed, most_seeds}
-
--- a seed of the list: it lies at an offset of each axis, with the one camera, and within the bound
-pub record AtOffsets (dxs dys : List Float) (centre : ScheimpflugParams) (camera : FxFyCxCy) (max : Float) (s : CandidateSeed) : Type 0 where
-  pub dx : Float
-  pub dy : Float
-  pub is_dx : Memᴰ dx dxs
-  pub is_dy : Memᴰ dy dys
-  pub seed_is : s ≡ offset_seed centre camera dx dy
-  pub is_in_bound : in_bound max s.sensor ≡ true
-
-pub record RoundOver (dxs dys : List Float) (centre : ScheimpflugParams) (camera : FxFyCxCy) (max : Float) : Type 0 where
-  -- at most one seed for each pair of offsets, and nothing else
-  pub few : length (next_list dxs dys centre camera max) ≤ length dxs * length dys
-  pub made : All (AtOffsets dxs dys centre camera max) (next_list dxs dys centre camera max)
-  -- none is near an earlier one, and each pair of offsets within the bound is there, or a seed near it
-  pub apart : (before behind : List CandidateSeed) (s : CandidateSeed) → next_list dxs dys centre camera max ≡ before ++ s ∷ behind → has_near near before s ≡ false
-  pub all_tried : (dx dy : Float) → Memᴰ dx dxs → Memᴰ dy dys → in_bound max (offset_seed centre camera dx dy).sensor ≡ true
-      → Covered near (next_list dxs dys centre camera max) (offset_seed centre camera dx dy)
+use Rattle.seed_rules.specs.Theorem.{AtOffsets, RoundOver, LaterLists}
 
 offsets_tried : (dxs dys : List Float) (centre : ScheimpflugParams) (camera : FxFyCxCy) (max dx dy : Float) → Memᴰ dx dxs → Memᴰ dy dys
     → in_bound max (offset_seed centre camera dx dy).sensor ≡ true → Covered near (next_list dxs dys centre camera max) (offset_seed centre camera dx dy)
@@ -78,3 +60,13 @@ pub untilted_around : (dxs : List Float) (s : Float) (centre : ScheimpflugParams
     → AtOffsets dxs (y_offsets true s) centre camera max t → t.sensor.tilt_y ≡ plus_zero
 unfolding untilted_y
 untilted_around dxs s centre camera max t h a = rw (a.seed_is, only_zero_lem s a.is_dy) (zero_add_plus centre.tilt_y h)
+
+pub later_lists : LaterLists
+later_lists = record {
+  any_offsets = any_offsets;
+  next_some = next_some;
+  zero_offset = zero_offset;
+  zero_y_offset = zero_y_offset;
+  round_few = round_few;
+  untilted_around = untilted_around;
+}

@@ -1,7 +1,7 @@
 -- Laws of merging under any relation: lengths, what holds of the kept ones, what is near a dropped one, that no kept one is near an earlier one, and merging in parts. Assumes nothing.
 use Rattle.std.proofs.Math.Path.{◌≡◌, refl, sym, ap}
 use Rattle.std.proofs.Common.{◌∙◌, true≢false, add-zero}
-use Rattle.std.specs.Prelude.{Bool, false, ◌||◌, ◌⊎◌, Option, Some, None, is_some}
+use Rattle.std.specs.Prelude.{Bool, false, ◌||◌, Option, Some, None, is_some}
 use Rattle.std.specs.Option.{option_or}
 use Rattle.std.proofs.Math.Bool.{true, cond}
 use mathlib.Core.List.Memᴰ
@@ -14,6 +14,7 @@ use Rattle.common.specs.All.{all_append}
 use Rattle.common.specs.Each.{All}
 use Rattle.common.specs.Tests.{case}
 use Rattle.seed_rules.specs.Merge.{keep, has_near, newest_near, push, merged_into, merged}
+use Rattle.seed_rules.specs.Theorem.{Newest, Covered}
 
 found_in : (r : Option ℕ) (c : Bool) (i : ℕ) → is_some (option_or r (cond c (Some i) None)) ≡ (c || is_some r)
 found_in (Some j) true i = refl
@@ -81,23 +82,13 @@ module _ {A : Type 0} where
     unfolding push
     same_kept ks s = rw (newest_found 0 ks s)
 
-    -- the one it names is near, and none behind it is
-    pub record Newest (i : ℕ) (ks : List A) (s : A) (j : ℕ) : Type 0 where
-      pub earlier : List A
-      pub named : A
-      pub later : List A
-      pub split : ks ≡ earlier ++ (named ∷ later)
-      pub place : j ≡ i + length earlier
-      pub nearby : near named s ≡ true
-      pub none_later : has_near near later s ≡ false
-
-    pub newest_named : (i j : ℕ) (ks : List A) (s : A) → newest_near near i ks s ≡ Some j → Newest i ks s j
+    pub newest_named : (i j : ℕ) (ks : List A) (s : A) → newest_near near i ks s ≡ Some j → Newest near i ks s j
     unfolding newest_near
     newest_named i j [] s h = let z : ◌≡◌ {A = ℕ} 0 1 = cc in absurd (omega arith)
     newest_named i j (k ∷ ks) s h = go (newest_near near (suc i) ks s) refl h (newest_named (suc i) j ks s)
       where
         go : (r : Option ℕ) → newest_near near (suc i) ks s ≡ r → option_or r (cond (near k s) (Some i) None) ≡ Some j
-            → (newest_near near (suc i) ks s ≡ Some j → Newest (suc i) ks s j) → Newest i (k ∷ ks) s j
+            → (newest_near near (suc i) ks s ≡ Some j → Newest near (suc i) ks s j) → Newest near i (k ∷ ks) s j
         go (Some m) e g behind =
             let n = behind (e ∙ g) in
             record {
@@ -180,12 +171,7 @@ module _ {A : Type 0} where
     mem_merged ks (s ∷ ss) m = mem_merged (push near ks s) ss (mem_push ks s m)
 
     -- ---- each one offered is kept, or near a kept one
-    pub record Covered (ks : List A) (s : A) : Type 0 where
-      pub by : A
-      pub kept : Memᴰ by ks
-      pub nearby : (by ≡ s) ⊎ (near by s ≡ true)
-
-    near_one : (ks : List A) (s : A) → has_near near ks s ≡ true → Covered ks s
+    near_one : (ks : List A) (s : A) → has_near near ks s ≡ true → Covered near ks s
     unfolding has_near
     near_one [] s h = absurd (true≢false (sym h))
     near_one (k ∷ ks) s h =
@@ -193,17 +179,17 @@ module _ {A : Type 0} where
         (λ e. record { by = k; kept = Memᴰ.head refl; nearby = inr e })
         (λ e. let r = near_one ks s (simp e at h) in record { by = r.by; kept = Memᴰ.tail r.kept; nearby = r.nearby })
 
-    push_covers : (ks : List A) (s : A) → Covered (push near ks s) s
+    push_covers : (ks : List A) (s : A) → Covered near (push near ks s) s
     unfolding push
     push_covers ks s =
         case (has_near near ks s)
         (λ e. simp e (near_one ks s e))
         (λ e. simp e (record { by = s; kept = Memᴰ.append_right ks (Memᴰ.head refl); nearby = inl refl }))
 
-    stays_covered : (ks ss : List A) (s : A) → Covered ks s → Covered (merged_into near ks ss) s
+    stays_covered : (ks ss : List A) (s : A) → Covered near ks s → Covered near (merged_into near ks ss) s
     stays_covered ks ss s r = record { by = r.by; kept = mem_merged ks ss r.kept; nearby = r.nearby }
 
-    pub merged_covers : (ks ss : List A) {s : A} → Memᴰ s ss → Covered (merged_into near ks ss) s
+    pub merged_covers : (ks ss : List A) {s : A} → Memᴰ s ss → Covered near (merged_into near ks ss) s
     unfolding merged_into
     merged_covers ks [] m = absurd (Memᴰ.not-nil m)
     merged_covers ks (t ∷ ss) {s} m =

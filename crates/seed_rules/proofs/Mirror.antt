@@ -13,13 +13,7 @@ use Rattle.seed_rules.specs.declared.CandidateSeed.{CandidateSeed}
 use Rattle.seed_rules.specs.Merge.{keep, merged}
 use Rattle.seed_rules.proofs.MergeLaws.{keep_map, merged_map}
 use Rattle.seed_rules.specs.Rules.{closer, tilt_limit, tilt_near, camera_near, near, in_bound, tilts, pairs, seed_with, seed_grid, initial_list}
-
--- both tilts negated, the camera kept
-abbrev pub opposite : ScheimpflugParams → ScheimpflugParams
-opposite t = tilts (neg t.tilt_x) (neg t.tilt_y)
-
-abbrev pub mirrored : CandidateSeed → CandidateSeed
-mirrored s = seed_with s.reference_k (opposite s.sensor)
+use Rattle.seed_rules.specs.Theorem.{opposite, mirrored}
 
 -- ---- nearness and the bound do not see the side
 closer_neg : (limit x y : Float) → closer limit (neg x) (neg y) ≡ closer limit x y

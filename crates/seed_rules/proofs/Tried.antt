@@ -1,6 +1,6 @@
 -- Every typed tilt is tried: for each pair of typed tilts within the bound, by order alone, round 0's list has a seed with the base camera, or with one near it, whose tilts
 -- are near the pair's, or near those of a pair that is near it. Nearness is the rule's own, on rounded differences. Assumes nothing.
-use Rattle.std.specs.Prelude.{◌≡◌, true, ◌⊎◌, Float}
+use Rattle.std.specs.Prelude.{◌≡◌, true, Float}
 use Rattle.std.proofs.Common.{ap, inl, inr, ⊎_elim}
 use mathlib.Core.List.Memᴰ
 use mathlib.Core.List.{List, [], ◌++◌, map, Memᴰ}
@@ -16,15 +16,8 @@ use Rattle.seed_rules.specs.Merge.{keep}
 use Rattle.seed_rules.proofs.MergeLaws.{mem_keep, merged_covers}
 use Rattle.seed_rules.specs.Rules.{closer, tilt_limit, tilt_near, camera_near, near, in_bound, tilts, pairs, seed_with, seed_grid, initial_list}
 use Rattle.float.proofs.Bound.{abs_order}
-use Rattle.seed_rules.proofs.Facts.{pairs_mem}
-
-pub record Tried (list : List CandidateSeed) (grid : List ScheimpflugParams) (base : FxFyCxCy) (t : ScheimpflugParams) : Type 0 where
-  pub seed : CandidateSeed
-  pub listed : Memᴰ seed list
-  pub camera : (seed.reference_k ≡ base) ⊎ (camera_near seed.reference_k base ≡ true)
-  pub nearby :
-      (tilt_near seed.sensor t ≡ true)
-      ⊎ ((u : ScheimpflugParams) × Memᴰ u grid × (tilt_near seed.sensor u ≡ true) × (tilt_near u t ≡ true))
+use Rattle.seed_rules.proofs.Facts.{pairs_mem, initial_in_bound, initial_most}
+use Rattle.seed_rules.specs.Theorem.{Tried, TypedTilts}
 
 -- ---- a number is near itself
 closer_self : (x : Float) → is_finite x ≡ true → closer tilt_limit x x ≡ true
@@ -62,3 +55,6 @@ every_tilt_tried ds xs ys base max f x y mx my lx hx ly hy =
       camera = ⊎_elim (λ e. inl (ap (λ (s : CandidateSeed). s.reference_k) e)) (λ n. inr (near_parts second.by (seed_with base u) n).1) second.nearby;
       nearby = ⊎_elim (λ e. inl (rw e close)) (λ n. inr (u, first.kept, (near_parts second.by (seed_with base u) n).0, close)) second.nearby;
     }
+
+pub typed_tilts : TypedTilts
+typed_tilts = record { every_tilt_tried = every_tilt_tried; initial_in_bound = initial_in_bound; initial_most = initial_most }

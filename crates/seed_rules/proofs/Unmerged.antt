@@ -8,11 +8,7 @@ use Rattle.common.specs.All.{all_append, all_map, all_mapped}
 use Rattle.common.specs.Tests.{both_false}
 use Rattle.seed_rules.specs.Merge.{keep, has_near, push, merged_into, merged}
 use Rattle.seed_rules.proofs.MergeLaws.{keep_all}
-
--- no element lies near a later one
-abbrev pub Apart : {A : Type 0} → (A → A → Bool) → List A → Type 0
-Apart near [] = Unit {0}
-Apart near (x ∷ xs) = All (λ y. near x y ≡ false) xs × Apart near xs
+use Rattle.seed_rules.specs.Theorem.{Apart}
 
 module _ {A : Type 0} (near : A → A → Bool) where
   -- ---- merging

@@ -3,3 +3,4 @@ pub mod LayoutLaws
 pub mod Merge
 pub mod Rules
 pub mod AnyOffsets
+pub mod Theorem

@@ -2,6 +2,8 @@
 
 #![tactic(auto)]
 
+pub mod laws;
+
 ghost use Rattle.std.specs.Prelude.{◌≡◌};
 ghost use Rattle.seed_rules.specs.Layout.{six, seed_at};
 

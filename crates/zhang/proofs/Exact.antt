@@ -1,10 +1,10 @@
 -- Exact cases of the closed form: a camera of whole numbers up to 256, times a power of two, comes back from its conic, and from the negated one. Assumes nothing.
-use Rattle.std.specs.Prelude.{◌≡◌, Bool, not, ℕ, ◌+◌, ◌*◌, ◌^◌, ◌≤◌, ◌<◌, T, Float, Result, Ok}
+use Rattle.std.specs.Prelude.{◌≡◌, Bool, not, ℕ, ◌+◌, ◌*◌, ◌^◌, ◌≤◌, ◌<◌, T, Float, Ok}
 use Rattle.std.proofs.Math.Path.{refl, ap}
 use Rattle.std.proofs.Common.{sym, ◌∙◌, subst, true≢false, add-zero, zero-add, zero-mul, mul-one, mul_assoc, mul_comm, add-mul, arith, pow-add, pow_pos}
 use Rattle.std.proofs.Math.Bool.{true, false}
 use Rattle.std.proofs.Math.Nat.{mul-pos, mul_left_comm, mul-mul-mul_comm, mul-le-mul, mul-le-mul_left}
-use Rattle.std.specs.Float.Ieee.{binary64, of_bits, unlike, round, neg, lt, le, eq, fits}
+use Rattle.std.specs.Float.Ieee.{binary64, of_bits, unlike, round, neg, lt, le, fits}
 use Rattle.std.specs.Float.Ieee.Fits.{round-fits, div-fits}
 use Rattle.std.specs.Float.Ieee.Positive.{num, den, value→cross, positive_of_value}
 use Rattle.float.specs.Whole.{Is, Num, Few, held, has_value, round_is, neg_is, num_zero, num_mul, num_div, num_add, num_sub, num_less, is_equal, is_positive, div_at_least, one_least, abs_is}
@@ -16,8 +16,8 @@ use Rattle.root.specs.Root.{root}
 use Rattle.root.proofs.Nearest.{root_exact}
 use Rattle.camera_models.specs.declared.intrinsics.FxFyCxCy.{FxFyCxCy}
 use Rattle.zhang.specs.declared.Conic.{Conic}
-use Rattle.common.specs.declared.Refusal.{Refusal}
 use Rattle.zhang.specs.Zhang.{least_definite, least_b11, denom, norm, v0, lambda, alpha, beta, gamma, u0, definite, from_homographies}
+use Rattle.zhang.specs.Theorem.{Conic-of, Recovered, CameraRecovered}
 
 -- ---- the root of a square
 num_root : (x : Float) (a i n z : ℕ) → T (fits binary64 x) → Num x false a i → 0 < n → a ≡ n * n → i ≡ z + z → n < 2 ^ 53 → Few z → Num (root binary64 x) false n z
@@ -82,24 +82,6 @@ positive_large x n p v = rw (abs_is x n p v) (lt_le_trans least_b11 (round binar
 large : (x : Float) (s : Bool) (n : ℕ) → 0 < n → Is x s n → lt least_b11 (abs_of x) ≡ true
 large x false n p v = positive_large x n p v
 large x true n p v = rw (sym (abs_neg x)) (positive_large (neg x) n p (neg_is x true n v))
-
--- ---- μ K⁻ᵀ K⁻¹ for a camera K of p 2^k, q 2^k, ±x 2^k and ±y 2^k, where μ is p² q² 2^2k, or where s is true the negative of that
-pub record Conic-of (p q x y k : ℕ) (sx sy s : Bool) (b : Conic) : Type 0 where
-  pub b11 : Num b.b11 s (q * q) 0
-  pub b12 : Num b.b12 s 0 0
-  pub b22 : Num b.b22 s (p * p) 0
-  pub b13 : Num b.b13 (unlike s (not sx)) (x * (q * q)) k
-  pub b23 : Num b.b23 (unlike s (not sy)) (y * (p * p)) k
-  pub b33 : Num b.b33 s (x * x * (q * q) + y * y * (p * p) + p * p * (q * q)) (k + k)
-
--- The reply is a camera whose four numbers equal those of f, as IEEE 754 compares: they are the same but for the sign of a zero.
-pub record Recovered (f : FxFyCxCy) (r : Result FxFyCxCy Refusal) : Type 0 where
-  pub camera : FxFyCxCy
-  pub reply : r ≡ Ok camera
-  pub fx : eq camera.fx f.fx ≡ true
-  pub fy : eq camera.fy f.fy ≡ true
-  pub cx : eq camera.cx f.cx ≡ true
-  pub cy : eq camera.cy f.cy ≡ true
 
 module _ (p q x y k : ℕ) (sx sy s : Bool) (b : Conic) (c : Conic-of p q x y k sx sy s b) (p-pos : 0 < p) (q-pos : 0 < q) (p-le : p ≤ 256) (q-le : q ≤ 256) (x-le : x ≤ 256) (y-le : y ≤ 256) (few : k ≤ 300) where
   pp : p * p ≤ 256 * 256
@@ -272,3 +254,6 @@ module _ (p q x y k : ℕ) (sx sy s : Bool) (b : Conic) (c : Conic-of p q x y k 
         cx = is_equal (u0 b) f.cx sx (x * 2 ^ k) u0_is cx;
         cy = is_equal (v0 b) f.cy sy (y * 2 ^ k) v0_is cy;
       }
+
+pub camera_recovered : CameraRecovered
+camera_recovered = record { recovered = recovered }

@@ -1,1 +1,2 @@
 pub mod Zhang
+pub mod Theorem

@@ -3,6 +3,8 @@
 
 #![tactic(auto)]
 
+pub mod laws;
+
 ghost use Rattle.std.specs.Prelude.{◌≡◌};
 ghost use Rattle.zhang.specs.Zhang as zhang;
 ghost use Rattle.zhang.specs.Zhang.{camera_of, from_homographies};

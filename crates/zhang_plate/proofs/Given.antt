@@ -9,7 +9,8 @@ use Rattle.float.specs.Literals.{plus_zero}
 use Rattle.float.specs.Sign.{unlike_false, unlike_itself}
 use Rattle.float.specs.Whole.{Num, held, round_is, neg_is, num_mul, num_div, num_add}
 use Rattle.camera_models.specs.declared.intrinsics.FxFyCxCy.{FxFyCxCy}
-use Rattle.zhang.proofs.Exact.{unlike_first, signed, Conic-of, Recovered, recovered}
+use Rattle.zhang.specs.Theorem.{Conic-of, Recovered}
+use Rattle.zhang.proofs.Exact.{unlike_first, signed, recovered}
 use Rattle.zhang.specs.Zhang.{from_homographies}
 use Rattle.common.specs.declared.Refusal.TheVariants.{NoPlate}
 use Rattle.zhang_plate.specs.Plate.{unit_from, conic_with, plate_of}

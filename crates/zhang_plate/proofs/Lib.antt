@@ -3,3 +3,4 @@ pub mod Lowest
 pub mod Given
 pub mod WholeNumber
 pub mod Turns
+pub mod Cases

@@ -1,3 +1,4 @@
 pub mod Plate
+pub mod Table
 pub mod Theorem
-pub mod Cases
+pub mod Whole

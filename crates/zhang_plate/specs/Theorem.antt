@@ -3,10 +3,12 @@ use Rattle.std.specs.Prelude.{◌≡◌, ℕ, ◌≤◌, Bool, false, Ok, Err}
 use Rattle.float.specs.Whole.{Num}
 use Rattle.camera_models.specs.declared.intrinsics.FxFyCxCy.{FxFyCxCy}
 use Rattle.zhang.specs.declared.Conic.{Conic}
-use Rattle.zhang.proofs.Exact.{Recovered}
+use Rattle.zhang.specs.Theorem.{Recovered}
 use Rattle.zhang.specs.Zhang.{from_homographies}
 use Rattle.common.specs.declared.Refusal.TheVariants.{NoPlate}
 use Rattle.zhang_plate.specs.Plate.{plate_of}
+use Rattle.common.specs.Each.{All}
+use Rattle.zhang_plate.specs.Table.{Holds, table}
 
 -- The four numbers of a camera are whole numbers of 2 ^ k: p and q, 1 to 256, for the focal lengths, ±x and ±y, up to 256, for the centre.
 -- (`Num a s n k`: a is n 2 ^ k, with a minus where s; a zero has either sign.)
@@ -36,3 +38,7 @@ pub record Shared (f : FxFyCxCy) : Type 0 where
 pub record PlateRight : Type 0 where
   pub gives : (f : FxFyCxCy) → Shared f → (b : Conic) × (plate_of f ≡ Ok b) × Recovered f (from_homographies b)
   pub refuses : (f : FxFyCxCy) → (Shared f → ⊥) → plate_of f ≡ Err NoPlate
+
+-- each camera of the table gets what the table says
+pub record CasesHold : Type 0 where
+  pub all_hold : All Holds table

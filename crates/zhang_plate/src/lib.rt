@@ -3,44 +3,74 @@
 
 #![tactic(auto)]
 
-ghost use Rattle.std.specs.Prelude.{◌≡◌, ◌≤◌};
+ghost use Rattle.std.specs.Prelude.{◌≡◌, ℕ, ◌≤◌};
 ghost use Rattle.zhang_plate.specs.Plate.{times_unit, shared_unit, conic_with, plate_of};
+ghost use Rattle.zhang_plate.specs.Whole.{whole_times, SizesOf};
 
 use camera_models::intrinsics::FxFyCxCy;
 use common::Refusal;
 use zhang::Conic;
 
-// Whether x is a whole number of units, at most 256 of them, of either sign.
-#[tactic(auto, using(crate::proofs::WholeNumber::too_large, crate::proofs::WholeNumber::has_fraction, crate::proofs::WholeNumber::counts))]
-fn times_unit(x: f64, unit: u64) -> bool
-    requires { (1 ≤ unit) × (unit ≤ 256) }
-    ensures { result ≡ times_unit unit x }
+// The size of x if x is a whole number below 65537 in size: a number of units that is at most 256, of a unit up to 256, is one.
+fn whole_size(x: f64) -> Option<u64>
+    ensures { (unit : ℕ) → unit ≤ 256 → times_unit unit x ≡ whole_times unit result }
 {
     let size = float::abs(x);
     if !(size < 65537.0) {
-        return false;
+        return None;
     }
     // A fraction makes the whole part another number, however small it is; x / unit could round to 0.
     let whole = std::num::truncating_f64_to_u64(size);
     if whole as f64 != size {
-        return false;
+        return None;
     }
-    (whole % unit == 0) & (whole / unit <= 256)
+    Some(whole)
+}
+
+// The sizes of a camera's four numbers, as far as they are whole.
+#[derive(Clone, Copy)]
+struct WholeSizes {
+    fx: Option<u64>,
+    fy: Option<u64>,
+    cx: Option<u64>,
+    cy: Option<u64>,
+}
+
+fn whole_sizes(k: FxFyCxCy) -> WholeSizes
+    ensures { SizesOf k result }
+{
+    WholeSizes {
+        fx: whole_size(k.fx),
+        fy: whole_size(k.fy),
+        cx: whole_size(k.cx),
+        cy: whole_size(k.cy),
+    }
+}
+
+// Whether a whole number is a number of units, at most 256 of them.
+fn times_unit(size: Option<u64>, unit: u64) -> bool
+    requires { 1 ≤ unit }
+    ensures { result ≡ whole_times unit size }
+{
+    match size {
+        None => false,
+        Some(whole) => (whole % unit == 0) & (whole / unit <= 256),
+    }
 }
 
 // Whether the four are whole numbers of units, in their ranges.
 #[tactic(auto, unfolding(crate::specs::Plate::shared_unit))]
-fn shared_unit(k: FxFyCxCy, unit: u64) -> bool
-    requires { (1 ≤ unit) × (unit ≤ 256) }
+fn shared_unit(k: FxFyCxCy, sizes: WholeSizes, unit: u64) -> bool
+    requires in_range { (1 ≤ unit) × (unit ≤ 256) }
+    requires sizes { SizesOf k sizes }
     ensures { result ≡ shared_unit unit k }
 {
-    let FxFyCxCy { fx, fy, cx, cy } = k;
-    times_unit(fx, unit)
-        & times_unit(fy, unit)
-        & times_unit(cx, unit)
-        & times_unit(cy, unit)
-        & (0.0 < fx)
-        & (0.0 < fy)
+    times_unit(sizes.fx, unit)
+        & times_unit(sizes.fy, unit)
+        & times_unit(sizes.cx, unit)
+        & times_unit(sizes.cy, unit)
+        & (0.0 < k.fx)
+        & (0.0 < k.fy)
 }
 
 // The six numbers, each operation exact where the four are whole numbers of units.
@@ -66,11 +96,14 @@ fn conic_with(k: FxFyCxCy, unit: f64) -> Conic
 pub fn known_plate(k: FxFyCxCy) -> Result<Conic, Refusal>
     ensures { result ≡ plate_of k }
 {
+    let sizes = whole_sizes(k);
     for power in 0..9u64 {
         let unit = 1u64 << power;
-        if shared_unit(k, unit) {
+        if shared_unit(k, sizes, unit) {
             return Ok(conic_with(k, unit as f64));
         }
     }
     Err(Refusal::NoPlate)
 }
+
+pub mod laws;

@@ -1,9 +1,13 @@
 -- `float_series::beyond` meets its contract: NaN, or above 0.5 in size, is what isn't at most 0.5 in size. Assumes nothing.
-use Rattle.std.proofs.Common.{◌≡◌, refl, sym, ◌∙◌, true≢false, false, not, Float}
+use Rattle.std.proofs.Common.{◌≡◌, refl, sym, ◌∙◌, true≢false, true, false, not, Float}
 use Rattle.std.specs.Float.{nan, inf, fin}
-use Rattle.std.specs.Float.Ieee.{of_bits, lt, le, is_nan}
+use Rattle.std.specs.Float.Ieee.{of_bits, lt, le, mul, is_nan}
 use Rattle.common.specs.Tests.{case}
-use Rattle.float.specs.Float.{abs_of, within}
+use Rattle.float.specs.Float.{abs_of, sign_bit, within}
+use Rattle.float.specs.Sign.{abs_unsigned}
+use Rattle.float.specs.Binary64.{◌*₆₄◌}
+use Rattle.float.specs.Nan.{is_nan_lem}
+use Rattle.float_laws.specs.OneTest.{size_by_square}
 use Rattle.float.specs.Literals.{half₆₄}
 use Rattle.float.specs.Order.{le_not_lt, le_of_not_lt}
 use Rattle.float_series.specs.Answer.{beyond_half}
@@ -17,6 +21,24 @@ unfolding within beyond_half is_nan le lt abs_of of_bits
 outside nan = refl
 outside (inf s) = refl
 outside (fin s m e) = not_le (fin false m e) half₆₄ refl refl
+
+unsigned : sign_bit half₆₄ ≡ false
+unfolding sign_bit of_bits
+unsigned = refl
+
+of_nan : (y : Float) → lt (nan *₆₄ nan) y ≡ false
+unfolding mul lt
+of_nan y = refl
+
+inside : (x : Float) → lt (x *₆₄ x) (half₆₄ *₆₄ half₆₄) ≡ true → beyond_half x ≡ false
+unfolding beyond_half
+inside x h =
+    case (is_nan x)
+    (λ n. absurd (true≢false (sym (rw (is_nan_lem x n) at h) ∙ of_nan (half₆₄ *₆₄ half₆₄))))
+    (λ n. rw (n, rw (abs_unsigned half₆₄ unsigned) at (size_by_square x half₆₄ h)) refl)
+
+pub returns-then-x : goal.returns-then-x
+returns-then-x c = sym (inside c.args.x c.if-x.true)
 
 pub returns : goal.returns
 returns c = rw c.within.ensures (outside c.args.x)

@@ -1,8 +1,16 @@
 -- `root_code::rounded` meets its contract. Assumes nothing.
-use Rattle.std.proofs.Common.{◌+◌, ◌-◌, ◌*◌, ◌^◌, arith}
+use Rattle.std.proofs.Common.{ℕ, ◌+◌, ◌-◌, ◌*◌, ◌%◌, ◌^◌, ◌<◌, Bool, not, T, sym, subst, arith, ltb→lt}
+use Rattle.std.proofs.Math.Dec.{not_T}
+use Rattle.std.specs.Prelude.{nat_lt}
+use Rattle.std.specs.Float.{binary64}
+use Rattle.std.specs.Float.Ieee.{nan_bits}
+use Rattle.std.specs.Float.Ieee.Bits.{nan_bits_above}
 use Rattle.root_code.proofs.Rounds.{Answer, answer}
-use Rattle.root_code.specs.Bits.{no_nan}
 use Rattle.root_code.proofs.rounded.Goals as goal
+
+-- a pattern below the infinity's is no NaN's
+no_nan : (b : ℕ) → b < 0x7ff0_0000_0000_0000 → T (not (nan_bits binary64 b))
+no_nan b h = subst (λ (z : Bool). T (not z)) (sym (nan_bits_above binary64 b)) (not_T (nat_lt (0x7ff * 2 ^ 52) (b % 2 ^ 63)) (λ y. omega (arith, ltb→lt (0x7ff * 2 ^ 52) (b % 2 ^ 63) y)))
 
 -- what the pattern is
 made : (c : goal.After-struct_known-1) → Answer c.args.s.significand c.args.s.half ((c.args.s.half - 26) * 2 ^ 52 + c.nearest_root-q.result)

@@ -15,4 +15,4 @@ loop-x-preserved c =
     let t = zip_turn (first_chunks 4 (length ns / 4) ns) (take (length ns / 4) fs) l.yielded c.into_iter-x-iterator.result l.x-iterator c.next.new.self c.next.result (search rules) (search rules) l.yielded_by (c.in-Some.field-0-0, c.in-Some.flag) c.in-Some.is c.next.ensures.steps in
     let below : length l.yielded < length ns / 4 = omega (arith, t.1, length-take (length ns / 4) fs) in
     rw length-append
-    (c.add_row-sum.ensures ∙ one_more_four l.sum a.total a.by.camera a.by.h ns fs (length l.yielded) c.in-Some.field-0-0.now c.in-Some.flag.now l.invariant below (t.2 []) (t.3 0 ∙ get_or-take (length ns / 4) fs (length l.yielded) 0 below))
+    (c.add_row.ensures ∙ one_more_four l.sum a.total a.by.camera a.by.h ns fs (length l.yielded) c.in-Some.field-0-0.now c.in-Some.flag.now l.invariant below (t.2 []) (t.3 0 ∙ get_or-take (length ns / 4) fs (length l.yielded) 0 below))

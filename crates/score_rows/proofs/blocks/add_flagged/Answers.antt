@@ -2,25 +2,19 @@
 use Rattle.std.proofs.Common.{ℕ, ◌≡◌, eqb, not, true, get_or, length, sym, ap, ◌∙◌, arith, length-append, rules}
 use Rattle.std.proofs.lemmas.Bool.Decides.{nat_tests}
 use Rattle.std.proofs.lemmas.Slice.Zip.{zip_turn}
-use Rattle.root_code.specs.Bits.{no_nan}
-use Rattle.score_rows.proofs.Steps.{bits_next, front_each}
+use Rattle.std.specs.Float.{nan}
+use Rattle.score_rows.proofs.Steps.{errors_next, front_each}
 use Rattle.score_rows.proofs.blocks.add_flagged.Goals as goal
 use Rattle.score_rows.proofs.blocks.add_flagged.Goals.{then-this-ne0, else-this-ne0}
 
 on : (n : ℕ) → (n ≡ 0 → ⊥) → not (eqb n 0) ≡ true
 on n h = grind (arith, nat_tests)
 
-pub float_from_bits-b : goal.float_from_bits-b
-float_from_bits-b g c =
-    let l = c.loop-flag in
-    let t = zip_turn c.args.flags.now c.args.bits.now l.yielded c.into_iter-flag-iterator.result l.flag-iterator c.next.new.self c.next.result (search rules) (search rules) l.yielded_by (c.in-Some.flag, c.in-Some.b) c.in-Some.is c.next.ensures.steps in
-    rw (t.3 0) (no_nan _ (c.requires.finite (length l.yielded) t.0))
-
 pub loop-flag-preserved : goal.loop-flag-preserved
 loop-flag-preserved g c =
     let l = c.loop-flag in
     let fs = c.args.flags.now in
-    let t = zip_turn fs c.args.bits.now l.yielded c.into_iter-flag-iterator.result l.flag-iterator c.next.new.self c.next.result (search rules) (search rules) l.yielded_by (c.in-Some.flag, c.in-Some.b) c.in-Some.is c.next.ensures.steps in
+    let t = zip_turn fs c.args.errors.now l.yielded c.into_iter-flag-iterator.result l.flag-iterator c.next.new.self c.next.result (search rules) (search rules) l.yielded_by (c.in-Some.flag, c.in-Some.error) c.in-Some.is c.next.ensures.steps in
     let j = length l.yielded in
     let counted : c.if-this-ne0.counted ≡ eqb (get_or fs j 0) 1 =
     elim c.if-this-ne0.branch as (λ _. c.if-this-ne0.counted ≡ eqb (get_or fs j 0) 1) [
@@ -30,4 +24,4 @@ loop-flag-preserved g c =
       | else-this-ne0 w ↦ w.counted-is ∙ ap (λ (n : ℕ). eqb n 1) (t.2 0)
     ]
     in
-    rw (length-append, bits_next, c.with_error-sum.ensures, l.invariant, counted, t.3 0)
+    rw (length-append, errors_next, c.add_error-sum.ensures, l.invariant, counted, t.3 nan)

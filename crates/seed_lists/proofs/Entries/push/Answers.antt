@@ -1,16 +1,15 @@
--- `seed_lists::Entries::push` meets its contract: an entry with a near one among the kept is dropped, any other is stored behind them. Assumes nothing.
-use Rattle.std.proofs.Common.{sym, ap, ◌∙◌, is_some, rules}
-use Rattle.seed_rules.proofs.Steps.{push_drops, push_stores}
+-- `seed_lists::Entries::push` meets its contract: behind all kept entries there is none. Assumes nothing.
+use Rattle.std.proofs.Common.{le_of_eq}
+use Rattle.std.proofs.lemmas.List.{at_drop_all}
+use Rattle.seed_rules.specs.Layout.{read_from}
+use Rattle.seed_rules.specs.LayoutLaws.{read_length}
+use Rattle.seed_rules.specs.Merge.{has_near}
 use Rattle.seed_lists.proofs.Entries.push.Goals as goal
 
-pub returns-then-is_some : goal.returns-then-is_some
-returns-then-is_some g c =
-    let a = c.args in
-    let e = ap is_some (sym c.find_near.ensures) ∙ sym c.is_some.ensures ∙ c.if-is_some.true in
-    record { same_reference = search rules; same_length = search rules; pushed = push_drops g.met.E.Entry.lies g.E.Entry.near a.self.now.numbers.now a.self.now.count a.entry (search rules) e }
-
-pub returns : goal.returns
-returns g c =
-    let a = c.args in
-    let e = ap is_some (sym c.find_near.ensures) ∙ sym c.is_some.ensures ∙ c.if-is_some.false in
-    record { same_reference = search rules; same_length = search rules; pushed = push_stores g.met.E.Entry.lies g.E.Entry.near a.self.now.numbers.now c.put.new.list a.self.now.count a.entry (search rules) e c.put.ensures }
+pub push_among-requires-clause-others_far : goal.push_among-requires-clause-others_far
+unfolding has_near
+push_among-requires-clause-others_far g c =
+    let e = g.E.Entry in
+    let n = c.args.self.now.count in
+    let l = c.args.self.now.numbers.now in
+    at_drop_all (λ ks. has_near e.near ks c.args.entry) (read_from e.first e.width n l) n (le_of_eq (read_length e.first e.width n l))

@@ -1,0 +1,9 @@
+// The theorems about what this crate defines, each as the contract of a function that does nothing.
+
+ghost use Rattle.camera_models.specs.Theorem.{NoDistortion};
+
+/// A lens whose coefficients are all 0 leaves a point where it is, but for the sign of a zero.
+#[tactic(auto, using(crate::proofs::NoDistortion::without_distortion_lem))]
+pub fn no_distortion_law()
+    ensures { NoDistortion }
+{}

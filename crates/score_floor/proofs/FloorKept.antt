@@ -1,0 +1,13 @@
+-- A floor that is at most a seed's penalty stays. Assumes nothing.
+use Rattle.std.specs.Prelude.{◌≡◌, true, Float}
+use Rattle.std.specs.Float.Ieee.{le}
+use Rattle.float.specs.Float.{min_of}
+use Rattle.float.specs.Order.{le_number}
+use Rattle.float_laws.specs.OneTest.{lower_is_first}
+use Rattle.camera_tilt.specs.declared.sensor.ScheimpflugParams.{ScheimpflugParams}
+use Rattle.score_camera.specs.Penalties.{tilt_penalty}
+use Rattle.score_floor.specs.Floor.{counted_penalty}
+
+pub floor_kept : (floor : Float) (t : ScheimpflugParams) → le floor (tilt_penalty t) ≡ true → floor ≡ min_of floor (counted_penalty t)
+unfolding counted_penalty
+floor_kept floor t h = let p = tilt_penalty t in lower_is_first floor (counted_penalty t) (rw (le_number floor p h) h)

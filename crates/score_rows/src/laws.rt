@@ -1,0 +1,9 @@
+// The theorems about what this crate defines, each as the contract of a function that does nothing.
+
+ghost use Rattle.score_rows.specs.Theorem.{CountedMost};
+
+/// At most as many errors count as there are flags.
+#[tactic(auto, using(crate::proofs::Counted::counted_most))]
+pub fn counted_law()
+    ensures { CountedMost }
+{}
