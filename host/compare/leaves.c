@@ -283,3 +283,45 @@ int leaf_has_plate(const double *k) {
     }
     return 0;
 }
+
+/* The same with structs by value, as the library's interface has them: what the benchmark sets small operations beside, so that all
+ * sides make the copy that a call needs. */
+typedef struct { double m[9]; } matrix;
+typedef struct { double k[4]; } intrinsics;
+typedef struct { double t[4]; } trig;
+typedef struct { double d[5]; } lens;
+typedef struct { double b[6]; } conic;
+typedef struct { int number; matrix inverse; } inverse_reply;
+typedef struct { int number; intrinsics camera; } camera_reply;
+
+matrix value_tilt_matrix(trig t) {
+    matrix to;
+    leaf_tilt_matrix(t.t, to.m);
+    return to;
+}
+
+inverse_reply value_inverse(matrix m) {
+    inverse_reply to;
+    to.number = leaf_inverse(m.m, to.inverse.m);
+    return to;
+}
+
+double value_determinant(matrix m) { return leaf_determinant(m.m); }
+
+point value_pixel_to_sensor(intrinsics k, point p) { return leaf_pixel_to_sensor(k.k, p); }
+
+point value_sensor_to_pixel(intrinsics k, point p) { return leaf_sensor_to_pixel(k.k, p); }
+
+distorted value_distort_with_jacobian(lens d, point p) { return leaf_distort_with_jacobian(d.d, p); }
+
+camera_reply value_conic_to_camera(conic b) {
+    camera_reply to;
+    to.number = leaf_conic_to_camera(b.b, to.camera.k);
+    return to;
+}
+
+distortion value_damp(lens d) { return leaf_damp(d.d); }
+
+double value_distortion_penalty(lens d) { return leaf_distortion_penalty(d.d); }
+
+double value_centre_penalty(intrinsics k, point centre) { return leaf_centre_penalty(k.k, centre); }

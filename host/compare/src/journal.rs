@@ -160,6 +160,14 @@ pub fn read_line(bytes: &[u8]) -> Option<(Line, usize)> {
     Some((Line { number, round, seed, outcome }, bytes.len() - front.0.len()))
 }
 
+/// The line that bytes begin with, written once more and compared with them, as the library does.
+pub fn read_and_write_line(bytes: &[u8]) -> Option<(Line, usize)> {
+    let (line, len) = read_line(bytes)?;
+    let mut again = [0; LINE_LEN];
+    let written = write_line(&line, &mut again)?;
+    (again[..written] == bytes[..len]).then_some((line, len))
+}
+
 /// The report's line.
 #[inline(never)]
 pub fn write_report(counts: &[usize; 5], to: &mut [u8]) -> Option<usize> {

@@ -34,6 +34,41 @@ unsafe extern "C" {
     pub safe fn leaf_has_plate(k: &FxFyCxCy) -> i32;
 }
 
+/// A matrix, as it is passed by value.
+#[derive(Clone, Copy, Debug)]
+#[repr(C)]
+pub struct Matrix(pub Matrix3);
+
+/// An inverse, where there is one.
+#[derive(Clone, Copy, Debug)]
+#[repr(C)]
+pub struct InverseReply {
+    pub number: i32,
+    pub inverse: Matrix,
+}
+
+/// A camera, where there is one.
+#[derive(Clone, Copy, Debug)]
+#[repr(C)]
+pub struct CameraReply {
+    pub number: i32,
+    pub camera: FxFyCxCy,
+}
+
+// With structs by value, as the library's interface has them.
+unsafe extern "C" {
+    pub safe fn value_tilt_matrix(trig: TiltTrig) -> Matrix;
+    pub safe fn value_inverse(m: Matrix) -> InverseReply;
+    pub safe fn value_determinant(m: Matrix) -> f64;
+    pub safe fn value_pixel_to_sensor(k: FxFyCxCy, p: Pt2) -> Pt2;
+    pub safe fn value_sensor_to_pixel(k: FxFyCxCy, p: Pt2) -> Pt2;
+    pub safe fn value_distort_with_jacobian(d: BrownConrady5, p: Pt2) -> DistortedPoint;
+    pub safe fn value_conic_to_camera(b: Conic) -> CameraReply;
+    pub safe fn value_damp(d: BrownConrady5) -> BrownConrady5;
+    pub safe fn value_distortion_penalty(d: BrownConrady5) -> f64;
+    pub safe fn value_centre_penalty(k: FxFyCxCy, centre: Pt2) -> f64;
+}
+
 /// The mean error of the rows; the camera is fx, fy, cx, cy, k1, k2, k3, p1, p2.
 pub fn plain_c(camera: &[f64; 9], trig: &TiltTrig, numbers: &[f64], flags: &[u8]) -> f64 {
     unsafe extern "C" {

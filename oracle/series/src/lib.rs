@@ -26,17 +26,22 @@ pub fn cosine(x: f64) -> f64 {
 }
 
 /// From the coefficient `first + 14` down to `first`.
-fn sum(first: u32, square: f64) -> f64 {
-    let mut sum = coefficient(first + 14);
+fn sum(first: usize, square: f64) -> f64 {
+    let mut sum = COEFFICIENTS[first + 14];
     for n in (first..first + 14).step_by(2).rev() {
-        sum = sum * square + coefficient(n);
+        sum = sum * square + COEFFICIENTS[n];
     }
     sum
 }
 
 /// ±1/n!, with the signs + + − −. n! is exact in a float up to 15!, so the quotient is rounded once.
-fn coefficient(n: u32) -> f64 {
-    let factorial: u64 = (1..=u64::from(n)).product();
-    let size = 1.0 / factorial as f64;
-    if n % 4 < 2 { size } else { -size }
-}
+const COEFFICIENTS: [f64; 16] = {
+    let (mut table, mut n, mut factorial) = ([1.0; 16], 1, 1_u64);
+    while n < 16 {
+        factorial *= n as u64;
+        let size = 1.0 / factorial as f64;
+        table[n] = if n % 4 < 2 { size } else { -size };
+        n += 1;
+    }
+    table
+};

@@ -1,23 +1,29 @@
-//! Hostile cases through the C boundary, as many as wanted, in one command: leaf operations and rows beside plain C; runs, lines,
-//! reports, winners, and journals that were cut or damaged beside the plain book; forged records by what no call may do. Prints what
-//! was tried and every difference, and ends with 1 on any.
+//! Hostile cases through the C boundary, as many as wanted, in one command: roots beside the machine's and the C library's; leaf
+//! operations and rows beside plain C; runs, lines, reports, winners, and journals that were cut or damaged beside the plain book; forged
+//! records by what no call may do. Prints what was tried and every difference, and ends with 1 on any.
 //!
-//!     soak [--leaves N] [--rows N] [--runs N] [--lines N] [--cuts N] [--records N] [--seed WORD]
+//!     soak [--only PART] [--roots N] [--leaves N] [--rows N] [--runs N] [--lines N] [--cuts N] [--records N]
+//!          [--seed WORD] [--threads N]
 //!
-//! A part that isn't wanted gets 0. Each seed has cases of its own; the same seed has the same ones.
+//! A part that isn't wanted gets 0, or another is asked for alone. Each seed has cases of its own; the same seed has the same ones. Roots
+//! and leaves are shared out among the threads, with the same cases however many there are.
 
 use beside::calls::{Tally, play};
 use beside::inputs::draw;
 use beside::lines::{LineTally, write_and_read};
 use beside::{reports, winners};
+use compare::chunks::in_chunks;
 use compare::program::{self, Differences, number};
-use compare::{blocks, cuts, forged, leaves};
+use compare::{blocks, cuts, forged, leaves, roots};
 use random::Random;
 use std::process::ExitCode;
+use std::sync::Mutex;
 use std::time::Instant;
 
 /// The parts with how many cases each has.
 struct Asked {
+    only: Option<String>,
+    roots: usize,
     leaves: usize,
     rows: usize,
     runs: usize,
@@ -25,18 +31,31 @@ struct Asked {
     cuts: usize,
     records: usize,
     seed: String,
+    threads: usize,
 }
 
 impl Asked {
     fn read(words: Vec<String>) -> Result<Self, String> {
-        let (leaves, rows, runs) = (1_000_000, 50_000, 10_000);
-        let (lines, cuts, records, seed) = (200_000, 2_000, 5_000, "1".into());
-        let mut asked = Self { leaves, rows, runs, lines, cuts, records, seed };
+        let mut asked = Self {
+            only: None,
+            roots: 1_000_000,
+            leaves: 1_000_000,
+            rows: 50_000,
+            runs: 10_000,
+            lines: 200_000,
+            cuts: 2_000,
+            records: 5_000,
+            seed: "1".to_owned(),
+            threads: 1,
+        };
         let mut words = words.into_iter();
         while let Some(name) = words.next() {
             let value = words.next().ok_or(format!("{name} needs a value"))?;
             let number = || number(&name, &value);
             match name.as_str() {
+                "--only" => asked.only = Some(value),
+                "--threads" => asked.threads = number()?,
+                "--roots" => asked.roots = number()?,
                 "--leaves" => asked.leaves = number()?,
                 "--rows" => asked.rows = number()?,
                 "--runs" => asked.runs = number()?,
@@ -55,23 +74,50 @@ impl Asked {
 struct Part<'a> {
     asked: &'a Asked,
     differences: &'a mut Differences,
+    parts: usize,
 }
 
 impl Part<'_> {
     /// Goes through a part, and says how long it took.
     fn go(&mut self, name: &str, count: usize, part: fn(&mut Self, &mut Random) -> String) {
-        if count == 0 {
+        if count == 0 || self.asked.only.as_deref().is_some_and(|only| only != name) {
             return;
         }
+        self.parts += 1;
         let (start, before) = (Instant::now(), self.differences.count);
         let said = part(self, &mut Random::named(&format!("soak, {name}, {}", self.asked.seed)));
         let (time, found) = (start.elapsed().as_secs_f64(), self.differences.count - before);
         println!("{name:9}{said}: {found} differ, {time:.1} s");
     }
 
-    fn leaves(&mut self, random: &mut Random) -> String {
+    fn roots(&mut self, _: &mut Random) -> String {
+        let (count, seed) = (self.asked.roots, &self.asked.seed);
+        let differences = Mutex::new(&mut *self.differences);
+        let add = |fault: String| differences.lock().expect("no thread panics").add(&fault);
+        let scored = Mutex::new([0, 0]);
+        in_chunks("roots", count, 1 << 20, self.asked.threads, |chunk, cases| {
+            let of_chunk = &mut Random::named(&format!("soak, roots, {seed}, {chunk}"));
+            let [single, in_block] = roots::compare(cases, of_chunk, add);
+            let mut scored = scored.lock().expect("no thread panics");
+            *scored = [scored[0] + single, scored[1] + in_block];
+        });
+        let [single, in_blocks] = scored.into_inner().expect("no thread panics");
+        let kinds = roots::KINDS.len();
+        format!(
+            "{count} numbers of {kinds} kinds, from the bits, by the machine and by the C library; of {single} the root of a row, \
+             of {in_blocks} that of a row in a block"
+        )
+    }
+
+    fn leaves(&mut self, _: &mut Random) -> String {
         let each = self.asked.leaves.div_ceil(leaves::COUNT);
-        leaves::compare(each, random).iter().for_each(|fault| self.differences.add(fault));
+        let (seed, differences) = (&self.asked.seed, Mutex::new(&mut *self.differences));
+        in_chunks("leaves", each, 1 << 16, self.asked.threads, |chunk, cases| {
+            let of_chunk = &mut Random::named(&format!("soak, leaves, {seed}, {chunk}"));
+            let faults = leaves::compare(cases, of_chunk);
+            let mut differences = differences.lock().expect("no thread panics");
+            faults.iter().for_each(|fault| differences.add(fault));
+        });
         format!("{each} cases of each of {} operations beside plain C", leaves::COUNT)
     }
 
@@ -154,12 +200,16 @@ fn soak(words: Vec<String>) -> Result<ExitCode, String> {
     let asked = Asked::read(words)?;
     println!("seed {}", asked.seed);
     let mut differences = Differences::default();
-    let mut part = Part { asked: &asked, differences: &mut differences };
+    let mut part = Part { asked: &asked, differences: &mut differences, parts: 0 };
+    part.go("roots", asked.roots, Part::roots);
     part.go("leaves", asked.leaves, Part::leaves);
     part.go("rows", asked.rows, Part::rows);
     part.go("runs", asked.runs, Part::runs);
     part.go("lines", asked.lines, Part::lines);
     part.go("cuts", asked.cuts, Part::cuts);
     part.go("records", asked.records, Part::records);
+    if part.parts == 0 {
+        return Err("no part was asked for".to_owned());
+    }
     Ok(differences.end())
 }

@@ -1,9 +1,10 @@
 //! The calls of a run beside Start and Answer, beside plain Rust over the same record.
 
-use crate::operation::{Same, called, compare, returned, written};
-use crate::runs::{LIST_LEN, most_seeds};
-use crate::scoring::library_camera;
-use compare::calls as plain;
+use super::Bench;
+use super::operation::{Same, called, returned, written};
+use super::runs::{LIST_LEN, most_seeds};
+use super::scoring::library_camera;
+use crate::calls as plain;
 use jinnychair::record::{self, Best, Run, answer, next, start};
 use jinnychair::{Finding, Handed, Rows};
 use random::Random;
@@ -28,7 +29,7 @@ fn records(random: &mut Random) -> (Vec<Run>, Vec<f64>) {
 }
 
 /// Every seed of a list, handed out and then asked for; the record is made ready for it in its place.
-fn next_and_seed(ready: &Run, list: &[f64]) {
+fn next_and_seed(bench: &mut Bench, ready: &Run, list: &[f64]) {
     let places: Vec<usize> = (0..ready.place.len).collect();
     let set = |run: &mut Run, at: usize| (run.place.at, run.waiting.is_waiting) = (at, 0);
     let place = || Same((*ready, None, None));
@@ -44,11 +45,12 @@ fn next_and_seed(ready: &Run, list: &[f64]) {
             *seed = plain::seed(run, list);
         }),
     ];
-    compare("Next and the seed call (plain Rust)", sides);
+    bench.row("Next and the seed call (plain Rust)", sides);
 }
 
 /// A call that only reads records.
 fn reading<T: Debug>(
+    bench: &mut Bench,
     name: &str,
     records: &[Run],
     library: impl Fn(&Run) -> T,
@@ -56,32 +58,32 @@ fn reading<T: Debug>(
 ) {
     let sides =
         [returned(records, |run| Same(library(run))), called(records, |run| Same(rust(run)))];
-    compare(&format!("{name} (plain Rust)"), sides);
+    bench.row(&format!("{name} (plain Rust)"), sides);
 }
 
 /// Winners of stretches, by their records.
-fn winners(records: &[Run]) {
+fn winners(bench: &mut Bench, records: &[Run]) {
     let pairs: Vec<[Best; 2]> =
         records.windows(2).map(|pair| [pair[0].round_best, pair[1].round_best]).collect();
     let sides = [
         returned(&pairs, |[first, second]| Same(record::winner(*first, *second))),
         called(&pairs, |[first, second]| Same(plain::winner(first, second))),
     ];
-    compare("the winner of two (plain Rust)", sides);
+    bench.row("the winner of two (plain Rust)", sides);
 }
 
-pub fn all(random: &mut Random) {
-    let (records, list) = records(random);
+pub fn all(bench: &mut Bench) {
+    let (records, list) = records(&mut bench.random);
     let (over, middle) = (&records[656..], &records[200..216]);
-    next_and_seed(&records[0], &list);
-    reading("Result", over, record::result, plain::result);
-    reading("progress", middle, record::progress, plain::progress);
-    reading("counts", middle, record::counts, plain::counts);
-    reading("last line", middle, record::last_line, plain::last_line);
+    next_and_seed(bench, &records[0], &list);
+    reading(bench, "Result", over, record::result, plain::result);
+    reading(bench, "progress", middle, record::progress, plain::progress);
+    reading(bench, "counts", middle, record::counts, plain::counts);
+    reading(bench, "last line", middle, record::last_line, plain::last_line);
     for (left, at) in [(512, 0), (1, 511)] {
         let stop = |run: &Run| record::stop(run, &list);
         let name = format!("stop with {left} left of 512 seeds");
-        reading(&name, &records[at..=at], stop, |run| plain::stop(run, &list));
+        reading(bench, &name, &records[at..=at], stop, |run| plain::stop(run, &list));
     }
-    winners(&records[512..544]);
+    winners(bench, &records[512..544]);
 }

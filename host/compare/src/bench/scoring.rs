@@ -1,15 +1,16 @@
 //! A camera's rows: projected, and their errors taken together.
 
-use crate::operation::{called, compare, returned};
-use crate::series::{cosine_in_rust, sine_in_rust};
-use compare::plain::{leaf_cosine, leaf_damp, leaf_sine, plain_c};
+use super::Bench;
+use super::operation::{called, returned};
+use super::series::{cosine_in_rust, sine_in_rust};
+use crate::plain::{leaf_cosine, leaf_damp, leaf_sine, plain_c};
 use jinnychair::{
     BrownConrady5, FxFyCxCy, PinholeCamera, Rows, ScheimpflugParams, TiltTrig, geometry,
 };
 use random::Random;
 use vision_calibration_core::ScheimpflugParams as PublishedTilts;
 use vision_calibration_core::given_tilt::{self, GivenTilt};
-use vision_calibration_core::{PinholeCamera as PublishedCamera, PlanarDataset};
+use vision_calibration_core::{Iso3, PinholeCamera as PublishedCamera, PlanarDataset};
 use vision_calibration_linear::scheimpflug_init::access as published;
 use vision_calibration_linear::script::{Row, dataset_of_rows, identity_poses, pinhole_camera};
 
@@ -44,29 +45,35 @@ pub fn given(trig: TiltTrig) -> GivenTilt {
     GivenTilt { sin_x: trig.sin_x, cos_x: trig.cos_x, sin_y: trig.sin_y, cos_y: trig.cos_y }
 }
 
-fn published_mean(rows: &PlanarDataset, camera: &PublishedCamera, trig: GivenTilt) -> f64 {
+fn published_mean(
+    rows: &PlanarDataset,
+    camera: &PublishedCamera,
+    trig: GivenTilt,
+    poses: &[Iso3],
+) -> f64 {
     given_tilt::give(trig);
-    published::mean_reproj_error(rows, camera, PublishedTilts::default(), &identity_poses())
+    published::mean_reproj_error(rows, camera, PublishedTilts::default(), poses)
 }
 
-fn scoring(name: &str, rows: &[Row]) {
+fn scoring(bench: &mut Bench, name: &str, rows: &[Row]) {
     let (flat, datasets) = ([flat(rows)], [dataset_of_rows(rows)]);
-    let trig = TiltTrig::try_from(TILTS).expect("small tilts");
+    let (trig, poses) = (TiltTrig::try_from(TILTS).expect("small tilts"), identity_poses());
     let (camera, published_camera) = (library_camera(), pinhole_camera(CAMERA));
     let sides = [
         returned(&flat, |(numbers, flags)| {
             geometry::mean_reproj_error(camera, trig, Rows { numbers, flags })
         }),
-        called(&datasets, |rows| published_mean(rows, &published_camera, given(trig))),
+        called(&datasets, |rows| published_mean(rows, &published_camera, given(trig), &poses)),
         returned(&flat, |(numbers, flags)| plain_c(&CAMERA, &trig, numbers, flags)),
     ];
-    compare(name, sides);
+    bench.row(name, sides);
 }
 
 /// An answer's errors, with the camera damped and the tilts' own sines and cosines; of sum and count the mean is compared.
-fn counted(name: &str, rows: &[Row]) {
+fn counted(bench: &mut Bench, name: &str, rows: &[Row]) {
     let (flat, datasets) = ([flat(rows)], [dataset_of_rows(rows)]);
     let (camera, published_camera) = (library_camera(), pinhole_camera(CAMERA));
+    let poses = identity_poses();
     let ScheimpflugParams { tilt_x, tilt_y } = TILTS;
     let library = |(numbers, flags): &(Vec<f64>, Vec<u8>)| {
         let errors = geometry::count_errors(camera, TILTS, Rows { numbers, flags });
@@ -77,7 +84,7 @@ fn counted(name: &str, rows: &[Row]) {
         damped.dist = published::damp_seed_distortion(damped.dist);
         let [sin_x, sin_y] = [sine_in_rust(tilt_x)?, sine_in_rust(tilt_y)?];
         let [cos_x, cos_y] = [cosine_in_rust(tilt_x)?, cosine_in_rust(tilt_y)?];
-        Some(published_mean(rows, &damped, GivenTilt { sin_x, cos_x, sin_y, cos_y }))
+        Some(published_mean(rows, &damped, GivenTilt { sin_x, cos_x, sin_y, cos_y }, &poses))
     };
     let c = |(numbers, flags): &(Vec<f64>, Vec<u8>)| {
         let mut damped = CAMERA;
@@ -87,23 +94,29 @@ fn counted(name: &str, rows: &[Row]) {
         let [sin_y, cos_y] = [leaf_sine(tilt_y).value, leaf_cosine(tilt_y).value];
         plain_c(&damped, &TiltTrig { sin_x, cos_x, sin_y, cos_y }, numbers, flags)
     };
-    compare(name, [returned(&flat, library), called(&datasets, rust), returned(&flat, c)]);
+    bench.row(name, [returned(&flat, library), called(&datasets, rust), returned(&flat, c)]);
 }
 
 /// Different numbers of rows, and rows that lie behind the camera.
-pub fn scorings(random: &mut Random) {
-    let rows = row_list(ROWS, random);
+pub fn scorings(bench: &mut Bench) {
+    let rows = row_list(ROWS, &mut bench.random);
     for count in [ROWS, 100, 10] {
-        scoring(&format!("projecting and scoring {count} rows"), &rows[..count]);
+        scoring(bench, &format!("projecting and scoring {count} rows"), &rows[..count]);
     }
-    scoring("one row", &rows[..1]);
-    let mut with_flags = |name: &str, mut in_front: Box<dyn FnMut(&mut Random) -> bool>| {
-        let mut rows = rows.to_vec();
-        rows.iter_mut().for_each(|row| row.in_front = in_front(random));
-        scoring(&format!("{ROWS} rows, {name}"), &rows);
-    };
-    with_flags("half of them at random behind the camera", Box::new(|random| random.once_in(2)));
-    with_flags("three of four at random behind the camera", Box::new(|random| random.once_in(4)));
-    with_flags("all behind the camera", Box::new(|_| false));
-    counted(&format!("sum and count of the errors of {ROWS} rows"), &rows);
+    scoring(bench, "one row", &rows[..1]);
+    with_flags(bench, "half of them at random behind the camera", &rows, |random| {
+        random.once_in(2)
+    });
+    with_flags(bench, "three of four at random behind the camera", &rows, |random| {
+        random.once_in(4)
+    });
+    with_flags(bench, "all behind the camera", &rows, |_| false);
+    counted(bench, &format!("sum and count of the errors of {ROWS} rows"), &rows);
+}
+
+/// The rows, of which some are in front of the camera.
+fn with_flags(bench: &mut Bench, name: &str, rows: &[Row], in_front: fn(&mut Random) -> bool) {
+    let mut rows = rows.to_vec();
+    rows.iter_mut().for_each(|row| row.in_front = in_front(&mut bench.random));
+    scoring(bench, &format!("{ROWS} rows, {name}"), &rows);
 }

@@ -1,8 +1,9 @@
 //! The operations beside the search, each beside the published Rust and plain C.
 
-use crate::operation::{Same, called, compare, returned, written};
-use crate::scoring::given;
-use compare::plain::{
+use super::Bench;
+use super::operation::{Same, called, returned, written};
+use super::scoring::given;
+use crate::plain::{
     leaf_apply_homography, leaf_apply_homography_inverse, leaf_centre, leaf_centre_penalty,
     leaf_collinear, leaf_conic_to_camera, leaf_damp, leaf_design_rows, leaf_determinant,
     leaf_distort, leaf_distort_with_jacobian, leaf_distortion_penalty, leaf_inverse,
@@ -25,26 +26,26 @@ use vision_calibration_linear::zhang_intrinsics::PlanarIntrinsicsLinearInit;
 use vision_geometry::homography::{access::points_are_collinear, dlt_homography};
 
 /// How many inputs an operation of a few nanoseconds gets: few enough for the nearest cache.
-const FEW: usize = 256;
+pub const FEW: usize = 256;
 
-const K: FxFyCxCy = FxFyCxCy { fx: 800.0, fy: 790.0, cx: 320.5, cy: 239.25 };
-const LENS: BrownConrady5 =
+pub const K: FxFyCxCy = FxFyCxCy { fx: 800.0, fy: 790.0, cx: 320.5, cy: 239.25 };
+pub const LENS: BrownConrady5 =
     BrownConrady5 { k1: -0.21, k2: 0.043, k3: -0.002, p1: 0.001, p2: -0.0007 };
-const TILTS: ScheimpflugParams = ScheimpflugParams { tilt_x: 0.05, tilt_y: -0.02 };
+pub const TILTS: ScheimpflugParams = ScheimpflugParams { tilt_x: 0.05, tilt_y: -0.02 };
 
-fn published_k(k: &FxFyCxCy) -> PublishedIntrinsics<f64> {
+pub fn published_k(k: &FxFyCxCy) -> PublishedIntrinsics<f64> {
     PublishedIntrinsics { fx: k.fx, fy: k.fy, cx: k.cx, cy: k.cy }
 }
 
-fn published_lens(d: &BrownConrady5) -> PublishedDistortion<f64> {
+pub fn published_lens(d: &BrownConrady5) -> PublishedDistortion<f64> {
     PublishedDistortion { k1: d.k1, k2: d.k2, k3: d.k3, p1: d.p1, p2: d.p2, iters: 0 }
 }
 
-fn published_points(points: &[Pt2]) -> Vec<PublishedPoint> {
+pub fn published_points(points: &[Pt2]) -> Vec<PublishedPoint> {
     points.iter().map(|p| PublishedPoint::new(p.x, p.y)).collect()
 }
 
-fn published_matrix([[a, b, c], [d, e, f], [g, h, i]]: &Matrix3) -> Mat3 {
+pub fn published_matrix([[a, b, c], [d, e, f], [g, h, i]]: &Matrix3) -> Mat3 {
     Mat3::new(*a, *b, *c, *d, *e, *f, *g, *h, *i)
 }
 
@@ -55,49 +56,49 @@ fn published_view(pixels: &[Pt2]) -> PlanarDataset {
     PlanarDataset { views: vec![View::without_meta(view)] }
 }
 
-fn each<I, J>(inputs: &[I], as_published: impl Fn(&I) -> J) -> Vec<J> {
+pub fn each<I, J>(inputs: &[I], as_published: impl Fn(&I) -> J) -> Vec<J> {
     inputs.iter().map(as_published).collect()
 }
 
-fn points(count: usize, [x, y]: [f64; 2], random: &mut Random) -> Vec<Pt2> {
+pub fn points(count: usize, [x, y]: [f64; 2], random: &mut Random) -> Vec<Pt2> {
     (0..count).map(|_| Pt2 { x: random.within(x), y: random.within(y) }).collect()
 }
 
 /// A lens, as the camera sees through it and back.
-pub fn distortions(random: &mut Random) {
-    let points = points(1024, [0.5, 0.4], random);
+pub fn distortions(bench: &mut Bench) {
+    let points = points(1024, [0.5, 0.4], &mut bench.random);
     let (for_rust, lens) = (published_points(&points), published_lens(&LENS));
     let sides = [
         returned(&points, |p| LENS.undistort(0, *p)),
         called(&for_rust, |p| lens.undistort(p)),
         returned(&points, |p| leaf_undistort(&LENS, 0, *p)),
     ];
-    compare("undistort", sides);
+    bench.row("undistort", sides);
     let sides = [
         returned(&points, |p| LENS.distort(*p)),
         called(&for_rust, |p| lens.distort(p)),
         returned(&points, |p| leaf_distort(&LENS, *p)),
     ];
-    compare("distort", sides);
+    bench.row("distort", sides);
     let sides = [
         returned(&points, |p| LENS.distort_with_jacobian(*p)),
         called(&for_rust, |p| distort_with_jacobian(&lens, p.x, p.y)),
         returned(&points, |p| leaf_distort_with_jacobian(&LENS, *p)),
     ];
-    compare("distort with its derivatives", sides);
+    bench.row("distort with its derivatives", sides);
 }
 
-pub fn all(random: &mut Random) {
+pub fn all(bench: &mut Bench) {
     for count in [70, 400] {
-        lists_of_points(count, random);
+        lists_of_points(bench, count);
     }
-    point_maps(random);
-    centre(random);
-    conics(random);
-    tilted_sensor(random);
-    homographies(random);
-    intrinsics(random);
-    penalties(random);
+    point_maps(bench);
+    centre(bench);
+    conics(bench);
+    tilted_sensor(bench);
+    homographies(bench);
+    intrinsics(bench);
+    penalties(bench);
 }
 
 /// The dots of a plate, and about the pixels that a camera sees them at.
@@ -113,8 +114,8 @@ fn plate(count: usize, random: &mut Random) -> [Vec<Pt2>; 2] {
 }
 
 /// Normalising, the design rows, and the line test of points that are on a line, so that all are looked at.
-fn lists_of_points(count: usize, random: &mut Random) {
-    let plate = [plate(count, random)];
+fn lists_of_points(bench: &mut Bench, count: usize) {
+    let plate = [plate(count, &mut bench.random)];
     let for_rust = [each(&plate[0], |points| published_points(points))];
     let place = || (vec![Pt2::default(); count], [0.0; 3]);
     let sides = [
@@ -130,7 +131,7 @@ fn lists_of_points(count: usize, random: &mut Random) {
             assert_eq!(leaf_normalize(pixels, to, three), 0);
         }),
     ];
-    compare(&format!("normalising {count} points"), sides);
+    bench.row(&format!("normalising {count} points"), sides);
     let place = || vec![0.0; 18 * count];
     let sides = [
         written(&plate, place(), |[dots, pixels], to| {
@@ -141,7 +142,7 @@ fn lists_of_points(count: usize, random: &mut Random) {
             assert_eq!(leaf_design_rows(dots, pixels, to), 0);
         }),
     ];
-    compare(&format!("the design rows of {count} points"), sides);
+    bench.row(&format!("the design rows of {count} points"), sides);
     let line = [(0..count).map(|i| Pt2 { x: i as f64, y: 3.0 * i as f64 }).collect::<Vec<_>>()];
     let for_rust = each(&line, |points| published_points(points));
     let sides = [
@@ -149,12 +150,12 @@ fn lists_of_points(count: usize, random: &mut Random) {
         called(&for_rust, |points| points_are_collinear(points)),
         returned(&line, |points| leaf_collinear(points)),
     ];
-    compare(&format!("the line test of {count} points on a line"), sides);
+    bench.row(&format!("the line test of {count} points on a line"), sides);
 }
 
 /// Both maps of a view's pixels.
-fn point_maps(random: &mut Random) {
-    let [_, pixels] = plate(70, random);
+fn point_maps(bench: &mut Bench) {
+    let [_, pixels] = plate(70, &mut bench.random);
     let (for_rust, pixels) = ([published_view(&pixels)], [pixels]);
     let (k, lens) = (published_k(&K), published_lens(&LENS));
     let trig = TiltTrig::try_from(TILTS).expect("small tilts");
@@ -172,7 +173,7 @@ fn point_maps(random: &mut Random) {
             assert_eq!(leaf_map_points(&K, None, &trig, pixels, to), 0);
         }),
     ];
-    compare("70 pixels without the tilt", sides);
+    bench.row("70 pixels without the tilt", sides);
     let camera = PinholeCamera { k: K, dist: LENS };
     let sides = [
         written(&pixels, place(), |pixels, to| {
@@ -183,22 +184,22 @@ fn point_maps(random: &mut Random) {
             assert_eq!(leaf_map_points(&K, Some((&LENS, 0)), &trig, pixels, to), 0);
         }),
     ];
-    compare("70 pixels without tilt and lens", sides);
+    bench.row("70 pixels without tilt and lens", sides);
 }
 
-fn centre(random: &mut Random) {
-    let pixels = points(980, [640.0, 480.0], random);
+fn centre(bench: &mut Bench) {
+    let pixels = points(980, [640.0, 480.0], &mut bench.random);
     let (for_rust, pixels) = ([published_view(&pixels)], [pixels]);
     let sides = [
         returned(&pixels, |pixels| geometry::observed_pixel_center(pixels)),
         called(&for_rust, published::observed_pixel_center),
         returned(&pixels, |pixels| leaf_centre(pixels)),
     ];
-    compare("the centre of 980 pixels", sides);
+    bench.row("the centre of 980 pixels", sides);
 }
 
 /// A camera with a plate of its own, for each power of two.
-fn plate_camera(i: usize, random: &mut Random) -> FxFyCxCy {
+pub fn plate_camera(i: usize, random: &mut Random) -> FxFyCxCy {
     let mut number = |least: i32| {
         let whole = least + random.below((257 - least) as usize) as i32;
         f64::from(whole << (i % 9))
@@ -207,7 +208,7 @@ fn plate_camera(i: usize, random: &mut Random) -> FxFyCxCy {
 }
 
 /// The six numbers of a camera whose four are whole numbers, at most 256, times one power of two.
-fn known_plate(k: &FxFyCxCy) -> Option<Conic> {
+pub fn known_plate(k: &FxFyCxCy) -> Option<Conic> {
     let FxFyCxCy { fx, fy, cx, cy } = *k;
     let is_whole = |x: f64| x.abs() <= 256.0 && f64::from(x as i32) == x;
     let fits = |unit: &f64| [fx, fy, cx, cy].iter().all(|x| is_whole(x / unit));
@@ -227,8 +228,8 @@ fn known_plate(k: &FxFyCxCy) -> Option<Conic> {
 }
 
 /// The closed form, and the plate that it gives back.
-fn conics(random: &mut Random) {
-    let cameras: Vec<FxFyCxCy> = (0..FEW).map(|i| plate_camera(i, random)).collect();
+fn conics(bench: &mut Bench) {
+    let cameras: Vec<FxFyCxCy> = (0..FEW).map(|i| plate_camera(i, &mut bench.random)).collect();
     let conics = each(&cameras, |k| known_plate(k).expect("a camera with a plate"));
     let for_rust = each(&conics, |b| [b.b11, b.b12, b.b22, b.b13, b.b23, b.b33]);
     let sides = [
@@ -236,15 +237,15 @@ fn conics(random: &mut Random) {
         called(&for_rust, PlanarIntrinsicsLinearInit::from_homographies),
         written(&conics, K, |b, to| assert_eq!(leaf_conic_to_camera(b, to), 0)),
     ];
-    compare("the camera of a conic", sides);
+    bench.row("the camera of a conic", sides);
     let sides = [
         returned(&cameras, |k| Same(geometry::known_plate(*k).ok())),
         called(&cameras, |k| Same(known_plate(k))),
     ];
-    compare("a known plate (plain Rust)", sides);
+    bench.row("a known plate (plain Rust)", sides);
 }
 
-fn trigs(random: &mut Random) -> Vec<TiltTrig> {
+pub fn trigs(random: &mut Random) -> Vec<TiltTrig> {
     let mut tilt = || random.within(0.5);
     let mut trig = |_| {
         let tilts = ScheimpflugParams { tilt_x: tilt(), tilt_y: tilt() };
@@ -254,15 +255,15 @@ fn trigs(random: &mut Random) -> Vec<TiltTrig> {
 }
 
 /// A tilt's matrix, with its determinant and inverse.
-fn tilted_sensor(random: &mut Random) {
-    let trigs = trigs(random);
+fn tilted_sensor(bench: &mut Bench) {
+    let trigs = trigs(&mut bench.random);
     let for_rust: Vec<GivenTilt> = each(&trigs, |trig| given(*trig));
     let sides = [
         returned(&trigs, |trig| geometry::tilt_projection_matrix(*trig)),
         called(&for_rust, |trig| trig.matrix()),
         written(&trigs, Matrix3::default(), |trig, to| leaf_tilt_matrix(trig, to)),
     ];
-    compare("the matrix of a tilt", sides);
+    bench.row("the matrix of a tilt", sides);
     let matrices = each(&trigs, |trig| geometry::tilt_projection_matrix(*trig));
     let for_rust = each(&matrices, published_matrix);
     let sides = [
@@ -270,18 +271,18 @@ fn tilted_sensor(random: &mut Random) {
         called(&for_rust, |m| m.try_inverse()),
         written(&matrices, Matrix3::default(), |m, to| assert_eq!(leaf_inverse(m, to), 0)),
     ];
-    compare("its inverse", sides);
+    bench.row("its inverse", sides);
     let sides = [
         returned(&matrices, |m| geometry::determinant(*m)),
         called(&for_rust, |m| m.determinant()),
         returned(&matrices, |m| leaf_determinant(m)),
     ];
-    compare("its determinant", sides);
+    bench.row("its determinant", sides);
 }
 
 /// Points under a homography.
-fn homographies(random: &mut Random) {
-    let points = points(FEW, [0.5, 0.4], random);
+fn homographies(bench: &mut Bench) {
+    let points = points(FEW, [0.5, 0.4], &mut bench.random);
     let for_rust = published_points(&points);
     let h = geometry::tilt_projection_matrix(TiltTrig::try_from(TILTS).expect("small tilts"));
     let sensor = HomographySensor::new(published_matrix(&h)).expect("an inverse");
@@ -290,60 +291,64 @@ fn homographies(random: &mut Random) {
         called(&for_rust, |p| sensor.normalized_to_sensor(p)),
         returned(&points, |p| leaf_apply_homography(&h, *p)),
     ];
-    compare("a point under a homography", sides);
+    bench.row("a point under a homography", sides);
     let h_inv = geometry::inverse(h).expect("an inverse");
     let sides = [
         returned(&points, |p| geometry::apply_homography_inverse(h_inv, *p)),
         called(&for_rust, |p| sensor.sensor_to_normalized(p)),
         returned(&points, |p| leaf_apply_homography_inverse(&h_inv, *p)),
     ];
-    compare("a point under its inverse", sides);
+    bench.row("a point under its inverse", sides);
 }
 
 /// From pixels to the sensor and back.
-fn intrinsics(random: &mut Random) {
-    let (points, k) = (points(FEW, [640.0, 480.0], random), published_k(&K));
+fn intrinsics(bench: &mut Bench) {
+    let (points, k) = (points(FEW, [640.0, 480.0], &mut bench.random), published_k(&K));
     let for_rust = published_points(&points);
     let sides = [
         returned(&points, |p| K.pixel_to_sensor(*p)),
         called(&for_rust, |p| k.pixel_to_sensor(p)),
         returned(&points, |p| leaf_pixel_to_sensor(&K, *p)),
     ];
-    compare("from a pixel to the sensor", sides);
+    bench.row("from a pixel to the sensor", sides);
     let sides = [
         returned(&points, |p| K.sensor_to_pixel(*p)),
         called(&for_rust, |p| k.sensor_to_pixel(p)),
         returned(&points, |p| leaf_sensor_to_pixel(&K, *p)),
     ];
-    compare("from the sensor to a pixel", sides);
+    bench.row("from the sensor to a pixel", sides);
+}
+
+pub fn lenses(random: &mut Random) -> Vec<BrownConrady5> {
+    let lens = |k1: f64, p1: f64, p2: f64| BrownConrady5 { k1, k2: 0.1, k3: 0.01, p1, p2 };
+    let mut draw = |_| lens(random.within(0.3), random.within(0.1), random.within(0.1));
+    (0..FEW).map(&mut draw).collect()
 }
 
 /// What a score is made of beside the mean.
-fn penalties(random: &mut Random) {
-    let lens = |k1: f64, p1: f64, p2: f64| BrownConrady5 { k1, k2: 0.1, k3: 0.01, p1, p2 };
-    let mut draw = |_| lens(random.within(0.3), random.within(0.1), random.within(0.1));
-    let lenses: Vec<BrownConrady5> = (0..FEW).map(&mut draw).collect();
+fn penalties(bench: &mut Bench) {
+    let lenses = lenses(&mut bench.random);
     let for_rust = each(&lenses, published_lens);
     let sides = [
         returned(&lenses, |d| d.damped()),
         called(&for_rust, |d| published::damp_seed_distortion(*d)),
         returned(&lenses, |d| leaf_damp(d)),
     ];
-    compare("damping", sides);
+    bench.row("damping", sides);
     let sides = [
         returned(&lenses, |d| d.complexity()),
         called(&for_rust, published::distortion_complexity),
         returned(&lenses, |d| leaf_distortion_penalty(d)),
     ];
-    compare("the penalty on distortion", sides);
-    let centres = points(FEW, [640.0, 480.0], random);
+    bench.row("the penalty on distortion", sides);
+    let centres = points(FEW, [640.0, 480.0], &mut bench.random);
     let (for_rust, k) = (published_points(&centres), published_k(&K));
     let sides = [
         returned(&centres, |centre| geometry::principal_point_complexity(K, *centre)),
         called(&for_rust, |centre| published::principal_point_complexity(&k, *centre)),
         returned(&centres, |centre| leaf_centre_penalty(&K, *centre)),
     ];
-    compare("the penalty on a centre", sides);
+    bench.row("the penalty on a centre", sides);
     let tilts = each(&centres, |p| [p.x / 1280.0, p.y / 960.0]);
     let for_library = each(&tilts, |&[tilt_x, tilt_y]| ScheimpflugParams { tilt_x, tilt_y });
     let for_rust = each(&tilts, |&[tilt_x, tilt_y]| PublishedTilts { tilt_x, tilt_y });
@@ -352,5 +357,5 @@ fn penalties(random: &mut Random) {
         called(&for_rust, |tilts| published::tilt_complexity(*tilts)),
         returned(&tilts, |&[x, y]| leaf_tilt_penalty(x, y)),
     ];
-    compare("the penalty on tilts", sides);
+    bench.row("the penalty on tilts", sides);
 }

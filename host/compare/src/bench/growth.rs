@@ -1,10 +1,10 @@
 //! How the library's times grow with their work: an answer with its rows, Start with its seeds, a journal with its lines.
 
-use crate::journal::{bytes, lines, run_lines};
-use crate::runs::LIST_LEN;
-use crate::scoring::{flat, library_camera, row_list};
-use crate::timing::{Side, keep, medians};
-use jinnychair::journal;
+use super::journal::{bytes, run_lines};
+use super::runs::LIST_LEN;
+use super::scoring::{flat, library_camera, row_list};
+use super::timing::{Side, keep, medians};
+use jinnychair::journal::{self, Line};
 use jinnychair::record::{self, Inputs, Options, answer, next, start};
 use jinnychair::{Finding, FxFyCxCy, Pt2, Rows};
 use random::Random;
@@ -37,8 +37,10 @@ fn table(
 pub fn all(random: &mut Random) {
     answers(random);
     starts();
-    journals(random);
-    replays();
+    let seeds = Seeds::new(512);
+    let lines = run_lines(&seeds.inputs(), random);
+    journals(&lines);
+    replays(&seeds, &bytes(&lines));
 }
 
 const CAMERA: FxFyCxCy = FxFyCxCy { fx: 800.0, fy: 790.0, cx: 320.5, cy: 239.25 };
@@ -64,11 +66,11 @@ impl Seeds {
         Self { tilt_x: tilts(x), tilt_y: tilts(y), decomposition }
     }
 
-    /// How often Start compares two seeds: decomposition seeds among themselves, typed ones by tilt, and then with all before them.
+    /// How often Start compares two seeds: decomposition seeds among themselves, typed ones by tilt, and then with the former.
     fn comparisons(&self) -> usize {
         let pairs = |n: usize| n * n.saturating_sub(1) / 2;
         let (of, typed) = (self.decomposition.len() / 6, self.tilt_x.len() * self.tilt_y.len());
-        1 + pairs(of) + pairs(typed) + of * typed + pairs(typed)
+        1 + pairs(of) + pairs(typed) + of * typed
     }
 
     fn inputs(&self) -> Inputs<'_> {
@@ -136,8 +138,7 @@ fn starts() {
 }
 
 /// A journal's lines, each written and each read; and the refusal of what follows them, which counts the newlines before.
-fn journals(random: &mut Random) {
-    let all = lines(random);
+fn journals(all: &[Line]) {
     let sizes = [1, 2, 4, 8, 16, 32, 64, 128, 256, 512, 656];
     let bytes = |count: usize| bytes(&all[..count]);
     let words = |what| [what, "lines", "line"];
@@ -169,9 +170,7 @@ fn journals(random: &mut Random) {
 }
 
 /// A run's journal of so many lines run again, and gone on from.
-fn replays() {
-    let seeds = Seeds::new(512);
-    let text = run_lines(&seeds.inputs());
+fn replays(seeds: &Seeds, text: &[u8]) {
     let mut ends = vec![0];
     ends.extend((0..text.len()).filter(|at| text[*at] == b'\n').map(|at| at + 1));
     let sizes = [1, 2, 4, 8, 16, 32, 64, 128, 256, 512, 656];

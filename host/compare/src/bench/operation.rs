@@ -1,8 +1,7 @@
 //! Operations on lists of inputs. Every side is called, and all must give the same answers before they are timed.
 
-use crate::table::report;
-use crate::timing::{Side, keep};
-use compare::plain::Sum;
+use super::timing::{Side, keep};
+use crate::plain::Sum;
 use jinnychair::geometry::DistortedPoint;
 use jinnychair::{BrownConrady5, FxFyCxCy, Pt2};
 use nalgebra::{DMatrix, Matrix3};
@@ -101,14 +100,30 @@ impl<T: Debug> Answer for Same<T> {
     }
 }
 
-/// One side of an operation: its answers, and its turns over the inputs.
+/// A number that two sides round differently: all but its last bits.
+pub struct Rounded(pub f64);
+
+impl Answer for Rounded {
+    fn text(&self) -> String {
+        format!("{:.12e}", self.0)
+    }
+}
+
+/// One side of a row: its answers, and its turns over the inputs.
 pub struct Tried<'a> {
     answers: Vec<String>,
     side: Side<'a>,
 }
 
+impl<'a> Tried<'a> {
+    /// A side that has one answer.
+    pub fn new(answer: &impl Answer, side: Side<'a>) -> Self {
+        Self { answers: vec![answer.text()], side }
+    }
+}
+
 /// Turns over the inputs.
-pub fn turns<'a, I, A>(inputs: &'a [I], operation: impl Fn(&I) -> A + 'a) -> Side<'a> {
+fn turns<'a, I, A>(inputs: &'a [I], operation: impl Fn(&I) -> A + 'a) -> Side<'a> {
     let turn = move || inputs.iter().for_each(|input| keep(operation(black_box(input))));
     Side::of_many(inputs.len(), turn)
 }
@@ -126,6 +141,19 @@ pub fn called<'a, I, A: Answer>(inputs: &'a [I], operation: impl Fn(&I) -> A + '
         operation(input)
     }
     returned(inputs, move |input| call(&operation, input))
+}
+
+/// The same for Rust that takes its input by value, by the rules of C as the library does: Rust's own pass large structs by reference.
+pub fn called_by_value<'a, I: Copy, A: Answer>(
+    inputs: &'a [I],
+    operation: impl Fn(I) -> A + 'a,
+) -> Tried<'a> {
+    #[inline(never)]
+    #[allow(improper_ctypes_definitions, reason = "only Rust calls it")]
+    extern "C" fn call<I, A>(operation: &impl Fn(I) -> A, input: I) -> A {
+        operation(input)
+    }
+    returned(inputs, move |input| call(&operation, *input))
 }
 
 /// A side that writes its answer to a place.
@@ -148,10 +176,41 @@ pub fn written<'a, I, A: Answer + 'a>(
     Tried { answers, side: Side::of_many(inputs.len(), turn) }
 }
 
-/// Compares the answers of the library, the Rust and C, or of as many as there are, and times them.
-pub fn compare<const N: usize>(name: &str, sides: [Tried; N]) {
+/// The sides of a row, whose answers are the same.
+///
+/// # Panics
+///
+/// They aren't.
+pub fn agree<'a, const N: usize>(name: &str, sides: [Tried<'a>; N]) -> [Side<'a>; N] {
     for other in &sides[1..] {
         assert_eq!(sides[0].answers, other.answers, "{name}");
     }
-    report(name, sides.map(|tried| tried.side));
+    sides.map(|tried| tried.side)
+}
+
+#[cfg(test)]
+mod tests {
+    use super::*;
+
+    const NUMBERS: [f64; 2] = [2.0, 3.0];
+
+    #[test]
+    fn sides_with_the_same_answers_agree() {
+        let sides = [returned(&NUMBERS, |x| x * x), called(&NUMBERS, |x| x.powi(2))];
+        let sides = agree("squares", sides);
+        assert_eq!(sides.map(|side| side.operations()), [2, 2]);
+    }
+
+    #[test]
+    #[should_panic(expected = "squares")]
+    fn a_last_bit_is_a_difference() {
+        let square = |x: &f64| if *x == 3.0 { 9.0_f64.next_up() } else { x * x };
+        agree("squares", [returned(&NUMBERS, |x| x * x), returned(&NUMBERS, square)]);
+    }
+
+    #[test]
+    #[should_panic(expected = "squares")]
+    fn a_missing_answer_is_a_difference() {
+        agree("squares", [returned(&NUMBERS, |x| x * x), returned(&NUMBERS[..1], |x| x * x)]);
+    }
 }

@@ -1,31 +1,37 @@
 //! Root, sine and cosine.
 
-use crate::operation::{called, compare, returned, turns};
-use crate::table::report;
-use crate::timing::{Side, keep};
-use compare::plain::{Sum, leaf_cosine, leaf_root, leaf_sine};
+use super::Bench;
+use super::operation::{Rounded, Tried, called, returned};
+use super::timing::{Side, keep};
+use crate::plain::{Sum, leaf_cosine, leaf_root, leaf_sine};
 use jinnychair::{TrigError, geometry};
-use random::Random;
+use std::hint::black_box;
 
-pub fn roots(random: &mut Random) {
-    let numbers: Vec<f64> = (0..4096).map(|_| random.unit() * 1e6).collect();
+pub fn roots(bench: &mut Bench) {
+    let numbers: Vec<f64> = (0..4096).map(|_| bench.random.unit() * 1e6).collect();
     let sides = [
         returned(&numbers, |x| geometry::sqrt(*x)),
         returned(&numbers, |x| x.sqrt()),
         returned(&numbers, |x| leaf_root(*x)),
     ];
-    compare("root (the Rust's is one instruction)", sides);
+    bench.row("root (the Rust's is one instruction)", sides);
     // Each root waits for the one before.
-    fn in_turn<'a>(numbers: &'a [f64], root: impl Fn(f64) -> f64 + 'a) -> Side<'a> {
-        let turn = move || numbers.iter().fold(1.5, |last, x| x + 1e-3 * root(last));
-        Side::of_many(numbers.len(), move || keep(turn()))
+    fn in_turn<'a>(numbers: &'a [f64], root: impl Fn(f64) -> f64 + 'a) -> Tried<'a> {
+        let turn = move || {
+            numbers.iter().fold(1.5, |last, x| {
+                let next = *black_box(x) + 1e-3 * root(last);
+                keep(next);
+                next
+            })
+        };
+        Tried::new(&turn(), Side::of_many(numbers.len(), move || keep(turn())))
     }
     let sides = [
         in_turn(&numbers, geometry::sqrt),
         in_turn(&numbers, f64::sqrt),
         in_turn(&numbers, |x| leaf_root(x)),
     ];
-    report("root, each waiting for the last", sides);
+    bench.row("root, each waiting for the last", sides);
 }
 
 /// ±1/n! with the signs + + − −.
@@ -65,6 +71,7 @@ pub fn cosine_in_rust(x: f64) -> Option<f64> {
 
 /// A series beside the same loop in Rust and in C, and beside the machine's maths library, which rounds otherwise.
 fn series_beside(
+    bench: &mut Bench,
     name: &str,
     tilts: &[f64],
     library: impl Fn(&f64) -> Result<f64, TrigError> + Copy,
@@ -73,13 +80,18 @@ fn series_beside(
     maths: impl Fn(&f64) -> f64,
 ) {
     let sides = [returned(tilts, library), called(tilts, rust), returned(tilts, c)];
-    compare(&format!("{name} (the same loop in Rust)"), sides);
-    report(&format!("{name} (the maths library)"), [turns(tilts, library), turns(tilts, maths)]);
+    bench.row(&format!("{name} (the same loop in Rust)"), sides);
+    let rounded = [
+        returned(tilts, move |x| library(x).map(Rounded)),
+        called(tilts, move |x| Rounded(maths(x))),
+    ];
+    bench.row(&format!("{name} (the maths library)"), rounded);
 }
 
-pub fn sines(random: &mut Random) {
-    let tilts: Vec<f64> = (0..4096).map(|_| random.within(0.5)).collect();
+pub fn sines(bench: &mut Bench) {
+    let tilts: Vec<f64> = (0..4096).map(|_| bench.random.within(0.5)).collect();
     series_beside(
+        bench,
         "sine",
         &tilts,
         |x| geometry::sine(*x),
@@ -88,6 +100,7 @@ pub fn sines(random: &mut Random) {
         |x| x.sin(),
     );
     series_beside(
+        bench,
         "cosine",
         &tilts,
         |x| geometry::cosine(*x),

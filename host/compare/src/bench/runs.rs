@@ -1,16 +1,17 @@
 //! Lists of seeds, and whole runs.
 
-use crate::scoring::{CAMERA, ROWS, flat, library_camera, row_list};
-use crate::table::report;
-use crate::timing::{Side, keep};
+use super::Bench;
+use super::operation::{Same, Tried};
+use super::scoring::{CAMERA, ROWS, flat, library_camera, row_list};
+use super::timing::{Side, keep};
 use jinnychair::record::{self, answer, next, seed, start};
 use jinnychair::{Finding as LibraryFinding, Handed, Pt2, Rows, Seed, TiltTrig, Winner, geometry};
 use oracle::operations::search::{Published, run};
-use random::Random;
 use std::hint::black_box;
 use std::rc::Rc;
 use stored::library::{library_inputs, result_words};
 use vision_calibration_linear::scheimpflug_init::access as published;
+use vision_calibration_linear::scheimpflug_init::estimate_scheimpflug_intrinsics_iterative;
 use vision_calibration_linear::script::{
     Finding, Row, SeedNumbers, dataset_of_rows, pinhole_camera, play,
 };
@@ -51,30 +52,37 @@ fn close_seeds() -> Inputs {
     }
 }
 
-fn first_list(name: &str, inputs: &Inputs, kept: usize) {
+fn first_list(bench: &mut Bench, name: &str, inputs: &Inputs, kept: usize) {
     let for_library = library_inputs(inputs);
-    let (dataset, options) = (inputs.dataset(), inputs.options());
-    let base = pinhole_camera(CAMERA).k;
-    let never_asked = |_: &SeedNumbers| Finding::Failed;
-    let rust = || {
-        let (seeds, _) = play(inputs.given(false), never_asked, || {
-            published::validate_options(&dataset, &options)?;
-            published::initial_seed_grid(&dataset, &base, &options)
-        });
-        seeds.expect("good inputs")
-    };
     let mut list = vec![0.0; LIST_LEN];
     let run = start(&for_library, &mut list).expect("good inputs");
     assert_eq!(run.place.len, kept);
-    assert_eq!(list[..6 * kept], *rust().as_flattened());
+    let answer = list[..6 * kept].to_vec();
     let library = || keep(start(black_box(&for_library), &mut list).expect("good inputs"));
-    report(name, [Side::new(library), Side::new(|| keep(rust()))]);
+    let library = Tried::new(&answer, Side::new(library));
+
+    let (dataset, options) = (inputs.dataset(), inputs.options());
+    let base = pinhole_camera(CAMERA).k;
+    let rust = || {
+        published::validate_options(&dataset, &options)?;
+        published::initial_seed_grid(black_box(&dataset), &base, &options)
+    };
+    let answer = scripted(inputs, rust).expect("good inputs").as_flattened().to_vec();
+    // One script for all turns: the search alone is charged to the Rust.
+    let turns = |repeats| scripted(inputs, || (0..repeats).for_each(|_| keep(rust())));
+    bench.row(name, [library, Tried::new(&answer, Side::repeating(1, turns))]);
+}
+
+/// Runs a part of the published search that asks the host for nothing but what it gives before.
+fn scripted<R>(inputs: &Inputs, part: impl FnOnce() -> R) -> R {
+    let never_asked = |_: &SeedNumbers| Finding::Failed;
+    play(inputs.given(false), never_asked, part).0
 }
 
 /// Round 0's list.
-pub fn lists(_: &mut Random) {
-    first_list("building a round-0 list of 512 seeds", &most_seeds(), 512);
-    first_list("the same of 256 seeds near their predecessors", &close_seeds(), 65);
+pub fn lists(bench: &mut Bench) {
+    first_list(bench, "building a round-0 list of 512 seeds", &most_seeds(), 512);
+    first_list(bench, "the same of 256 seeds near their predecessors", &close_seeds(), 65);
 }
 
 /// The pixels of each view without a seed's tilt, which the published search works out itself and the library leaves to its host.
@@ -103,21 +111,32 @@ fn library_run(inputs: &Inputs, (numbers, flags): &(Vec<f64>, Vec<u8>)) -> Winne
     record::result(&run).expect("a winner")
 }
 
-fn whole_run(name: &str, rows: &[Row]) {
+fn whole_run(bench: &mut Bench, name: &str, rows: &[Row]) {
     let (inputs, flat) = (most_seeds(), flat(rows));
     let shared = Rc::new(dataset_of_rows(rows));
-    let rust = || {
+    let host = || {
         let shared = shared.clone();
-        let host = move |_: &SeedNumbers| Finding::Shared { camera: CAMERA, rows: shared.clone() };
-        run(&inputs, host).expect("a winner")
+        move |_: &SeedNumbers| Finding::Shared { camera: CAMERA, rows: shared.clone() }
     };
-    assert!(rust().ends_with(&result_words(Ok(library_run(&inputs, &flat)))));
+    // The oracle's words have the outcomes of all candidates in front of the result; they aren't written in a turn.
+    let result = result_words(Ok(library_run(&inputs, &flat)));
+    let of_rust = run(&inputs, host()).expect("a winner");
+    let of_rust = Same(of_rust[of_rust.len() - result.len()..].to_vec());
+    let (dataset, options) = (inputs.dataset(), inputs.options());
+    let rust = || {
+        let search = || estimate_scheimpflug_intrinsics_iterative(&dataset, options.clone());
+        play(inputs.given(true), host(), search)
+    };
     let library = || keep(library_run(black_box(&inputs), &flat));
-    report(name, [Side::new(library), Side::new(|| keep(rust()))]);
+    let sides = [
+        Tried::new(&Same(result), Side::new(library)),
+        Tried::new(&of_rust, Side::new(|| keep(rust()))),
+    ];
+    bench.row(name, sides);
 }
 
-pub fn runs(random: &mut Random) {
-    let rows = row_list(ROWS, random);
-    whole_run("a whole run of 656 answers with 900 rows", &rows);
-    whole_run("the same with one row: lists and all but the scoring", &rows[..1]);
+pub fn runs(bench: &mut Bench) {
+    let rows = row_list(ROWS, &mut bench.random);
+    whole_run(bench, "a whole run of 656 answers with 900 rows", &rows);
+    whole_run(bench, "the same with one row: lists and all but the scoring", &rows[..1]);
 }

@@ -1,0 +1,3 @@
+//! The benchmark's table as it is linked.
+
+compare::padded!(0);
