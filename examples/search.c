@@ -5,7 +5,7 @@
 #include "jinnychair.h"
 #include <stdio.h>
 
-enum { DOTS = 35 };
+#define DOTS 35
 static const double X_TILTS[] = {-0.16, -0.12, -0.08, -0.04, 0.0, 0.04, 0.08, 0.12, 0.16};
 static const double Y_TILTS[] = {-0.04, -0.02, 0.0, 0.02, 0.04};
 /* A host keeps its journal in a file, and each line there before the next seed is asked for. */

@@ -45,7 +45,7 @@ mod stretches;
 mod writer;
 
 pub use checksum::sha256;
-pub use inputs::{InputsError, StoredInputs, Views, inputs_path};
+pub use inputs::{HostVersion, InputsError, StoredInputs, Views, inputs_path};
 pub use line::{JournalError, Line, Lines, Recorded, ScoredFields, lines, read_line, write_line};
 pub use replay::{Difference, Replayed, replay, what_differs};
 pub use report::write_report;

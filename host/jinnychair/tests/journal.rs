@@ -5,8 +5,8 @@ mod common;
 
 use common::{K, bytes, folder, inputs, journaled, options, solve, stored};
 use jinnychair::journal::{
-    JournalFileError, JournalWriter, Line, Recorded, ScoredFields, StoredInputs, Views,
-    inputs_path, lines, read_line, sha256, write_line, write_report,
+    HostVersion, JournalFileError, JournalWriter, Line, Recorded, ScoredFields, StoredInputs,
+    Views, inputs_path, lines, read_line, sha256, write_line, write_report,
 };
 use jinnychair::*;
 use std::fs;
@@ -207,6 +207,18 @@ fn inputs_are_read_back_bit_by_bit() {
 }
 
 #[test]
+fn a_host_is_named_and_a_file_without_one_has_the_older_form() {
+    let mut stored = odd();
+    assert!(stored.text().starts_with("jinnychair inputs 1\n"));
+    let host = HostVersion { name: "a-host".into(), version: "2 (beta)".into() };
+    stored.host = Some(host.clone());
+    let text = stored.text();
+    assert!(text.starts_with("jinnychair inputs 2\n") && text.contains("\nhost a-host 2 (beta)\n"));
+    let read = StoredInputs::parse(&text).unwrap();
+    assert_eq!((read.host, read.options), (Some(host), stored.options));
+}
+
+#[test]
 fn damaged_inputs_are_refused_with_their_line() {
     let text = odd().text();
     let fault = |from: &str, to: &str| {
@@ -217,9 +229,10 @@ fn damaged_inputs_are_refused_with_their_line() {
     for (from, to, said) in [
         (
             "inputs 1",
-            "inputs 2",
-            "line 1: read `jinnychair inputs 2`; expected `jinnychair inputs 1`. Name",
+            "inputs 3",
+            "line 1: read `jinnychair inputs 3`; expected `jinnychair inputs 2`. Name",
         ),
+        ("inputs 1", "inputs 2", "expected `host`, its name and its version"),
         ("views 7", "views 07", "line 6: read `views 07`; expected `views 7`"),
         ("views 7", "views x", "line 6: read `views x`; expected `views` and a whole number"),
         ("3f947ae147ae147b 0.02", "3f947ae147ae147b 0.03", "expected `step 3f947ae147ae147b 0.02`"),

@@ -1,6 +1,6 @@
 //! The views of a search that began earlier, found again by its inputs.
 
-use crate::files::read_with_checksum;
+use crate::files::{self, read_with_checksum};
 use crate::synthetic::{BUILT_IN, built_in_text};
 use crate::views::Plate;
 use jinnychair::journal::{StoredInputs, Views, inputs_path};
@@ -42,10 +42,8 @@ pub fn plate(
 
 /// A file of the name that was typed, or where there is none, of that name beside the journal.
 fn named(name: &str, journal: &Path) -> PathBuf {
-    let typed = PathBuf::from(name);
-    let beside = typed.file_name().map(|name| journal.with_file_name(name));
-    match beside {
-        Some(beside) if !typed.exists() && beside.exists() => beside,
-        _ => typed,
-    }
+    let typed = [PathBuf::from(name), files::named(name)];
+    let beside = typed.iter().filter_map(|name| Some(journal.with_file_name(name.file_name()?)));
+    let found = typed.iter().cloned().chain(beside).find(|path| path.exists());
+    found.unwrap_or_else(|| name.into())
 }

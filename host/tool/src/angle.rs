@@ -1,5 +1,7 @@
 //! Angles as they are typed and shown: with their unit, and in degrees.
 
+use crate::typed::{number as parsed, shown};
+
 /// The radians of an angle that says its unit: `-3deg`, `2°`, `0.05rad`. A zero needs no unit.
 ///
 /// # Errors
@@ -9,14 +11,15 @@ pub fn parse(text: &str) -> Result<f64, String> {
     let text = text.trim();
     let degrees = text.strip_suffix("deg").or(text.strip_suffix('°'));
     let number = degrees.or(text.strip_suffix("rad"));
-    match number.unwrap_or(text).trim().parse::<f64>() {
-        Ok(value) if !value.is_finite() => Err(format!("`{text}` isn't finite")),
-        Ok(value) if number.is_none() && value != 0.0 => {
-            Err(format!("`{text}` has no unit: write {text}deg or {text}rad"))
+    let read = shown(text);
+    match parsed(number.unwrap_or(text).trim()) {
+        Some(value) if !value.is_finite() => Err(format!("`{read}` isn't finite")),
+        Some(value) if number.is_none() && value != 0.0 => {
+            Err(format!("`{read}` has no unit: write {read}deg or {read}rad"))
         }
-        Ok(value) if degrees.is_some() => Ok(value.to_radians()),
-        Ok(value) => Ok(value),
-        Err(_) => Err(format!("`{text}` isn't an angle such as -3deg or 0.05rad")),
+        Some(value) if degrees.is_some() => Ok(value.to_radians()),
+        Some(value) => Ok(value),
+        None => Err(format!("`{read}` isn't an angle such as -3deg or 0.05rad")),
     }
 }
 
@@ -46,8 +49,8 @@ mod tests {
     #[test]
     fn a_unit_is_demanded_and_kept() {
         assert_eq!(
-            parse_list("-3deg, 0,0.05rad, 2°"),
-            Ok(vec![-3f64.to_radians(), 0.0, 0.05, 2f64.to_radians()])
+            parse_list("-3deg, 0,0.05rad, 2°, \u{2212}3deg"),
+            Ok(vec![-3f64.to_radians(), 0.0, 0.05, 2f64.to_radians(), -3f64.to_radians()])
         );
         assert_eq!(parse("3").unwrap_err(), "`3` has no unit: write 3deg or 3rad");
         assert!(

@@ -1,24 +1,28 @@
 //! A search with all that it starts from: its views, its host, its options and its seeds. It is run, and judged.
 
 use crate::angle::degrees;
+use crate::bad_view;
 use crate::choices::{Choices, parse_seeds};
 use crate::date::now;
 use crate::drive::{self, Finished, Source, Tried};
 use crate::files::read;
 use crate::journal;
+use crate::lean::Lean;
+use crate::next_view::{NextView, next_view};
 use crate::open::Open;
+use crate::outliers::Outliers;
 use crate::plan::Plan;
 use crate::progress::Bar;
 use crate::report;
 use crate::residuals::Fit;
 use crate::screen::{Screen, aside};
-use crate::solve::Host;
+use crate::solve::{self, Host};
 use crate::stop::Stopper;
 use crate::table::{self, Record};
 use crate::verdict::{self, Point};
-use crate::views::Plate;
+use crate::views::{MOST_SCORED, Plate};
 use jinnychair::journal::{
-    JournalFileError, JournalWriter, Line, StoredInputs, Views, inputs_path,
+    HostVersion, JournalFileError, JournalWriter, Line, StoredInputs, Views, inputs_path,
 };
 use jinnychair::{FxFyCxCy, Inputs, Options, Progress, Pt2, RunError, Search, Seed, Winner};
 use std::io::IsTerminal;
@@ -31,6 +35,8 @@ pub struct Case {
     views: Views,
     host: Host,
     is_guessed: bool,
+    /// The file's centre, where another one is held.
+    other_centre: Option<[f64; 2]>,
     base: FxFyCxCy,
     center: Pt2,
     choices: Choices,
@@ -40,14 +46,33 @@ pub struct Case {
     about: Record,
 }
 
-/// How a winner fits the views, what is left open of its tilts, and what speaks against it.
+/// What the views say of a winner: the lean beside it, what is left open, and what speaks against both.
 pub struct Judged {
-    /// Its errors, dot by dot.
+    /// The winner's errors, dot by dot.
     pub fit: Fit,
+    /// The lean; nothing where the views determine none.
+    pub lean: Option<Lean>,
     /// What is left open.
     pub open: Open,
-    /// What speaks against it.
+    /// Dots and views that disagree, and the leans without each view.
+    pub outliers: Option<Outliers>,
+    /// Which turn of the plate would shrink the ± most.
+    pub next: Option<NextView>,
+    /// What speaks against the result.
     pub against: Vec<Point>,
+}
+
+/// This host, as inputs name it.
+#[must_use]
+pub fn this_host() -> HostVersion {
+    HostVersion { name: solve::NAME.into(), version: solve::VERSION.into() }
+}
+
+/// Holds the stated centre, or else the file's, and gives the file's where it is another.
+fn hold_centre(plate: &mut Plate, stated: Option<[f64; 2]>) -> Option<[f64; 2]> {
+    let of_file = plate.centre;
+    plate.centre = stated.or(of_file);
+    of_file.filter(|_| plate.centre != of_file)
 }
 
 impl Case {
@@ -57,29 +82,27 @@ impl Case {
     ///
     /// Says why the views give no camera, or what is wrong with a file of seeds.
     pub fn new(
-        plate: Plate,
+        mut plate: Plate,
         (views, input): (Views, String),
         choices: &Choices,
         screen: &mut Screen,
     ) -> Result<Self, String> {
+        let other_centre = hold_centre(&mut plate, choices.centre);
         let is_guessed = plate.centre.is_none();
         screen.say(format!(
             "read            {input}: {} views, {} dots",
             plate.views.len(),
             plate.dots()
         ));
-        let host = Host::new(plate).map_err(|fault| format!("{input}: {fault}"))?;
-        screen.say(format!("centre          {}", centre_text(&host, is_guessed)));
-        let nothing = || {
-            format!(
-                "{input}: no camera fits the views. Turn the plate further between them, and check the centre"
-            )
-        };
-        let base = host.base().ok_or_else(nothing)?;
+        let named = |fault: String| format!("{input}: {fault}");
+        let host = Host::with_model(plate, choices.model()).map_err(named)?;
+        say_what_is_held(&host, is_guessed, other_centre, screen);
+        let base = host.base();
         let options = choices.options();
         let seeds = seeds(&host, choices, base, &options, screen)?;
         let mut case = Self {
             is_guessed,
+            other_centre,
             base,
             center: host.observed_centre(),
             choices: choices.clone(),
@@ -107,24 +130,29 @@ impl Case {
         minutes: Option<f64>,
     ) -> Result<Self, String> {
         let choices = Choices { minutes, ..journal::choices(stored)? };
-        plate.centre = choices.centre.or(plate.centre);
+        let other_centre = hold_centre(&mut plate, choices.centre);
         let (is_guessed, views) = (plate.centre.is_none(), plate.views.len());
         if views != stored.views {
             let began = stored.views;
             return Err(format!("{input}: {views} views, and the search began with {began}"));
         }
-        let host = Host::new(plate).map_err(|fault| format!("{input}: {fault}"))?;
+        let host = Host::with_model(plate, choices.model());
+        let host = host.map_err(|fault| format!("{input}: {fault}"))?;
         let sources = journal::sources(stored);
         let seeds: Vec<_> = sources.into_iter().zip(stored.decomposition.iter().copied()).collect();
         let mut about = journal::about(stored);
         if stored.library != library_version() {
             about.add("resumed", &format!("with jinnychair {}", library_version()));
         }
+        if stored.host.as_ref() != Some(&this_host()) {
+            about.add("resumed", &format!("with another host, {}", this_host()));
+        }
         Ok(Self {
             input,
             views: stored.plate.clone(),
             host,
             is_guessed,
+            other_centre,
             base: stored.base,
             center: stored.center,
             choices,
@@ -140,8 +168,19 @@ impl Case {
     #[must_use]
     pub fn is_as_begun(&self) -> bool {
         let bits = |k: FxFyCxCy, c: Pt2| [k.fx, k.fy, k.cx, k.cy, c.x, c.y].map(f64::to_bits);
-        let again = self.host.base().map(|base| bits(base, self.host.observed_centre()));
-        again == Some(bits(self.base, self.center))
+        bits(self.host.base(), self.host.observed_centre()) == bits(self.base, self.center)
+    }
+
+    /// What the views are solved by.
+    #[must_use]
+    pub fn host(&self) -> &Host {
+        &self.host
+    }
+
+    /// Whether the centre is guessed.
+    #[must_use]
+    pub fn is_guessed(&self) -> bool {
+        self.is_guessed
     }
 
     /// What will be tried.
@@ -166,6 +205,7 @@ impl Case {
         let inputs = self.inputs(&decomposition);
         let date = self.about.about("date").unwrap_or_default();
         let mut stored = StoredInputs::new(&inputs, self.views.clone(), date);
+        stored.host = Some(this_host());
         journal::add_notes(&mut stored, &self.about, &sources, &self.choices);
         JournalWriter::create(path, &stored).map_err(|error| not_begun(&error))
     }
@@ -179,6 +219,22 @@ impl Case {
         let search = drive::start(&self.inputs(&self.sources_and_seeds().1))?;
         let journal = journal.map(|path| self.begin_journal(path)).transpose()?;
         self.run(search, vec![], journal)
+    }
+
+    /// Searches to the end without a word, and judges the winner: what the program's `search` answers, for programs around
+    /// this crate.
+    ///
+    /// # Errors
+    ///
+    /// Says why the search can't start, or why there is no winner.
+    pub fn answer(&self) -> Result<(Finished, Winner, Judged), String> {
+        let (sources, decomposition) = self.sources_and_seeds();
+        let solve = |seed: &Seed| self.host.solve(seed);
+        let inputs = self.inputs(&decomposition);
+        let finished = drive::run(&inputs, &sources, solve, drive::to_the_end)?;
+        let winner = finished.winner.map_err(|error| self.no_winner(&finished, error))?;
+        let judged = self.judge(&finished, &winner)?;
+        Ok((finished, winner, judged))
     }
 
     /// Goes on with a search behind the lines of its journal.
@@ -242,9 +298,9 @@ impl Case {
         screen: &mut Screen,
     ) -> (Record, Result<Vec<Point>, String>) {
         let judged = match finished.winner {
-            Ok(winner) => self.judge(&finished, &winner).map(|judged| {
-                (report::winner(&finished, &winner, &judged.fit, &judged.open), judged.against)
-            }),
+            Ok(winner) => self
+                .judge(&finished, &winner)
+                .map(|judged| (report::result(&finished, &winner, &judged), judged)),
             Err(error) => Err(self.no_winner(&finished, error)),
         };
         // A search never has more than the report takes.
@@ -254,12 +310,13 @@ impl Case {
             screen.say(report::stop(stop, &self.options));
             record.add("stopped", &report::stop_place(stop));
         }
-        let against = judged.map(|(text, against)| {
+        let against = judged.map(|(text, judged)| {
             screen.say(text);
-            screen.say(report::verdict(&against));
-            record.add("verdict", &report::verdict_head(&against));
-            against.iter().for_each(|point| record.add("against", &point.to_string()));
-            against
+            screen.say(report::verdict(&judged.against));
+            add_lean(&mut record, &judged);
+            record.add("verdict", &report::verdict_head(&judged.against));
+            judged.against.iter().for_each(|point| record.add("against", &point.to_string()));
+            judged.against
         });
         if against.is_err() {
             record.add("verdict", "failed: there is no winner");
@@ -275,7 +332,9 @@ impl Case {
         };
         let few = verdict::too_few_counted(&finished.tried, &self.options);
         let few = few.map_or(String::new(), |point| format!(" Also: {point}"));
-        format!("{}: no winner: {cause}{few}", self.input)
+        let bad =
+            bad_view::text(self.host.plate()).map_or(String::new(), |text| format!(" {text}."));
+        format!("{}: no winner: {cause}{few}{bad}", self.input)
     }
 
     /// Judges a winner by the views.
@@ -294,21 +353,55 @@ impl Case {
             .ok_or("the winner's camera can't be solved for again".to_owned())?;
         let stop = finished.stop.as_ref();
         let plan = stop.map_or(self.plan.clone(), |s| self.plan.stopped_in(s.progress.round));
-        let open = Open::new(&self.host, winner, &one.seed, &plan, self.choices.centre_within);
-        let noise = open.noise.unwrap_or_default();
-        let apart = [0, 1].map(|i| (4.0 * open.steps[i]).max(2.0 * noise[i]));
-        let [middle, half] = self.host.seen();
-        let against = [
-            stop.map(verdict::of_stop).into_iter().collect(),
-            verdict::of_centre(self.host.held_centre(), self.is_guessed, middle, half),
-            verdict::of_plan(&self.plan),
-            verdict::of_search(finished, winner, &self.options, apart),
-            verdict::of_held(&open).into_iter().collect(),
-            verdict::of_fit(&self.host, &fit),
-            verdict::of_limits(winner, &open, self.choices.limits()),
-            verdict::of_noise(&open).into_iter().collect(),
-        ];
-        Ok(Judged { fit, open, against: against.concat() })
+        let within = self.choices.centre_within;
+        let lean = Lean::new(&self.host, &one.seed, self.choices.lens());
+        let Some(lean) = lean else {
+            let open = Open::without_views(winner, &plan, within);
+            let against = self.against(finished, (winner, &fit), &open, None);
+            return Ok(Judged { fit, lean: None, open, outliers: None, next: None, against });
+        };
+        let open = Open::new(winner, &lean, &plan, within);
+        let outliers = Outliers::new(&self.host, &lean);
+        let (host, lean_of_rest) = outliers.rest(&self.host, &lean);
+        let next = next_view(host, lean_of_rest, open.held.is_some());
+        let found = Some((&lean, &outliers, next.as_ref()));
+        let against = self.against(finished, (winner, &fit), &open, found);
+        Ok(Judged { fit, lean: Some(lean), open, outliers: Some(outliers), next, against })
+    }
+
+    /// All that speaks against a result, in the order in which it is told.
+    fn against(
+        &self,
+        finished: &Finished,
+        (winner, fit): (&Winner, &Fit),
+        open: &Open,
+        found: Option<(&Lean, &Outliers, Option<&NextView>)>,
+    ) -> Vec<Point> {
+        let (seen, held) = (self.host.seen(), self.host.held_centre());
+        let mut points = vec![];
+        points.extend(finished.stop.as_ref().map(verdict::of_stop));
+        points.extend(verdict::of_centre(held, self.is_guessed, seen, open));
+        points.extend(verdict::of_two_centres(held, self.other_centre, open));
+        points.extend(verdict::of_plan(&self.plan));
+        points.extend(verdict::of_search(finished, winner, &self.options));
+        points.extend(verdict::of_held(open));
+        points.extend(verdict::of_fit(fit, self.choices.mirrored.is_some()));
+        if let Some((lean, outliers, _)) = found {
+            points.extend(verdict::of_outliers(outliers, fit));
+            let (host, lean_of_rest) = outliers.rest(&self.host, lean);
+            points.extend(verdict::of_model(host, lean_of_rest));
+            points.extend(verdict::of_rivals(finished, fit, lean));
+        }
+        points.extend(verdict::of_limits(winner, open, self.choices.limits()));
+        let noise =
+            found.and_then(|(lean, outliers, _)| outliers.rest(&self.host, lean).1.noise_share());
+        points.extend(verdict::of_noise(
+            noise,
+            open.held.is_some(),
+            found.and_then(|found| found.2),
+        ));
+        points.extend(verdict::of_distance(open));
+        points
     }
 
     /// What was asked, for table, chart and inputs; the date is that of the search's begin.
@@ -358,6 +451,44 @@ impl Case {
 pub fn library_version() -> String {
     let [_, major, minor, patch] = jinnychair::VERSION.to_be_bytes();
     format!("{major}.{minor}.{patch}")
+}
+
+/// The centre that is held, views that say nothing new, and by how many dots tilts are scored.
+fn say_what_is_held(
+    host: &Host,
+    is_guessed: bool,
+    other_centre: Option<[f64; 2]>,
+    screen: &mut Screen,
+) {
+    screen.say(format!("centre          {}", centre_text(host, is_guessed)));
+    if let Some([x, y]) = other_centre {
+        screen.say(format!("other centre    {x} {y} px, by the file: it isn't taken"));
+    }
+    let repeats = host.repeats();
+    if !repeats.is_empty() {
+        let pairs = repeats.iter().map(|[i, earlier]| format!("{} as {}", i + 1, earlier + 1));
+        let pairs: Vec<_> = pairs.collect();
+        screen.say(format!("repeated views  {}: they count once", pairs.join(", ")));
+    }
+    let dots = host.plate().dots();
+    if dots > MOST_SCORED {
+        let how = "chosen evenly; all are solved for";
+        screen.say(format!("scored by       {MOST_SCORED} of {dots} dots, {how}"));
+    }
+}
+
+/// The lean, for the eye and for the chart: tilts and bounds in radians, as far as they are known.
+pub(crate) fn add_lean(record: &mut Record, judged: &Judged) {
+    let open = &judged.open;
+    let (Some([x, y]), total) = (open.lean, open.lean_total()) else { return };
+    let of = |i: usize, tilt: f64| {
+        report::tilt_text(tilt, total.map(|total| total[i]), open.centre_within.is_none())
+    };
+    let text_y = if open.held.is_some() { "held at 0".into() } else { of(1, y) };
+    record.add("lean", &format!("x {}; y {text_y}", of(0, x)));
+    let bounds = total.map_or(String::new(), |[x, y]| format!(" {x} {y}"));
+    let y = if open.held.is_some() { 0.0 } else { y };
+    record.add(table::LEAN, &format!("{x} {y}{bounds}"));
 }
 
 /// Why a journal isn't begun, and what to do.

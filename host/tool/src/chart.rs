@@ -10,11 +10,11 @@ mod section;
 mod svg;
 
 use crate::drive::{Tried, best};
-use crate::table::Record;
+use crate::table::{LEAN as LEAN_RADIANS, Record, UNCHECKED};
 use legend::Legend;
 use part::{PART, Part};
 use section::Section;
-use svg::{ALARM, GOOD, INK, Svg, signed};
+use svg::{ALARM, GOOD, INK, LEAN, Svg, signed};
 
 pub use svg::HEAD;
 
@@ -25,8 +25,14 @@ const SECTIONS_TOP: f64 = PARTS_TOP + PART + 122.0;
 /// The room that a plot's axis takes below it.
 const UNDER_A_PLOT: f64 = 36.0;
 
+/// The lean's tilts and its bounds, in degrees.
+type Lean = ([f64; 2], Option<[f64; 2]>);
+
 const WIDTH: f64 = 1180.0;
 const LINE: f64 = 17.0;
+/// Where the lean stands beside the heading, and how many letters of it a line has room for.
+const BESIDE_HEADING: f64 = 255.0;
+const LEAN_LETTERS: usize = 130;
 /// How many letters a line of notes has room for.
 const LETTERS: usize = 165;
 
@@ -42,10 +48,11 @@ pub fn chart(record: &Record) -> String {
     let parts = parts(tried, winner);
     let one_axis = record.is_one_axis();
     let best = winner.map(|_| best_names(record)[0]);
+    let lean = lean(record);
     let plots = if one_axis {
-        one_axis::draw(&mut svg, tried, winner, bound, &parts)
+        one_axis::draw(&mut svg, tried, winner, bound, lean, &parts)
     } else {
-        two_axes(&mut svg, tried, winner.zip(best), bound, &parts)
+        two_axes(&mut svg, tried, winner.zip(best), (bound, lean), &parts)
     };
     // Without a winner there are neither enlarged parts nor lines through it.
     let [left, top] = match (one_axis, winner) {
@@ -53,7 +60,8 @@ pub fn chart(record: &Record) -> String {
         (false, None) => [COLUMNS[1], PARTS_TOP],
         (false, Some(_)) => [COLUMNS[2], SECTIONS_TOP],
     };
-    let legend = Legend { tried, bound, one_axis, best, left, top }.draw(&mut svg);
+    let has_lean = lean.is_some();
+    let legend = Legend { tried, bound, one_axis, has_lean, best, left, top }.draw(&mut svg);
     let bottom = notes(&mut svg, record, legend.max(plots));
     svg.finish([WIDTH, bottom + 24.0])
 }
@@ -71,11 +79,11 @@ fn two_axes(
     svg: &mut Svg,
     tried: &[Tried],
     best: Option<(&Tried, &str)>,
-    bound: Option<f64>,
+    (bound, lean): (Option<f64>, Option<Lean>),
     parts: &[Part],
 ) -> f64 {
     for (i, part) in parts.iter().enumerate() {
-        part.draw(svg, tried, best.map(|best| best.0), bound, parts.get(i + 1));
+        part.draw(svg, tried, best.map(|best| best.0), bound, lean, parts.get(i + 1));
     }
     let Some((winner, name)) = best else { return PARTS_TOP + PART + UNDER_A_PLOT };
     let range = parts.get(1).unwrap_or(&parts[0]);
@@ -83,6 +91,16 @@ fn two_axes(
         Section::new(tried, winner, axis, range, [left, SECTIONS_TOP]).draw(svg, name);
     }
     SECTIONS_TOP + section::HEIGHT + UNDER_A_PLOT
+}
+
+/// The lean, where all its numbers are finite.
+fn lean(record: &Record) -> Option<Lean> {
+    let (at, half) = record.lean()?;
+    let is_finite = |both: &[f64; 2]| both.iter().all(|one| one.is_finite());
+    let degrees = |both: [f64; 2]| both.map(f64::to_degrees);
+    Some((at, half))
+        .filter(|(at, half)| is_finite(at) && half.is_none_or(|half| is_finite(&half)))
+        .map(|(at, half)| (degrees(at), half.map(degrees)))
 }
 
 fn degrees(one: &Tried) -> [f64; 2] {
@@ -131,15 +149,26 @@ fn summary(record: &Record, winner: Option<&Tried>) -> String {
 
 fn heading(svg: &mut Svg, record: &Record, winner: Option<&Tried>) {
     svg.text([COLUMNS[0], 34.0], "start", 20.0, INK, "Every tried tilt");
+    if let Some(lean) = record.about("lean") {
+        let lean = wrapped(&format!("Lean: {}.", lean.replace('-', "−")), LEAN_LETTERS);
+        let top = 34.0 - 8.0 * (lean.len() - 1) as f64;
+        for (i, line) in lean.iter().enumerate() {
+            svg.text([BESIDE_HEADING, top + 16.0 * i as f64], "start", 12.0, LEAN, line);
+        }
+    }
     let summary = summary(record, winner);
     svg.text([COLUMNS[0], 58.0], "start", 13.0, INK, &summary);
+    let is_guessed = record.about("centre").is_some_and(|centre| centre.contains("GUESSED"));
     if let Some(verdict) = record.about("verdict") {
         let colour = if verdict.starts_with("good") { GOOD } else { ALARM };
         svg.text([COLUMNS[0], 80.0], "start", 13.0, colour, &format!("Verdict: {verdict}."));
     }
-    if record.about("centre").is_some_and(|centre| centre.contains("GUESSED")) {
+    if let Some(mark) = record.about(UNCHECKED) {
+        svg.text([COLUMNS[0], 80.0], "start", 15.0, ALARM, &format!("WARNING: {mark}"));
+    }
+    if is_guessed {
         svg.text(
-            [COLUMNS[1], 34.0],
+            [COLUMNS[1], 80.0],
             "start",
             15.0,
             ALARM,
@@ -150,13 +179,16 @@ fn heading(svg: &mut Svg, record: &Record, winner: Option<&Tried>) {
 
 /// What was asked and found, line by line below the plots; gives where they end.
 fn notes(svg: &mut Svg, record: &Record, plots: f64) -> f64 {
-    let shown = record.about.iter().filter(|(name, _)| name != "bound_rad");
+    let shown = record
+        .about
+        .iter()
+        .filter(|(name, _)| !["bound_rad", LEAN_RADIANS, "lean"].contains(&name.as_str()));
     if shown.clone().count() == 0 {
         return plots;
     }
     let mut y = plots + 32.0;
     for (name, text) in shown {
-        let colour = if name == "against" { ALARM } else { INK };
+        let colour = if ["against", UNCHECKED].contains(&name.as_str()) { ALARM } else { INK };
         for (i, line) in wrapped(text, LETTERS).iter().enumerate() {
             if i == 0 {
                 svg.text([COLUMNS[0], y], "start", 12.0, colour, name);

@@ -2,8 +2,11 @@
 
 use crate::angle;
 use crate::drive::Source;
+use crate::lean::Lens;
+use crate::solve::Model;
+use crate::typed::{self, shown};
 use crate::verdict::Limits;
-use jinnychair::{FxFyCxCy, Options, ScheimpflugParams, Seed};
+use jinnychair::{BrownConrady5, FxFyCxCy, Options, ScheimpflugParams, Seed};
 use std::path::PathBuf;
 
 /// The names of all choices, and what they take.
@@ -11,6 +14,10 @@ pub const NAMES: &[(&str, &str)] = &[
     ("centre", "X Y"),
     ("guess-centre", ""),
     ("centre-within", "PX"),
+    ("lens", "exact, or K1,K2,P1,P2,K3"),
+    ("lens-within", "P"),
+    ("tangential", ""),
+    ("mirrored", ""),
     ("tilts-x", "ANGLE,ANGLE,..."),
     ("tilts-y", "ANGLE,ANGLE,..."),
     ("one-axis", ""),
@@ -29,6 +36,9 @@ pub const NAMES: &[(&str, &str)] = &[
 /// tenth of the dots isn't compared with tilts that explain them all.
 pub const MIN_COUNTED: usize = 90;
 
+/// The largest bound that Start takes, in radians.
+const MAX_BOUND: f64 = 0.5;
+
 /// Choices; what isn't chosen has its default.
 #[derive(Clone, Debug, Default, PartialEq)]
 pub struct Choices {
@@ -38,6 +48,14 @@ pub struct Choices {
     pub guess_centre: Option<()>,
     /// How far the centre may be off, in pixels.
     pub centre_within: Option<f64>,
+    /// What the lens is.
+    pub lens: Option<StatedLens>,
+    /// How far its tangential distortion may be from that, or from 0.
+    pub lens_within: Option<f64>,
+    /// Whether p1 and p2 are solved for.
+    pub tangential: Option<()>,
+    /// Whether the plate's axes are left-handed.
+    pub mirrored: Option<()>,
     /// The grid's tilts, in radians.
     pub tilts: [Option<Vec<f64>>; 2],
     /// Whether tilt y is held at 0.
@@ -62,6 +80,15 @@ pub struct Choices {
     pub max_mean: Option<f64>,
 }
 
+/// What the lens is stated to be.
+#[derive(Clone, Copy, Debug, PartialEq)]
+pub enum StatedLens {
+    /// Without distortion.
+    Straight,
+    /// With this distortion.
+    Known(BrownConrady5),
+}
+
 impl Choices {
     /// Takes a choice; `value` gives its values one after the other. False where there is no such choice.
     ///
@@ -79,10 +106,14 @@ impl Choices {
             "centre-within" | "center-within" => {
                 put(&mut self.centre_within, not_below_0(&value()?)?)
             }
+            "lens" => put(&mut self.lens, lens(&value()?)?),
+            "lens-within" => put(&mut self.lens_within, above_0(number(&value()?)?)?),
+            "tangential" => put(&mut self.tangential, ()),
+            "mirrored" => put(&mut self.mirrored, ()),
             "tilts-x" => put(&mut self.tilts[0], tilts(&value()?)?),
             "tilts-y" => put(&mut self.tilts[1], tilts(&value()?)?),
             "one-axis" => put(&mut self.one_axis, ()),
-            "bound" => put(&mut self.bound, above_0(angle::parse(&value()?)?)?),
+            "bound" => put(&mut self.bound, bound(&value()?)?),
             "step" => put(&mut self.step, above_0(angle::parse(&value()?)?)?),
             "rounds" => put(&mut self.rounds, rounds(&value()?)?),
             "minutes" => put(&mut self.minutes, above_0(number(&value()?)?)?),
@@ -110,7 +141,7 @@ impl Choices {
             }
             choices
                 .take_line(line)
-                .map_err(|fault| format!("line {}: read `{line}`; {fault}", i + 1))?;
+                .map_err(|fault| format!("line {}: read `{}`; {fault}", i + 1, shown(line)))?;
         }
         Ok(choices)
     }
@@ -131,7 +162,7 @@ impl Choices {
         let names: Vec<&str> = NAMES.iter().map(|(name, _)| *name).collect();
         match values.next() {
             _ if !is_known => Err(format!("expected one of {}, and its value", names.join(", "))),
-            Some(word) => Err(format!("`{word}` is too much for {name}")),
+            Some(word) => Err(format!("`{}` is too much for {name}", shown(word))),
             None => Ok(()),
         }
     }
@@ -145,6 +176,10 @@ impl Choices {
             centre: self.centre.or(other.centre),
             guess_centre: self.guess_centre.or(other.guess_centre),
             centre_within: self.centre_within.or(other.centre_within),
+            lens: self.lens.or(other.lens),
+            lens_within: self.lens_within.or(other.lens_within),
+            tangential: self.tangential.or(other.tangential),
+            mirrored: self.mirrored.or(other.mirrored),
             tilts: [x.or(other_x), y.or(other_y)],
             one_axis: self.one_axis.or(other.one_axis),
             bound: self.bound.or(other.bound),
@@ -165,6 +200,14 @@ impl Choices {
     ///
     /// Names those that don't, and what to do.
     pub fn check(&self) -> Result<(), String> {
+        if self.lens == Some(StatedLens::Straight) && self.lens_within.is_some() {
+            return Err("lens exact and lens-within: leave one of the two out".into());
+        }
+        if self.lens.is_some() && self.tangential.is_some() {
+            return Err(
+                "a lens is stated, and tangential solves for one. Leave one of the two out".into(),
+            );
+        }
         let typed = self.tilts[1].as_ref().filter(|typed| **typed != [0.0]);
         match (self.one_axis, typed) {
             (Some(()), Some(_)) => Err(
@@ -202,10 +245,34 @@ impl Choices {
             self.centre.map(|[x, y]| format!("centre {x} {y}")),
             self.guess_centre.map(|()| "guess-centre".into()),
             self.centre_within.map(|pixels| format!("centre-within {pixels}")),
+            self.lens.map(lens_line),
+            self.lens_within.map(|p| format!("lens-within {p}")),
+            self.tangential.map(|()| "tangential".into()),
+            self.mirrored.map(|()| "mirrored".into()),
             self.max_tilt.map(|tilt| format!("max-tilt {tilt}rad")),
             self.max_mean.map(|pixels| format!("max-mean {pixels}")),
         ];
         lines.into_iter().flatten().collect()
+    }
+
+    /// What is said of the lens for the bounds.
+    #[must_use]
+    pub fn lens(&self) -> Lens {
+        match (self.lens, self.lens_within) {
+            (_, Some(most)) => Lens::Within(most),
+            (Some(_), None) => Lens::Exact,
+            (None, None) => Lens::Open,
+        }
+    }
+
+    /// What is said of it for the solution.
+    #[must_use]
+    pub fn model(&self) -> Model {
+        let lens = match self.lens {
+            Some(StatedLens::Known(lens)) => lens,
+            Some(StatedLens::Straight) | None => BrownConrady5::default(),
+        };
+        Model { lens, tangential: self.tangential.is_some() }
     }
 
     /// Service's limits.
@@ -224,8 +291,33 @@ fn put<T>(place: &mut Option<T>, value: T) -> Result<(), String> {
 }
 
 fn number(text: &str) -> Result<f64, String> {
-    let number = text.parse().ok().filter(|x: &f64| x.is_finite());
-    number.ok_or(format!("`{text}` isn't a finite number"))
+    let number = typed::number(text).filter(|x| x.is_finite());
+    number.ok_or_else(|| format!("`{}` isn't a finite number", shown(text)))
+}
+
+/// `exact`, or five numbers in OpenCV's order.
+fn lens(text: &str) -> Result<StatedLens, String> {
+    if text == "exact" {
+        return Ok(StatedLens::Straight);
+    }
+    let numbers: Vec<f64> =
+        text.split(',').map(|word| number(word.trim())).collect::<Result<_, _>>()?;
+    let [k1, k2, p1, p2, k3] = numbers[..] else {
+        return Err(format!(
+            "`{}` is neither `exact` nor five numbers, K1,K2,P1,P2,K3",
+            shown(text)
+        ));
+    };
+    Ok(StatedLens::Known(BrownConrady5 { k1, k2, k3, p1, p2 }))
+}
+
+fn lens_line(lens: StatedLens) -> String {
+    match lens {
+        StatedLens::Straight => "lens exact".into(),
+        StatedLens::Known(BrownConrady5 { k1, k2, k3, p1, p2 }) => {
+            format!("lens {k1},{k2},{p1},{p2},{k3}")
+        }
+    }
 }
 
 fn not_below_0(text: &str) -> Result<f64, String> {
@@ -238,15 +330,25 @@ fn above_0(value: f64) -> Result<f64, String> {
     if value > 0.0 { Ok(value) } else { Err("it isn't above 0".into()) }
 }
 
+/// The library's own limit, told before anything is planned.
+fn bound(text: &str) -> Result<f64, String> {
+    let bound = above_0(angle::parse(text)?)?;
+    if bound <= MAX_BOUND {
+        Ok(bound)
+    } else {
+        Err(format!("`{}` is above {MAX_BOUND}rad, which is 28.6°", shown(text)))
+    }
+}
+
 fn rounds(text: &str) -> Result<usize, String> {
     let rounds = text.parse().ok().filter(|rounds| *rounds <= 16);
-    rounds.ok_or(format!("`{text}` isn't a whole number from 0 to 16"))
+    rounds.ok_or_else(|| format!("`{}` isn't a whole number from 0 to 16", shown(text)))
 }
 
 fn per_cent(text: &str) -> Result<usize, String> {
     let number = text.strip_suffix('%').unwrap_or(text).trim_end().parse().ok();
     let number = number.filter(|number| *number <= 100);
-    number.ok_or(format!("`{text}` isn't a whole per cent from 0 to 100"))
+    number.ok_or_else(|| format!("`{}` isn't a whole per cent from 0 to 100", shown(text)))
 }
 
 fn tilts(text: &str) -> Result<Vec<f64>, String> {
@@ -272,7 +374,7 @@ pub fn parse_seeds(
         text.lines().enumerate().map(|(i, line)| (i, line.split('#').next().unwrap_or("").trim()));
     let seeds = lines.filter(|(_, line)| !line.is_empty()).map(|(i, line)| {
         let seed = seed(line, base, options)
-            .map_err(|fault| format!("line {}: read `{line}`; {fault}", i + 1))?;
+            .map_err(|fault| format!("line {}: read `{}`; {fault}", i + 1, shown(line)))?;
         Ok((Source::SeedFile, seed))
     });
     let seeds = seeds.collect::<Result<Vec<_>, String>>()?;
@@ -335,12 +437,14 @@ mod tests {
 
     #[test]
     fn what_the_host_needs_again_is_read_back() {
-        let text = "centre 655.1 -0.5\ncentre-within 2\nmax-tilt 1.5deg\nmax-mean 0.1\nrounds 3\n";
+        let text = "centre 655.1 -0.5\ncentre-within 2\nlens -0.1, 0.02, 1e-3, 0, 1e-300\nlens-within 0.001\nmirrored\nmax-tilt 1.5deg\nmax-mean 0.1\nrounds 3\n";
         let choices = Choices::parse(text).unwrap();
         let again = Choices::parse(&choices.host_lines().join("\n")).unwrap();
         assert_eq!(again, Choices { rounds: None, ..choices });
-        let guessed = Choices::parse("guess-centre").unwrap();
-        assert_eq!(Choices::parse(&guessed.host_lines().join("\n")), Ok(guessed));
+        for text in ["guess-centre", "lens exact", "tangential"] {
+            let choices = Choices::parse(text).unwrap();
+            assert_eq!(Choices::parse(&choices.host_lines().join("\n")), Ok(choices));
+        }
     }
 
     #[test]
@@ -353,9 +457,12 @@ mod tests {
             ("centre 1 2 3", "`3` is too much for centre"),
             ("no-decomposition 1", "`1` is too much for no-decomposition"),
             ("step 0", "it isn't above 0"),
+            ("bound 0.50001rad", "`0.50001rad` is above 0.5rad, which is 28.6°"),
             ("min-counted 101", "`101` isn't a whole per cent from 0 to 100"),
             ("min-counted 0.5", "`0.5` isn't a whole per cent from 0 to 100"),
             ("step 1deg\nstep 1deg", "line 2: read `step 1deg`; it is stated twice"),
+            ("lens 1,2,3,4", "`1,2,3,4` is neither `exact` nor five numbers, K1,K2,P1,P2,K3"),
+            ("lens none", "`none` isn't a finite number"),
         ] {
             let told = Choices::parse(text).unwrap_err();
             assert!(told.contains(fault), "{told}");
@@ -370,6 +477,22 @@ mod tests {
             ["0", "75", "100%", "75 %"].map(|n| min_counted(&format!("min-counted {n}"))),
             [0, 75, 100, 75]
         );
+    }
+
+    #[test]
+    fn what_is_said_of_the_lens_goes_together() {
+        let choices = |text: &str| Choices::parse(text).unwrap();
+        assert_eq!(choices("").lens(), Lens::Open);
+        assert_eq!(choices("lens exact").lens(), Lens::Exact);
+        assert_eq!(choices("lens 1,2,3,4,5").lens(), Lens::Exact);
+        assert_eq!(choices("lens 1,2,3,4,5\nlens-within 0.1").lens(), Lens::Within(0.1));
+        assert_eq!(choices("lens 1,2,3,4,5").model().lens.k3, 5.0);
+        assert!(choices("tangential").model().tangential);
+        for text in
+            ["lens exact\nlens-within 0.1", "lens 1,2,3,4,5\ntangential", "lens exact\ntangential"]
+        {
+            assert!(choices(text).check().unwrap_err().ends_with("eave one of the two out"));
+        }
     }
 
     #[test]

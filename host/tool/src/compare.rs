@@ -5,7 +5,9 @@ use crate::journal::is_same_seed;
 use crate::stretches::winner_text;
 use crate::table::letter;
 use jinnychair::Winner;
-use jinnychair::journal::{Line, Recorded, ScoredFields, StoredInputs, stretch_winner};
+use jinnychair::journal::{
+    HostVersion, Line, Recorded, ScoredFields, StoredInputs, stretch_winner,
+};
 
 /// What was found, line by line in words, and whether anything differs.
 #[derive(Clone, Debug, Default, PartialEq, Eq)]
@@ -58,6 +60,12 @@ const NAMES: &[&str] = &[
 pub fn inputs(a: &StoredInputs, b: &StoredInputs, found: &mut Comparison) {
     if a.library != b.library {
         found.say("versions", &format!("{} and {}", a.library, b.library));
+    }
+    if a.host != b.host {
+        let name = |host: &Option<HostVersion>| {
+            host.as_ref().map_or("not named".into(), HostVersion::to_string)
+        };
+        found.say("hosts", &format!("{} and {}", name(&a.host), name(&b.host)));
     }
     let texts = [a.text(), b.text()];
     let mut is_same = true;

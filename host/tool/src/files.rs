@@ -1,13 +1,12 @@
-//! Files that are read with their faults named, and written whole or not at all.
+//! Files that are read, with their faults named.
 
 use jinnychair::journal::sha256;
 use std::ffi::OsString;
 use std::fs;
-use std::io;
-use std::os::unix::fs::MetadataExt;
+use std::os::unix::ffi::{OsStrExt, OsStringExt};
 use std::path::{Path, PathBuf};
 
-/// The text of a file, without a mark of UTF-8 in front.
+/// The text of a file: without a mark of UTF-8 in front, each line's end a line feed.
 ///
 /// # Errors
 ///
@@ -22,21 +21,79 @@ pub fn read(path: &Path) -> Result<String, String> {
 ///
 /// As [`read`].
 pub fn read_with_checksum(path: &Path) -> Result<(String, String), String> {
-    let fault = |cause: &str| format!("{}: {cause}", path.display());
-    let bytes = fs::read(path)
-        .map_err(|error| fault(&format!("can't be read: {error}. Check the name")))?;
-    if bytes.starts_with(&[0xff, 0xfe]) || bytes.starts_with(&[0xfe, 0xff]) {
-        return Err(fault("the text is UTF-16. Save it as UTF-8"));
-    }
+    let bytes = read_bytes(path)?;
     let checksum = sha256(&bytes);
+    let text = text_of(bytes).map_err(|fault| format!("{}: {fault}", path.display()))?;
+    Ok((text, checksum))
+}
+
+/// A file's bytes.
+///
+/// # Errors
+///
+/// Names the file and why it can't be read.
+pub fn read_bytes(path: &Path) -> Result<Vec<u8>, String> {
+    fs::read(path)
+        .map_err(|error| format!("{}: can't be read: {error}. Check the name", path.display()))
+}
+
+/// The text that bytes are.
+///
+/// # Errors
+///
+/// Says what they are instead, and what to do.
+pub fn text_of(bytes: Vec<u8>) -> Result<String, String> {
+    if let Some(foreign) = foreign(&bytes) {
+        return Err(foreign);
+    }
     let text = String::from_utf8(bytes).map_err(|error| {
         let before = &error.as_bytes()[..error.utf8_error().valid_up_to()];
         let line = 1 + before.iter().filter(|byte| **byte == b'\n').count();
-        fault(&format!(
-            "line {line}: a byte that isn't UTF-8. Save the file as plain text in UTF-8"
-        ))
+        format!("line {line}: a byte that isn't UTF-8. Save the file as plain text in UTF-8")
     })?;
-    Ok((text.strip_prefix('\u{feff}').unwrap_or(&text).to_owned(), checksum))
+    let text = text.strip_prefix('\u{feff}').unwrap_or(&text);
+    Ok(if text.contains('\r') {
+        text.replace("\r\n", "\n").replace('\r', "\n")
+    } else {
+        text.to_owned()
+    })
+}
+
+/// What the Python package does with files of other programs.
+const PHOTOGRAPHS: &str =
+    "`python -m jinnychair photographs FILES --grid 14x5 --pitch 20` finds the dots in photographs";
+const CONVERT: &str = "`python -m jinnychair convert FILE views.txt` makes views of it";
+
+/// How files of other kinds begin, what they are, and what reads them.
+const FOREIGN: &[(&[u8], &str, &str)] = &[
+    (b"\x89PNG\r\n\x1a\n", "a PNG picture", PHOTOGRAPHS),
+    (b"\xff\xd8\xff", "a JPEG picture", PHOTOGRAPHS),
+    (b"II*\0", "a TIFF picture", PHOTOGRAPHS),
+    (b"MM\0*", "a TIFF picture", PHOTOGRAPHS),
+    (b"GIF8", "a GIF picture", PHOTOGRAPHS),
+    (b"BM", "a BMP picture", PHOTOGRAPHS),
+    (b"P5", "a PGM picture", PHOTOGRAPHS),
+    (b"P6", "a PPM picture", PHOTOGRAPHS),
+    (b"%PDF", "a PDF document", "Save the numbers in it as text"),
+    (b"%YAML", "a YAML file, as OpenCV's FileStorage writes it", CONVERT),
+    (b"<?xml", "an XML file, as OpenCV's FileStorage writes it", CONVERT),
+    (b"<opencv_storage", "a file of OpenCV's FileStorage", CONVERT),
+    (b"{", "a JSON file, as OpenCV's FileStorage writes it", CONVERT),
+    (
+        b"PK\x03\x04",
+        "a ZIP archive or an office document",
+        "Save its table as text, numbers parted by spaces",
+    ),
+    (b"\x1f\x8b", "a gzip archive", "Unpack it with `gunzip`"),
+    (b"\xff\xfe", "text in UTF-16", "Save it as UTF-8"),
+    (b"\xfe\xff", "text in UTF-16", "Save it as UTF-8"),
+];
+
+/// What bytes are that aren't this program's, told by how they begin, and the command that reads them.
+fn foreign(bytes: &[u8]) -> Option<String> {
+    let text = bytes.strip_prefix(b"\xef\xbb\xbf").unwrap_or(bytes);
+    let (_, what, remedy) = FOREIGN.iter().find(|(head, ..)| text.starts_with(head))?;
+    Some(format!("this is {what}. {remedy}"))
 }
 
 /// A name with an ending; neither a dot in it nor an ending of another kind is cut off.
@@ -47,86 +104,92 @@ pub fn with_ending(name: &Path, ending: &str) -> PathBuf {
     name.into()
 }
 
-/// Refuses to write over an input, or over a file that doesn't begin as this program's own do.
-///
-/// # Errors
-///
-/// Names the file and what to do.
-pub fn check_free(path: &Path, inputs: &[&Path], own: &str) -> Result<(), String> {
-    let identity = |path: &Path| fs::metadata(path).ok().map(|about| (about.dev(), about.ino()));
-    let there = identity(path);
-    if there.is_some() && inputs.iter().any(|input| identity(input) == there) {
-        return Err(format!(
-            "{}: this is an input, and would be written over. Name another with --out",
-            path.display()
-        ));
-    }
-    let is_own = |bytes: Vec<u8>| bytes.is_empty() || bytes.starts_with(own.as_bytes());
-    // What isn't there, or can't be read, is found out when it is written.
-    if !fs::read(path).map_or(true, is_own) {
-        return Err(format!(
-            "{}: there is such a file, and this program didn't write it. Name another with --out, or move it away",
-            path.display()
-        ));
-    }
-    Ok(())
+/// A file's name as text from which [`named`] finds it again: each byte that isn't text in UTF-8, or that would move a terminal's
+/// cursor, is written as `\xNN`.
+#[must_use]
+pub fn name_text(name: &Path) -> String {
+    let chunks = name.as_os_str().as_bytes().utf8_chunks();
+    let escape =
+        |bytes: &[u8]| bytes.iter().map(|byte| format!("\\x{byte:02x}")).collect::<String>();
+    chunks
+        .flat_map(|chunk| {
+            let letters = chunk.valid().chars().map(|letter| match letter {
+                letter if letter.is_control() => escape(letter.to_string().as_bytes()),
+                letter => letter.to_string(),
+            });
+            letters.chain([escape(chunk.invalid())]).collect::<Vec<_>>()
+        })
+        .collect()
 }
 
-/// Writes a file under a temporary name beside its own, then gives it its name. On a failure no temporary file stays
-/// behind, and an older file of that name stays as it was.
-///
-/// # Errors
-///
-/// Names the file that couldn't be written, why, and what to do.
-pub fn write(path: &Path, text: &str) -> Result<(), String> {
-    let written = unfinished_name(path).and_then(|unfinished| {
-        let renamed = fs::write(&unfinished, text).and_then(|()| fs::rename(&unfinished, path));
-        if renamed.is_err() {
-            let _ = fs::remove_file(&unfinished);
+/// The name that [`name_text`] wrote as text.
+#[must_use]
+pub fn named(text: &str) -> PathBuf {
+    let mut bytes = vec![];
+    let mut left = text;
+    while let Some((before, after)) = left.split_once("\\x") {
+        bytes.extend(before.as_bytes());
+        let digits = after.get(..2).and_then(|digits| u8::from_str_radix(digits, 16).ok());
+        match digits {
+            Some(byte) => bytes.push(byte),
+            None => bytes.extend(b"\\x"),
         }
-        renamed
-    });
-    written.map_err(|error| {
-        format!(
-            "{}: can't be written: {error}. Name another place with --out, or make room there",
-            path.display()
-        )
-    })
-}
-
-/// A hidden name in the same folder, so that renaming moves no data.
-fn unfinished_name(path: &Path) -> io::Result<PathBuf> {
-    let mut hidden = OsString::from(".");
-    hidden.push(path.file_name().ok_or(io::ErrorKind::InvalidFilename)?);
-    hidden.push(format!(".{}", std::process::id()));
-    Ok(path.with_file_name(hidden))
+        left = if digits.is_some() { &after[2..] } else { after };
+    }
+    bytes.extend(left.as_bytes());
+    OsString::from_vec(bytes).into()
 }
 
 #[cfg(test)]
 mod tests {
     use super::*;
-
-    #[test]
-    fn nothing_stays_behind_and_nothing_foreign_is_written_over() {
-        let folder = std::env::temp_dir().join(format!("jinnychair-files-{}", std::process::id()));
-        fs::create_dir_all(folder.join("taken")).unwrap();
-        let (good, taken) = (folder.join("good"), folder.join("taken"));
-        let fault = write(&taken, "text").unwrap_err();
-        assert!(fault.starts_with(&format!("{}: can't be written", taken.display())), "{fault}");
-        assert!(write(&folder.join("missing/bad"), "text").is_err());
-        write(&good, "own text").unwrap();
-        assert_eq!(fs::read_dir(&folder).unwrap().count(), 2);
-        assert_eq!(check_free(&good, &[], "own"), Ok(()));
-        assert!(check_free(&good, &[], "other").unwrap_err().contains("didn't write it"));
-        let linked = folder.join("linked");
-        std::os::unix::fs::symlink(&good, &linked).unwrap();
-        assert!(check_free(&good, &[&linked], "own").unwrap_err().contains("this is an input"));
-        assert_eq!(check_free(&folder.join("new"), &[&good], "own"), Ok(()));
-        fs::remove_dir_all(&folder).unwrap();
-    }
+    use std::ffi::OsStr;
 
     #[test]
     fn endings_are_added() {
         assert_eq!(with_ending(Path::new("a.b.c"), ".svg"), Path::new("a.b.c.svg"));
+    }
+
+    #[test]
+    fn names_that_are_no_text_are_read_back() {
+        for (name, expected) in [
+            (&b"caf\xe9 1\nb.txt"[..], "caf\\xe9 1\\x0ab.txt"),
+            ("plain é.txt".as_bytes(), "plain é.txt"),
+            (b"\xff\\x", "\\xff\\x"),
+            (b"\xc2\x9bm", "\\xc2\\x9bm"),
+        ] {
+            let path = Path::new(OsStr::from_bytes(name));
+            let text = name_text(path);
+            assert_eq!((&text[..], named(&text).as_path()), (expected, path));
+        }
+    }
+
+    #[test]
+    fn every_end_of_a_line_is_taken() {
+        let text = |bytes: &[u8]| text_of(bytes.to_vec());
+        assert_eq!(text(b"\xef\xbb\xbfa\r\nb\rc\n"), Ok("a\nb\nc\n".into()));
+        assert!(text(b"a\n\xff").unwrap_err().starts_with("line 2: a byte that isn't UTF-8"));
+    }
+
+    #[test]
+    fn files_of_other_programs_are_called_what_they_are() {
+        for (bytes, what) in [
+            (
+                &b"\x89PNG\r\n\x1a\n...."[..],
+                "this is a PNG picture. `python -m jinnychair photographs",
+            ),
+            (b"\xff\xd8\xff\xe0", "this is a JPEG picture"),
+            (b"%PDF-1.7\n", "this is a PDF document. Save the numbers in it as text"),
+            (
+                b"%YAML:1.0\n---\n",
+                "this is a YAML file, as OpenCV's FileStorage writes it. `python -m jinnychair convert",
+            ),
+            (b"\xef\xbb\xbf<?xml version=\"1.0\"?>\n<opencv_storage>", "this is an XML file"),
+            (b"{\"views\": []}", "this is a JSON file"),
+            (b"\xff\xfev\0", "this is text in UTF-16. Save it as UTF-8"),
+        ] {
+            let told = text_of(bytes.to_vec()).unwrap_err();
+            assert!(told.starts_with(what), "{told}");
+        }
     }
 }

@@ -2,10 +2,10 @@
 
 use crate::choices::Choices;
 use crate::drive::{Source, of_lines};
+use crate::files::read_bytes;
 use crate::table::Record;
 use jinnychair::journal::{JournalError, Line, StoredInputs, inputs_path, lines};
-use jinnychair::{Handed, Search, Seed};
-use std::fs;
+use jinnychair::{LineRefusal, Seed};
 use std::path::Path;
 
 /// How a journal ends behind its lines.
@@ -26,6 +26,8 @@ pub struct Journal {
     pub lines: Vec<Line>,
     /// What follows them.
     pub ending: Ending,
+    /// What another program did to the file, if that is seen.
+    pub changed: Option<(&'static str, &'static str)>,
 }
 
 impl Journal {
@@ -41,17 +43,35 @@ impl Journal {
     /// Reads a journal's bytes.
     #[must_use]
     pub fn parse(bytes: &[u8]) -> Self {
-        let (mut good, mut left) = (vec![], lines(bytes));
+        let (mut good, mut left, changed) = (vec![], lines(bytes), changed(bytes));
         let ending = loop {
             let at = left.position();
             match left.next() {
                 None => break Ending::Whole,
                 Some(Ok(line)) => good.push(line),
-                Some(Err(error)) if bytes[at..].contains(&b'\n') => break Ending::Bad(error),
+                Some(Err(error)) if changed.is_some() || !is_cut(&bytes[at..]) => {
+                    break Ending::Bad(error);
+                }
                 Some(Err(error)) => break Ending::Cut(error.line),
             }
         };
-        Self { lines: good, ending }
+        Self { lines: good, ending, changed }
+    }
+
+    /// The first line that isn't one, counted from 1, and why; a last line that was cut off is none of these.
+    #[must_use]
+    pub fn bad_line(&self) -> Option<(usize, String)> {
+        let Ending::Bad(error) = self.ending else { return None };
+        let (why, remedy) = self.not_a_line();
+        Some((error.line, format!("{why}. {remedy}")))
+    }
+
+    /// Why a line isn't one, with the number, and what to do.
+    #[must_use]
+    pub fn not_a_line(&self) -> (String, &'static str) {
+        let refusal = LineRefusal::NotALine;
+        let (why, remedy) = self.changed.unwrap_or((refusal.fault(), refusal.remedy()));
+        (format!("{why} ({})", refusal.number()), remedy)
     }
 
     /// What is to be said of the end, if anything.
@@ -62,19 +82,41 @@ impl Journal {
             Ending::Cut(line) => Some(format!(
                 "line {line} has no end: it was cut off, or is being written. It is left out"
             )),
-            Ending::Bad(error) => Some(format!("{error} It and all that follows are left out")),
+            Ending::Bad(_) => self.bad_line().map(|(line, why)| {
+                format!("line {line}: {why} It and all that follows are left out")
+            }),
         }
     }
 }
 
-/// A journal's bytes.
-///
-/// # Errors
-///
-/// Names the file and why it can't be read.
-pub fn read_bytes(path: &Path) -> Result<Vec<u8>, String> {
-    fs::read(path)
-        .map_err(|error| format!("{}: can't be read: {error}. Check the name", path.display()))
+/// Whether what follows the last line's end is the beginning of a line, which is shorter than this.
+#[must_use]
+pub fn is_cut(rest: &[u8]) -> bool {
+    const LONGEST_LINE: usize = 256;
+    rest.len() < LONGEST_LINE && !rest.contains(&b'\n')
+}
+
+/// What another program did to a file of this one's, if that is seen in its bytes, and what to do.
+fn changed(bytes: &[u8]) -> Option<(&'static str, &'static str)> {
+    if bytes.starts_with(b"\xef\xbb\xbf") {
+        return Some((
+            "the file begins with a byte order mark (BOM), so another program saved it",
+            "Take the one that the search wrote.",
+        ));
+    }
+    let returns = bytes.iter().filter(|byte| **byte == b'\r').count();
+    let ends = bytes.windows(2).filter(|pair| pair == b"\r\n").count();
+    match (returns, ends) {
+        (0, _) => None,
+        (_, 0) => Some((
+            "its lines end with CR alone, so another program saved it",
+            "`tr '\\r' '\\n' < FILE > NEW` takes that back.",
+        )),
+        _ => Some((
+            "its lines end with CR LF, so another program or a transfer as text changed it",
+            "`tr -d '\\r' < FILE > NEW` takes that back.",
+        )),
+    }
 }
 
 /// The inputs beside a journal.
@@ -84,48 +126,13 @@ pub fn read_bytes(path: &Path) -> Result<Vec<u8>, String> {
 /// Names the file and what is wrong with it.
 pub fn read_inputs(journal: &Path) -> Result<StoredInputs, String> {
     let beside = inputs_path(journal);
-    StoredInputs::load(journal).map_err(|error| format!("{}: {error}", beside.display()))
-}
-
-/// Whether the inputs lead to the journal's first line.
-///
-/// # Errors
-///
-/// Says what they lead to instead.
-pub fn check_belonging(inputs: &StoredInputs, lines: &[Line]) -> Result<(), String> {
-    let Some(first) = lines.first() else { return Ok(()) };
-    let start = Search::start(&inputs.inputs());
-    let mut search = start.map_err(|error| format!("no search can start from them: {error}"))?;
-    let text = |seed: &Seed| seed.numbers().map(|number| number.to_string()).join(" ");
-    match search.next() {
-        Ok(Handed::Candidate { number, seed }) => {
-            if number == first.number && first.round == 0 && is_same_seed(&seed, &first.seed) {
-                return Ok(());
-            }
-            Err(format!(
-                "they belong to another journal: they lead to candidate 0 with the seed {}, and the first line is candidate {} \
-                 with {}",
-                text(&seed),
-                first.number,
-                text(&first.seed)
-            ))
+    StoredInputs::load(journal).map_err(|error| {
+        let changed = read_bytes(&beside).ok().and_then(|bytes| changed(&bytes));
+        match changed {
+            Some((why, remedy)) => format!("{}: {why}. {remedy}", beside.display()),
+            None => format!("{}: {error}", beside.display()),
         }
-        _ => Err("they belong to another journal: they lead to no seed at all".into()),
-    }
-}
-
-/// Whether the inputs beside a journal, if there are any, are whole and its own.
-///
-/// # Errors
-///
-/// Names their file, and what is wrong with it.
-pub fn check_beside(path: &Path, lines: &[Line]) -> Result<(), String> {
-    let beside = inputs_path(path);
-    if !beside.exists() {
-        return Ok(());
-    }
-    let named = |fault: String| format!("{}: {fault}", beside.display());
-    read_inputs(path).and_then(|inputs| check_belonging(&inputs, lines).map_err(named))
+    })
 }
 
 /// Bit by bit; any NaN is any other.
@@ -195,4 +202,10 @@ pub fn record(inputs: &StoredInputs, lines: &[Line]) -> Record {
     let mut record = about(inputs);
     record.tried = of_lines(lines, (&inputs.decomposition, &sources(inputs)));
     record
+}
+
+/// The same without the inputs: where a first-round seed comes from isn't known.
+#[must_use]
+pub fn record_of_lines(lines: &[Line]) -> Record {
+    Record { tried: of_lines(lines, (&[], &[])), ..Record::default() }
 }

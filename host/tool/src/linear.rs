@@ -104,6 +104,42 @@ pub fn least_squares_2(rows: &[[f64; 3]]) -> Option<[f64; 2]> {
     x.iter().all(|entry| entry.is_finite()).then_some(x)
 }
 
+/// The lower triangular factor L of a symmetric matrix L × Lᵀ (Cholesky); nothing where it isn't positive definite. The
+/// lower half is read.
+pub fn factor<const N: usize>(a: &[[f64; N]; N]) -> Option<[[f64; N]; N]> {
+    let mut l = [[0.0; N]; N];
+    for i in 0..N {
+        for j in 0..=i {
+            let rest = a[i][j] - (0..j).map(|k| l[i][k] * l[j][k]).sum::<f64>();
+            if i > j {
+                l[i][j] = rest / l[j][j];
+            } else if rest > 0.0 && rest.is_finite() {
+                l[i][i] = rest.sqrt();
+            } else {
+                return None;
+            }
+        }
+    }
+    Some(l)
+}
+
+/// The x with L × x = b.
+pub fn solve_lower<const N: usize>(l: &[[f64; N]; N], mut b: [f64; N]) -> [f64; N] {
+    for i in 0..N {
+        b[i] = (b[i] - (0..i).map(|k| l[i][k] * b[k]).sum::<f64>()) / l[i][i];
+    }
+    b
+}
+
+/// The x with L × Lᵀ × x = b.
+pub fn solve_factored<const N: usize>(l: &[[f64; N]; N], b: [f64; N]) -> [f64; N] {
+    let mut b = solve_lower(l, b);
+    for i in (0..N).rev() {
+        b[i] = (b[i] - (i + 1..N).map(|k| l[k][i] * b[k]).sum::<f64>()) / l[i][i];
+    }
+    b
+}
+
 #[cfg(test)]
 mod tests {
     use super::*;
@@ -132,5 +168,15 @@ mod tests {
         let x = least_squares_2(&[[1.0, 0.0, 2.0], [0.0, 1.0, 3.0], [1.0, 1.0, 5.0]]).unwrap();
         assert_eq!(x, [2.0, 3.0]);
         assert_eq!(least_squares_2(&[[1.0, 1.0, 1.0], [2.0, 2.0, 2.0]]), None);
+    }
+
+    #[test]
+    fn a_factor_solves_its_equations_and_an_indefinite_matrix_has_none() {
+        let a = [[4.0, 1.0, -2.0], [1.0, 3.0, 0.5], [-2.0, 0.5, 2.0]];
+        let x = solve_factored(&factor(&a).unwrap(), [1.0, 2.0, 3.0]);
+        for (row, expected) in a.iter().zip([1.0, 2.0, 3.0]) {
+            assert!((dot(row, &x) - expected).abs() < 1e-12);
+        }
+        assert_eq!(factor(&[[1.0, 2.0], [2.0, 1.0]]), None);
     }
 }

@@ -1,23 +1,31 @@
-//! How far a winner's tilts are left open: by the last step, by noise, and by an error of the stated centre.
+//! How far the lean and the winner's tilts are left open: by noise, by a lens that nobody stated, by an error of the stated
+//! centre, and the winner by its distance from the lean, which has the search's steps and its penalty in it.
 
+use crate::distribution::COVERED;
+use crate::lean::{Lean, OFF_LEVEL};
 use crate::plan::Plan;
-use crate::residuals::Fit;
-use crate::solve::Host;
-use jinnychair::{FxFyCxCy, ScheimpflugParams, Seed, TiltTrig, Winner};
-
-/// How far from the winner its errors are looked at, in radians.
-const ASIDE: f64 = 0.002;
+use crate::views::MOST_SCORED;
+use jinnychair::{FxFyCxCy, ScheimpflugParams, Winner};
 
 /// What is left open of each tilt (x, y), in radians.
 #[derive(Clone, Copy, Debug, PartialEq)]
 pub struct Open {
-    /// By the steps of the search.
-    pub steps: [f64; 2],
-    /// By noise in the pixels, two standard deviations; nothing where the errors don't rise around the winner. A tilt
-    /// that is held has none.
+    /// The lean; nothing without views, or where they determine none.
+    pub lean: Option<[f64; 2]>,
+    /// Of the lean by noise in the pixels, if the lens is as stated; nothing where the views don't determine it.
     pub noise: Option<[f64; 2]>,
-    /// For each pixel by which the stated centre is off: tilt x for its y, tilt y for its x.
-    pub per_pixel: [f64; 2],
+    /// What a lens adds of which nothing is said, or less than that it is exact; nothing where it is exact.
+    pub lens: Option<[f64; 2]>,
+    /// The winner's tilts.
+    pub won: [f64; 2],
+    /// Of the winner by noise, the lens, and its distance from the lean.
+    pub winner: Option<[f64; 2]>,
+    /// How far from the lean the steps, the penalty and noise explain that the winner lies.
+    pub explained: Option<[f64; 2]>,
+    /// The search's last steps.
+    pub steps: [f64; 2],
+    /// How tilt x and tilt y move with the held centre's x and y, in radians a pixel.
+    pub by_centre: [[f64; 2]; 2],
     /// How many pixels the stated centre may be off, if that is known.
     pub centre_within: Option<f64>,
     /// Where tilt y is held at 0, what the views say of it.
@@ -27,32 +35,37 @@ pub struct Open {
 /// What the views say of a tilt y that is held at 0.
 #[derive(Clone, Copy, Debug, PartialEq)]
 pub struct Held {
-    /// The tilt y at which the errors would be smallest, and two standard deviations of it, in radians; nothing where
-    /// the errors don't rise around the winner.
+    /// The tilt y at which the errors would be smallest, and what noise and the lens leave open of it at the level of a test, in
+    /// radians; nothing where the views don't determine it.
     pub wanted: Option<[f64; 2]>,
 }
 
 impl Open {
-    /// What is left open of a winner.
+    /// What is left open of a winner and of the lean beside it.
+    ///
+    /// A tilt y that is held at 0 is free in the lean: what tilt x lies off because of it is in the bound.
     #[must_use]
-    pub fn new(
-        host: &Host,
-        winner: &Winner,
-        seed: &Seed,
-        plan: &Plan,
-        centre_within: Option<f64>,
-    ) -> Self {
-        let valley = Valley::around(host, seed);
-        let of_both = valley.as_ref().and_then(Valley::noise);
-        let of_x = valley.as_ref().and_then(Valley::noise_of_x).map(|noise| [noise, 0.0]);
+    pub fn new(winner: &Winner, lean: &Lean, plan: &Plan, centre_within: Option<f64>) -> Self {
+        let won = [winner.sensor.tilt_x, winner.sensor.tilt_y];
         let is_held = plan.axes[1].is_held;
-        let wanted = valley.as_ref().and_then(Valley::lowest_y).zip(of_both);
+        let of_x = |[x, y]: [f64; 2]| if is_held { [x, 0.0] } else { [x, y] };
+        let all = lean.bounds(lean.tilts());
+        let noise = lean.noise_share();
+        let more =
+            |(all, noise): ([f64; 2], [f64; 2])| [0, 1].map(|i| (all[i] - noise[i]).max(0.0));
+        let wanted = lean.bounds_at(lean.tilts(), 1.0 - OFF_LEVEL);
+        let held = Held { wanted: wanted.map(|bound| [lean.tilts()[1], bound[1]]) };
         Self {
+            lean: Some(lean.tilts()),
+            noise: noise.map(of_x),
+            lens: all.zip(noise).map(more).map(of_x).filter(|_| lean.open().is_some()),
+            won,
+            winner: lean.bounds(won).map(of_x),
+            explained: explained(lean, winner, plan).map(of_x),
             steps: plan.steps(),
-            noise: if is_held { of_x } else { of_both },
-            per_pixel: per_pixel(&winner.camera.k, winner.sensor),
+            by_centre: lean.plain.by_centre,
             centre_within,
-            held: is_held.then(|| Held { wanted: wanted.map(|(y, noise)| [y, noise[1]]) }),
+            held: is_held.then_some(held),
         }
     }
 
@@ -60,9 +73,14 @@ impl Open {
     #[must_use]
     pub fn without_views(winner: &Winner, plan: &Plan, centre_within: Option<f64>) -> Self {
         Self {
-            steps: plan.steps(),
+            lean: None,
             noise: None,
-            per_pixel: per_pixel(&winner.camera.k, winner.sensor),
+            lens: None,
+            won: [winner.sensor.tilt_x, winner.sensor.tilt_y],
+            winner: None,
+            explained: None,
+            steps: plan.steps(),
+            by_centre: by_centre(&winner.camera.k, winner.sensor),
             centre_within,
             held: plan.axes[1].is_held.then_some(Held { wanted: None }),
         }
@@ -70,116 +88,63 @@ impl Open {
 
     /// What the centre's tolerance leaves open of each tilt, if it is known.
     #[must_use]
-    pub fn by_centre(&self) -> Option<[f64; 2]> {
-        self.centre_within.map(|pixels| self.per_pixel.map(|slope| slope * pixels))
+    pub fn by_tolerance(&self) -> Option<[f64; 2]> {
+        let within = self.centre_within?;
+        let [x, y] = self.by_centre.map(|[by_x, by_y]| within * by_x.hypot(by_y));
+        Some([x, if self.held.is_some() { 0.0 } else { y }])
     }
 
-    /// All of it together, as far as it is known; of a tilt that is held, nothing.
+    /// How far the truth may lie from the lean, as far as it is known: by noise, the lens and the centre. Nothing where the
+    /// views don't determine it.
     #[must_use]
-    pub fn total(&self) -> [f64; 2] {
-        let [noise, centre] = [self.noise, self.by_centre()].map(Option::unwrap_or_default);
-        let [x, y] = [0, 1].map(|i| self.steps[i] + noise[i] + centre[i]);
+    pub fn lean_total(&self) -> Option<[f64; 2]> {
+        let parts =
+            [self.noise?, self.lens.unwrap_or_default(), self.by_tolerance().unwrap_or_default()];
+        Some([0, 1].map(|i| parts.iter().map(|part| part[i]).sum()))
+    }
+
+    /// How far the truth may lie from the winner, as far as it is known; without views, by the steps and the centre.
+    #[must_use]
+    pub fn winner_total(&self) -> [f64; 2] {
+        let centre = self.by_tolerance().unwrap_or_default();
+        let other = self.winner.unwrap_or(self.steps);
+        let [x, y] = [0, 1].map(|i| other[i] + centre[i]);
         [x, if self.held.is_some() { 0.0 } else { y }]
     }
+
+    /// How far the winner lies from the lean.
+    #[must_use]
+    pub fn off(&self) -> Option<[f64; 2]> {
+        let [x, y] = self.lean?;
+        let off_y = if self.held.is_some() { 0.0 } else { self.won[1] - y };
+        Some([self.won[0] - x, off_y])
+    }
+
+    /// The tilts that the headline names, with their bounds: the lean's, or where there is none the winner's.
+    #[must_use]
+    pub fn headline(&self) -> ([f64; 2], Option<[f64; 2]>) {
+        match self.lean {
+            Some(lean) => (lean, self.lean_total()),
+            None => (self.won, Some(self.winner_total())),
+        }
+    }
+}
+
+/// How far from the lean a winner may lie: the penalty pulls it, its steps end there, and its score isn't the squares, so that
+/// noise moves it otherwise by at most what it moves the lean.
+fn explained(lean: &Lean, winner: &Winner, plan: &Plan) -> Option<[f64; 2]> {
+    let is_held = plan.axes[1].is_held;
+    let pulled = lean.lowest_score(winner.mean_reproj_error, is_held)?;
+    let steps = lean.by_steps(plan.steps(), is_held)?;
+    let noise = lean.plain.bounds(lean.tilts(), COVERED)?;
+    // It is scored by some of the dots, where there are many.
+    let fewer = (lean.dots as f64 / MOST_SCORED as f64).max(1.0).sqrt();
+    Some([0, 1].map(|i| (pulled[i] - lean.tilts()[i]).abs() + steps[i] + fewer * noise[i]))
 }
 
 /// A tilted sensor is one without tilt whose centre is cx + fx·sin(tilt y)·cos(tilt x), cy − fy·sin(tilt x): where
 /// that is what is seen, a stated centre that is off moves the tilts.
-fn per_pixel(k: &FxFyCxCy, sensor: ScheimpflugParams) -> [f64; 2] {
+fn by_centre(k: &FxFyCxCy, sensor: ScheimpflugParams) -> [[f64; 2]; 2] {
     let [cos_x, cos_y] = [sensor.tilt_x, sensor.tilt_y].map(f64::cos);
-    [1.0 / (k.fy * cos_x), 1.0 / (k.fx * cos_x * cos_y)]
-}
-
-/// How the sum of squared errors curves around a seed (H), and how much each view pulls the tilts (its slope).
-struct Valley {
-    xx: f64,
-    xy: f64,
-    yy: f64,
-    pulls: [Vec<f64>; 2],
-}
-
-impl Valley {
-    /// Nothing where a fit beside the seed is missing.
-    fn around(host: &Host, seed: &Seed) -> Option<Self> {
-        let squares = |dx: f64, dy: f64| {
-            let ScheimpflugParams { tilt_x, tilt_y } = seed.sensor;
-            let sensor =
-                ScheimpflugParams { tilt_x: tilt_x + ASIDE * dx, tilt_y: tilt_y + ASIDE * dy };
-            // Beyond half a radian there is no sine, and no fit.
-            TiltTrig::try_from(sensor).ok()?;
-            host.fit(&Seed { sensor, ..*seed }).map(|fit| view_squares(&fit))
-        };
-        let sum = |squares: &[f64]| squares.iter().sum::<f64>();
-        let (at, left, right) = (squares(0.0, 0.0)?, squares(-1.0, 0.0)?, squares(1.0, 0.0)?);
-        let (down, up) = (squares(0.0, -1.0)?, squares(0.0, 1.0)?);
-        let square = ASIDE * ASIDE;
-        let corners = sum(&squares(1.0, 1.0)?) + sum(&squares(-1.0, -1.0)?)
-            - sum(&squares(1.0, -1.0)?)
-            - sum(&squares(-1.0, 1.0)?);
-        let pulls = |less: &[f64], more: &[f64]| -> Vec<f64> {
-            less.iter().zip(more).map(|(less, more)| (more - less) / (2.0 * ASIDE)).collect()
-        };
-        Some(Self {
-            xx: (sum(&right) + sum(&left) - 2.0 * sum(&at)) / square,
-            xy: corners / (4.0 * square),
-            yy: (sum(&up) + sum(&down) - 2.0 * sum(&at)) / square,
-            pulls: [pulls(&left, &right), pulls(&down, &up)],
-        })
-    }
-
-    fn determinant(&self) -> f64 {
-        self.xx * self.yy - self.xy * self.xy
-    }
-
-    /// Whether the errors rise on all sides.
-    fn has_floor(&self) -> bool {
-        self.xx > 0.0 && self.determinant() > 0.0
-    }
-
-    /// The pull of each view on each tilt, as H⁻¹ makes a tilt of it.
-    fn moved(&self) -> [Vec<f64>; 2] {
-        let Self { xx, xy, yy, pulls: [x, y] } = self;
-        let pairs = || x.iter().zip(y);
-        [
-            pairs().map(|(x, y)| (yy * x - xy * y) / self.determinant()).collect(),
-            pairs().map(|(x, y)| (xx * y - xy * x) / self.determinant()).collect(),
-        ]
-    }
-
-    /// Two standard deviations of each tilt, H⁻¹·S·H⁻¹, where S is how much the views differ in their pulls.
-    fn noise(&self) -> Option<[f64; 2]> {
-        self.has_floor().then(|| self.moved().map(|moved| 2.0 * deviation(&moved)))
-    }
-
-    /// The same of tilt x while tilt y is held.
-    fn noise_of_x(&self) -> Option<f64> {
-        (self.xx > 0.0).then(|| 2.0 * deviation(&self.pulls[0]) / self.xx)
-    }
-
-    /// How far in tilt y the lowest point lies.
-    fn lowest_y(&self) -> Option<f64> {
-        self.has_floor().then(|| -self.moved()[1].iter().sum::<f64>())
-    }
-}
-
-/// The standard deviation of a sum of these.
-fn deviation(parts: &[f64]) -> f64 {
-    let count = parts.len() as f64;
-    let mean = parts.iter().sum::<f64>() / count;
-    let squares: f64 = parts.iter().map(|part| (part - mean).powi(2)).sum();
-    (squares * count / (count - 1.0).max(1.0)).sqrt()
-}
-
-fn view_squares(fit: &Fit) -> Vec<f64> {
-    let mut squares = vec![0.0; fit.normals.len()];
-    for dot in &fit.dots {
-        squares[dot.view] += dot.size().powi(2);
-    }
-    squares
-}
-
-/// How many numbers the dots bring beyond those that are solved for: six a view, two focal lengths, two tilts.
-pub(crate) fn free_numbers(host: &Host) -> Option<f64> {
-    let solved = 6 * host.plate().views.len() + 4;
-    (2 * host.plate().dots()).checked_sub(solved).filter(|left| *left > 0).map(|left| left as f64)
+    [[0.0, 1.0 / (k.fy * cos_x)], [-1.0 / (k.fx * cos_x * cos_y), 0.0]]
 }

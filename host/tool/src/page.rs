@@ -6,23 +6,21 @@ mod html;
 
 use crate::again;
 use crate::angle::degrees;
-use crate::case::{Case, library_version};
+use crate::case::{Case, Judged, add_lean, library_version};
 use crate::chart::chart;
 use crate::date::now;
 use crate::drive::{self, Finished, last_step};
-use crate::journal::{self, Journal};
+use crate::journal;
 use crate::open::Open;
 use crate::plan::Plan;
 use crate::report::{self, Row};
-use crate::residuals::Fit;
 use crate::stretches::{self, Stretch, Won};
 use crate::table::{Record, SKIPS};
 use crate::verdict::{self, ONLY_BY_VIEWS, Point};
+use crate::walk::Walked;
 use html::{css_string, element, escaped, facts, list, paragraph, part, section, wide};
-use jinnychair::journal::{
-    EndedBy, Line, Resumed, StoredInputs, Views, inputs_path, sha256, what_differs,
-};
-use jinnychair::{LineRefusal, RunError, Search};
+use jinnychair::RunError;
+use jinnychair::journal::{Line, StoredInputs, Views, sha256};
 use std::path::Path;
 
 /// How a page begins.
@@ -59,7 +57,8 @@ pub struct Told<'a> {
     remark: Option<String>,
     plan: Plan,
     finished: Finished,
-    fit: Option<Fit>,
+    /// What the views say, where they are at hand.
+    judged: Option<Judged>,
     open: Option<Open>,
     /// How good it is.
     pub kind: Kind,
@@ -70,21 +69,27 @@ pub struct Told<'a> {
 }
 
 impl<'a> Told<'a> {
-    /// Gathers what a page tells from a journal's bytes, its inputs and, where they are at hand, its views.
+    /// Gathers what a page tells from a journal that was run again and, where they are asked for and at hand, its views.
     ///
     /// # Errors
     ///
     /// The journal isn't one that its inputs lead to.
-    pub fn new(
-        path: &Path,
-        bytes: &[u8],
-        inputs: &'a StoredInputs,
-        views: Option<&Path>,
-    ) -> Result<Self, String> {
-        let journal = Journal::parse(bytes);
-        let search = walked(path, bytes, inputs)?;
-        let case = again::plate(inputs, path, views)
-            .and_then(|plate| Case::of_inputs(inputs, plate, None));
+    pub fn new(walked: &'a Walked, views: Option<&Path>, with_views: bool) -> Result<Self, String> {
+        let (path, bytes, journal) = (walked.path.as_path(), &walked.bytes[..], &walked.journal);
+        let (Some(inputs), Some(search), true) =
+            (&walked.inputs, &walked.search, walked.is_the_runs())
+        else {
+            return Err(format!(
+                "{}: no page is made of such a journal. {}",
+                path.display(),
+                walked.text()
+            ));
+        };
+        let plate = match with_views {
+            true => again::plate(inputs, path, views),
+            false => Err("they weren't asked for".into()),
+        };
+        let case = plate.and_then(|plate| Case::of_inputs(inputs, plate, None));
         let case = match (case, views) {
             (Err(fault), Some(_)) => return Err(fault),
             (case, _) => case,
@@ -97,14 +102,14 @@ impl<'a> Told<'a> {
         let seeds: Vec<_> = sources.into_iter().zip(inputs.decomposition.iter().copied()).collect();
         let mut told = Self {
             name: path.file_name().unwrap_or(path.as_os_str()).display().to_string(),
-            sums: [sha256(bytes), sha256(inputs.text().as_bytes())],
+            sums: [walked.sha256().to_owned(), sha256(inputs.text().as_bytes())],
             len: bytes.len(),
             inputs,
             remark: journal.ending_text(),
-            lines: journal.lines,
+            lines: journal.lines.clone(),
             plan: Plan::new(&inputs.options, &seeds),
-            finished: drive::as_it_stands(&search, tried),
-            fit: None,
+            finished: drive::as_it_stands(search, tried),
+            judged: None,
             open: None,
             kind: Kind::Failed,
             head: String::new(),
@@ -129,8 +134,8 @@ impl<'a> Told<'a> {
         match case {
             Ok(case) => {
                 let judged = case.judge(&self.finished, &winner)?;
-                (self.fit, self.open) = (Some(judged.fit), Some(judged.open));
-                self.against = judged.against;
+                (self.open, self.against) = (Some(judged.open), judged.against.clone());
+                self.judged = Some(judged);
             }
             Err(why) => {
                 let choices = journal::choices(self.inputs)?;
@@ -152,6 +157,12 @@ impl<'a> Told<'a> {
         Ok(())
     }
 
+    /// How the search stands, what is left open, and what speaks against its winner.
+    #[must_use]
+    pub fn found(&self) -> (&Finished, Option<&Open>, &[Point]) {
+        (&self.finished, self.open.as_ref(), &self.against)
+    }
+
     /// Why the views aren't at hand, if they aren't.
     #[must_use]
     pub fn no_views(&self) -> Option<&str> {
@@ -170,6 +181,7 @@ impl<'a> Told<'a> {
             self.counts(),
             self.winners(typed),
             self.errors(),
+            self.without_views(),
             self.tried(),
             self.options(),
             self.versions(),
@@ -242,40 +254,56 @@ impl<'a> Told<'a> {
         ONLY_BY_VIEWS.iter().copied().chain(held).collect()
     }
 
+    /// The tilts that the verdict is about, in large figures: the lean, or where it isn't known the winner's.
+    fn headline(&self, open: &Open) -> String {
+        let ([x, y], bounds) = open.headline();
+        let name = if open.lean.is_some() { "lean" } else { "tilt" };
+        let tilt = |axis: &str, radians: f64, i: usize| {
+            let bound = bounds.map_or("not determined".into(), |b| format!("± {}°", degrees(b[i])));
+            let text = format!("{:+.4}° {bound}", radians.to_degrees());
+            let radians = format!("{radians:+.6} rad");
+            let [text, radians] = [text, radians].map(|text| text.replace('-', "−"));
+            format!("<div><span>{name} {axis}</span>{text}<span>{radians}</span></div>\n")
+        };
+        let y = match open.held {
+            None => tilt("y", y, 1),
+            Some(_) => format!("<div><span>{name} y</span>held at 0°</div>\n"),
+        };
+        format!("<div class=\"tilts\">\n{}{y}</div>\n", tilt("x", x, 0))
+    }
+
     fn winner(&self) -> String {
         let (Ok(winner), Some(open)) = (&self.finished.winner, &self.open) else {
             return String::new();
         };
-        let total = open.total();
-        let tilt = |name: &str, radians: f64, open: f64| {
-            let text = format!("{:+.4}° ± {}°", radians.to_degrees(), degrees(open));
-            let radians = format!("{radians:+.6} rad");
-            let [text, radians] = [text, radians].map(|text| text.replace('-', "−"));
-            format!("<div><span>{name}</span>{text}<span>{radians}</span></div>\n")
-        };
-        let y = match open.held {
-            None => tilt("tilt y", winner.sensor.tilt_y, total[1]),
-            Some(_) => "<div><span>tilt y</span>held at 0°</div>\n".into(),
-        };
-        let x = tilt("tilt x", winner.sensor.tilt_x, total[0]);
-        let rows = report::winner_rows(&self.finished, winner, self.fit.as_ref(), open);
-        // The tilts stand above; of one that is held more is said.
-        let is_tilt = |row: &Row| row.0 == "tilt x" || (row.0 == "tilt y" && open.held.is_none());
-        let mut rows: Vec<Row> = rows.into_iter().filter(|row| !is_tilt(row)).collect();
-        let place = rows.iter().position(|row| row.0.starts_with(' ')).unwrap_or(rows.len());
-        rows.insert(place, ("left open".into(), sum_text(open)));
-        if self.no_views.is_some() {
-            rows.iter_mut()
-                .filter(|row| row.0.trim() == "by noise")
-                .for_each(|row| row.1 = "not known without the views".into());
+        let mut lean = self.headline(open);
+        let mut about: Vec<Row> = vec![("left open".into(), sum_text(open))];
+        match &self.judged {
+            Some(judged) => {
+                // The tilts stand above; of one that is held more is said.
+                let is_above =
+                    |row: &Row| row.0 == "lean x" || (row.0 == "lean y" && open.held.is_none());
+                about.extend(report::lean_rows(judged).into_iter().filter(|row| !is_above(row)));
+            }
+            None => {
+                let unknown =
+                    "the lean isn't known without the views: these are the winner's tilts";
+                let not_in_it = "not known without the views: the ± doesn't have it";
+                about.push(("lean".into(), unknown.into()));
+                about.push(("  by noise, lens".into(), not_in_it.into()));
+                about.extend(report::centre_rows(open));
+            }
         }
-        let mut text = format!("<div class=\"tilts\">\n{x}{y}</div>\n{}", facts(&rows));
+        lean += &facts(&about);
+        let fit = self.judged.as_ref().map(|judged| &judged.fit);
+        let mut text = facts(&report::winner_rows(&self.finished, winner, fit, open));
         if let Some(stop) = &self.finished.stop {
             let said = report::stop(stop, &self.inputs.options);
             text += &facts(&said.lines().map(columns).collect::<Vec<_>>());
         }
-        let heading = if self.finished.stop.is_some() { "Best so far" } else { "Winner" };
-        section("keep", heading, &text)
+        let heading =
+            if self.finished.stop.is_some() { "Best so far" } else { "Winner of the search" };
+        section("keep", "Lean", &lean) + &section("keep", heading, &text)
     }
 
     /// The chart, without the notes that stand elsewhere on the page.
@@ -287,6 +315,9 @@ impl<'a> Told<'a> {
         let needed = |name: &str| ["bound_rad", "axes"].contains(&name);
         let about = about.into_iter().filter(|(name, _)| needed(name)).collect();
         let mut record = Record { about, tried: self.finished.tried.clone() };
+        if let Some(judged) = &self.judged {
+            add_lean(&mut record, judged);
+        }
         if let Some(stop) = &self.finished.stop {
             record.add("stopped", &report::stop_place(stop));
         }
@@ -323,9 +354,23 @@ impl<'a> Told<'a> {
         section("", "Winners", &format!("<div class=\"beside\">\n{text}</div>\n"))
     }
 
+    /// The leans without each view in turn.
+    fn without_views(&self) -> String {
+        let found = self.judged.as_ref().and_then(|judged| judged.outliers.as_ref());
+        let without = found.map_or(&[][..], |found| &found.without);
+        let Some(by_views) = report::by_views_text(without) else { return String::new() };
+        let rows: Vec<_> = without.iter().map(|one| report::without_row(one).to_vec()).collect();
+        let heads = ["#Without view", "#Lean x °", "#Lean y °"];
+        section(
+            "keep",
+            "Without each view",
+            &(list(&heads, &rows, false) + &paragraph("note", &by_views)),
+        )
+    }
+
     /// The winner's errors, view by view.
     fn errors(&self) -> String {
-        let Some(fit) = &self.fit else { return String::new() };
+        let Some(Judged { fit, .. }) = &self.judged else { return String::new() };
         let heads = ["#View", "#Counted", "#Mean px", "#RMS px", "#Worst px"];
         let rows: Vec<_> = report::view_rows(fit).iter().map(|row| row.to_vec()).collect();
         let worst = report::worst_texts(fit);
@@ -438,9 +483,11 @@ fn no_winner(finished: &Finished, error: RunError) -> String {
 
 /// What the bounds of the tilts are made of.
 fn sum_text(open: &Open) -> String {
-    let [x, y] = open.total().map(degrees);
+    let Some([x, y]) = open.headline().1.map(|bounds| bounds.map(degrees)) else {
+        return "more than the views determine".into();
+    };
     let y = if open.held.is_some() { String::new() } else { format!(", ±{y}° y") };
-    let is_known = open.noise.is_some() && open.centre_within.is_some();
+    let is_known = open.lean.is_some() && open.centre_within.is_some();
     let these = if is_known { "these" } else { "what is known of these" };
     format!("±{x}° x{y}, the sum of {these}")
 }
@@ -448,24 +495,6 @@ fn sum_text(open: &Open) -> String {
 /// A verdict without the word that stands above it.
 fn without_word(head: &str) -> String {
     head.split_once(": ").map_or(head, |(_, head)| head).into()
-}
-
-/// The search as a journal's whole lines leave it.
-fn walked(path: &Path, bytes: &[u8], inputs: &StoredInputs) -> Result<Search, String> {
-    let (name, beside) = (path.display(), inputs_path(path));
-    let start = |error| format!("{}: no search can start from them: {error}", beside.display());
-    let Resumed { search, report } = Search::resume(&inputs.inputs(), bytes).map_err(start)?;
-    let refusal = match report.ended_by {
-        EndedBy::Nothing | EndedBy::MissingNewline => return Ok(search),
-        EndedBy::NotALine => LineRefusal::NotALine,
-        EndedBy::NotTheRun => LineRefusal::NotTheRun,
-    };
-    let why = what_differs(&inputs.inputs(), bytes);
-    let why = why.map_or(refusal.fault().into(), |why| why.to_string());
-    let (line, number, remedy) = (report.lines + 1, refusal.number(), refusal.remedy());
-    Err(format!(
-        "{name}: line {line}: {why} ({number}), and no page is made of such a journal. {remedy}"
-    ))
 }
 
 /// Winners of parts, and the winner of those.

@@ -50,4 +50,24 @@ impl Pose {
     pub fn place(&self, x: f64, y: f64) -> [f64; 3] {
         add_scaled(&add_scaled(&self.origin, x, &self.x_axis), y, &self.y_axis)
     }
+
+    /// The pose turned about its origin by the rotation whose quaternion is 1, `by`/2, scaled to length 1: Cayley's form,
+    /// without sine or cosine. For a small `by` it is the rotation vector.
+    #[must_use]
+    pub fn turned(&self, by: [f64; 3]) -> Self {
+        let half = by.map(|entry| 0.5 * entry);
+        let scale = 2.0 / (1.0 + dot(&half, &half));
+        let turn = |v: &[f64; 3]| {
+            let once = cross(&half, v);
+            let both = add_scaled(&once, 1.0, &cross(&half, &once));
+            add_scaled(v, scale, &both)
+        };
+        Self { x_axis: turn(&self.x_axis), y_axis: turn(&self.y_axis), origin: self.origin }
+    }
+
+    /// The pose with its origin elsewhere.
+    #[must_use]
+    pub fn shifted(&self, by: [f64; 3]) -> Self {
+        Self { origin: add_scaled(&self.origin, 1.0, &by), ..*self }
+    }
 }

@@ -2,11 +2,14 @@
 
 use crate::drive::{Tried, best};
 use crate::screen::aside;
+use crate::system::columns;
 use jinnychair::{Options, Progress};
 use std::time::{Duration, Instant};
 
 /// The cells of a bar.
 const CELLS: usize = 8;
+/// How wide a terminal is that doesn't say so.
+const USUAL_COLUMNS: usize = 80;
 /// Where no terminal is, a round that takes longer than this has a line of its own before it ends.
 const SILENCE: Duration = Duration::from_secs(60);
 
@@ -54,7 +57,8 @@ impl Bar {
         let tried = before.answered_in_run + 1 - self.before;
         let left = time_left(before, self.most, self.started.elapsed(), tried);
         if self.is_terminal {
-            self.draw(&bar(before, self.best, left));
+            let bar = fitting(&bar(before, self.best, left), columns().unwrap_or(USUAL_COLUMNS));
+            self.draw(&bar);
         } else if before.answered + 1 == before.total || self.last_line.elapsed() > SILENCE {
             self.last_line = Instant::now();
             aside(&format!("{}\n", line(before, self.best, left)));
@@ -70,10 +74,11 @@ impl Bar {
         }
     }
 
-    /// Draws over the line that stands there.
+    /// Draws over the line that stands there, and never into the next one.
     fn draw(&mut self, text: &str) {
         let width = text.chars().count();
-        let blanks = " ".repeat(self.drawn.saturating_sub(width));
+        let room = columns().unwrap_or(USUAL_COLUMNS).saturating_sub(1);
+        let blanks = " ".repeat(self.drawn.min(room).saturating_sub(width));
         aside(&format!("\r{text}{blanks}"));
         self.drawn = width;
     }
@@ -87,18 +92,38 @@ fn time_left(before: &Progress, most: usize, elapsed: Duration, tried: usize) ->
     elapsed.mul_f64(left as f64 / tried as f64)
 }
 
-/// At most 79 letters, so that it fits a terminal's line.
-fn bar(before: &Progress, best: Option<Best>, left: Duration) -> String {
+/// The parts of a bar, the ones first that matter most: at most 79 letters together.
+fn bar(before: &Progress, best: Option<Best>, left: Duration) -> [String; 5] {
     let (round, rounds, total) = (before.round, before.rounds, before.total);
     let tried = before.answered + 1;
     let filled = (CELLS * tried).checked_div(total).unwrap_or(CELLS).min(CELLS);
     let cells = "#".repeat(filled) + &".".repeat(CELLS - filled);
-    let best = best.map_or("nothing scored yet".into(), |Best { score, tilts }| {
-        let [x, y] = tilts.map(f64::to_degrees);
-        let digits = if score < 100.0 { 5 } else { 1 };
-        format!("best {score:.digits$} at {x:+.3}° {y:+.3}°")
-    });
-    format!("round {round}/{rounds} [{cells}] {tried}/{total}  {best}  {} left", time_text(left))
+    let (best, place) = match best {
+        None => ("nothing scored yet".into(), String::new()),
+        Some(Best { score, tilts }) => {
+            let [x, y] = tilts.map(f64::to_degrees);
+            let digits = if score < 100.0 { 5 } else { 1 };
+            (format!("best {score:.digits$}"), format!(" at {x:+.3}° {y:+.3}°"))
+        }
+    };
+    [
+        format!("round {round}/{rounds} "),
+        format!("[{cells}] {tried}/{total}"),
+        format!("  {best}"),
+        place,
+        format!("  {} left", time_text(left)),
+    ]
+}
+
+/// As many of the parts as a terminal's line has room for, its last column left free.
+fn fitting(parts: &[String], columns: usize) -> String {
+    let mut room = columns.saturating_sub(1);
+    let fits = |part: &&String| {
+        let rest = room.checked_sub(part.chars().count());
+        room = rest.unwrap_or(0);
+        rest.is_some()
+    };
+    parts.iter().take_while(fits).map(String::as_str).collect()
 }
 
 fn line(before: &Progress, best: Option<Best>, left: Duration) -> String {
@@ -140,12 +165,32 @@ mod tests {
     #[test]
     fn a_bar_counts_exactly_within_its_round() {
         let left = Duration::from_secs(12);
-        let shown = |answered| bar(&progress(1, answered, 6), Some(BEST), left);
+        let shown = |answered| bar(&progress(1, answered, 6), Some(BEST), left).concat();
         let best = "best 0.07335 at -1.194° -0.398°  12 s left";
         assert_eq!(shown(0), format!("round 1/6 [#.......] 1/6  {best}"));
         assert_eq!(shown(2), format!("round 1/6 [####....] 3/6  {best}"));
         assert_eq!(shown(5), format!("round 1/6 [########] 6/6  {best}"));
-        assert!(bar(&progress(1, 0, 6), None, left).contains("1/6  nothing scored yet  12 s left"));
+        let unscored = bar(&progress(1, 0, 6), None, left).concat();
+        assert!(unscored.contains("1/6  nothing scored yet  12 s left"));
+    }
+
+    #[test]
+    fn a_narrow_terminal_is_shown_less() {
+        let parts = bar(&progress(1, 2, 6), Some(BEST), Duration::from_secs(12));
+        for (columns, expected) in [
+            (100, "round 1/6 [####....] 3/6  best 0.07335 at -1.194° -0.398°  12 s left"),
+            (69, "round 1/6 [####....] 3/6  best 0.07335 at -1.194° -0.398°  12 s left"),
+            (68, "round 1/6 [####....] 3/6  best 0.07335 at -1.194° -0.398°"),
+            (40, "round 1/6 [####....] 3/6  best 0.07335"),
+            (38, "round 1/6 [####....] 3/6"),
+            (20, "round 1/6 "),
+            (5, ""),
+            (0, ""),
+        ] {
+            let text = fitting(&parts, columns);
+            assert_eq!(text, expected);
+            assert!(text.chars().count() < columns.max(1));
+        }
     }
 
     #[test]
@@ -154,7 +199,7 @@ mod tests {
         for before in [first, last].map(|before| Progress { rounds: 16, ..before }) {
             for score in [99.99, 12_345.0] {
                 let best = Best { score, tilts: [-0.5, -0.5] };
-                let text = bar(&before, Some(best), Duration::from_secs(7199));
+                let text = bar(&before, Some(best), Duration::from_secs(7199)).concat();
                 assert!(text.chars().count() < 80, "{text}");
             }
         }

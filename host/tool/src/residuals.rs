@@ -1,8 +1,8 @@
 //! How far each dot is seen from where a camera puts it, dot by dot and view by view.
 
-use crate::linear::{Matrix3, dot};
+use crate::linear::dot;
 use crate::pose::Pose;
-use crate::views::Plate;
+use crate::views::{Plate, called};
 use jinnychair::{PinholeCamera, Pt2, Rows, ScheimpflugParams, TiltTrig, geometry};
 
 /// Sine and cosine of both tilts, by the library's own series, so that they are those that a score is made with.
@@ -72,10 +72,10 @@ impl Dot {
 pub struct Fit {
     /// Every dot, view after view.
     pub dots: Vec<Dot>,
-    /// The direction in which the plate faced, view by view, of length 1.
-    pub normals: Vec<[f64; 3]>,
     /// Whether the plate's x and y turn the same way as those of the picture, view by view.
     pub is_right_handed: Vec<bool>,
+    /// The views' names, empty where they have none.
+    pub names: Vec<String>,
 }
 
 impl Fit {
@@ -86,9 +86,15 @@ impl Fit {
         let places = views.flat_map(|(i, view)| view.board.iter().map(move |place| (i, *place)));
         let dots =
             places.zip(errors).map(|((view, place), error)| Dot { view, place, error: *error });
-        let normals: Vec<_> = poses.iter().map(Pose::normal).collect();
-        let is_right_handed = normals.iter().zip(poses).map(|(n, pose)| dot(n, &pose.origin) > 0.0);
-        Self { dots: dots.collect(), is_right_handed: is_right_handed.collect(), normals }
+        let is_right_handed = poses.iter().map(|pose| dot(&pose.normal(), &pose.origin) > 0.0);
+        let names = plate.views.iter().map(|view| view.name.clone()).collect();
+        Self { dots: dots.collect(), is_right_handed: is_right_handed.collect(), names }
+    }
+
+    /// A view, counted from 0, as it is called in a sentence.
+    #[must_use]
+    pub fn called(&self, view: usize) -> String {
+        called(view, self.names.get(view).map_or("", String::as_str))
     }
 
     /// The dots of a view, counted from 0.
@@ -122,48 +128,15 @@ impl Fit {
         dots
     }
 
-    /// How much each dot's error is that of its nearest neighbour on the plate: 1 where they are alike, about 0 where
-    /// they are chance.
+    /// The sum of all counted errors' squares.
     #[must_use]
-    pub fn neighbour_correlation(&self) -> f64 {
-        let (mut common, mut all) = (0.0, 0.0);
-        for one in &self.dots {
-            let Some(a) = one.error else { continue };
-            let distance =
-                |other: &Dot| (other.place.x - one.place.x).hypot(other.place.y - one.place.y);
-            let others =
-                self.view(one.view).filter(|other| distance(other) > 0.0 && other.error.is_some());
-            let near = others.min_by(|a, b| distance(a).total_cmp(&distance(b)));
-            if let Some(b) = near.and_then(|near| near.error) {
-                common += a[0] * b[0] + a[1] * b[1];
-                all += 0.5 * (a[0] * a[0] + a[1] * a[1] + b[0] * b[0] + b[1] * b[1]);
-            }
-        }
-        if all > 0.0 { common / all } else { 0.0 }
+    pub fn squares(&self) -> f64 {
+        self.dots.iter().filter_map(|dot| dot.error).map(|[dx, dy]| dx * dx + dy * dy).sum()
     }
 
-    /// The largest angle between the plate's directions in two views, in radians.
+    /// The mean length of all counted errors, in pixels.
     #[must_use]
-    pub fn largest_turn(&self) -> f64 {
-        let angle = |a: &[f64; 3], b: &[f64; 3]| dot(a, b).abs().min(1.0).acos();
-        let pairs = self.normals.iter().enumerate();
-        pairs
-            .flat_map(|(i, a)| self.normals[..i].iter().map(move |b| angle(a, b)))
-            .fold(0.0, f64::max)
+    pub fn mean(&self) -> f64 {
+        self.dots.iter().map(Dot::size).sum::<f64>() / self.counted() as f64
     }
-}
-
-/// What the views' own maps leave: the root of the mean square of the dots' distances from them, each map counting for
-/// eight numbers; nothing where no dot is left over.
-#[must_use]
-pub fn own_spread(plate: &Plate, maps: &[Matrix3]) -> Option<f64> {
-    let squares = plate.views.iter().zip(maps).flat_map(|(view, h)| {
-        view.board.iter().zip(&view.pixels).map(|(place, pixel)| {
-            let [u, v, w] = h.map(|row| row[0] * place.x + row[1] * place.y + row[2]);
-            let [dx, dy] = [pixel.x - u / w, pixel.y - v / w];
-            dx * dx + dy * dy
-        })
-    });
-    let left = (2 * plate.dots()).checked_sub(8 * plate.views.len()).filter(|left| *left > 0)?;
-    Some(geometry::sqrt(2.0 * squares.sum::<f64>() / left as f64))
 }

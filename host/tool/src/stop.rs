@@ -1,5 +1,7 @@
-//! When a search is stopped between two tilts: after some minutes, or by Enter on a terminal. The end of the input stops nothing.
+//! When a search is stopped between two tilts: after some minutes, by Ctrl-C, or by Enter on a terminal. The end of the input stops
+//! nothing.
 
+use crate::system;
 use std::fs::{self, File, OpenOptions};
 use std::io::{self, IsTerminal, Read};
 use std::os::unix::fs::OpenOptionsExt;
@@ -22,6 +24,7 @@ impl Stopper {
     /// A search begins, with at most so many minutes.
     #[must_use]
     pub fn new(minutes: Option<f64>) -> Self {
+        system::note_interrupt();
         Self { started: Instant::now(), minutes, keyboard: Keyboard::open() }
     }
 
@@ -36,6 +39,9 @@ impl Stopper {
         let minutes = self.started.elapsed().as_secs_f64() / 60.0;
         if let Some(most) = self.minutes.filter(|most| minutes >= *most) {
             return Some(format!("the time limit of {most} min"));
+        }
+        if system::was_interrupted() {
+            return Some("Ctrl-C".into());
         }
         let is_pressed = self.keyboard.as_mut().is_some_and(Keyboard::was_enter_pressed);
         is_pressed.then(|| "Enter".into())

@@ -1,10 +1,11 @@
 //! Views of a plate as a known camera with a known tilt sees them.
 
 use crate::angle::degrees;
+use crate::elementary::{logarithm, sine_cosine};
 use crate::linear::{Matrix3, add_scaled, column, product};
 use crate::residuals::trig;
 use crate::views::{Plate, View};
-use jinnychair::{FxFyCxCy, Pt2, ScheimpflugParams, geometry};
+use jinnychair::{BrownConrady5, FxFyCxCy, Pt2, ScheimpflugParams, geometry};
 
 /// A camera to make views with.
 #[derive(Clone, Copy, Debug, PartialEq)]
@@ -60,14 +61,28 @@ impl Truth {
         self.plate_held(&HELD)
     }
 
+    /// The same through a lens.
+    pub fn plate_through(&self, lens: &BrownConrady5) -> Plate {
+        self.seen(&HELD, lens)
+    }
+
     /// Views of a plate that is turned about x, then y, in degrees, and shifted by three millimetres' numbers.
     pub fn plate_held(&self, held: &[[f64; 5]]) -> Plate {
+        self.seen(held, &BrownConrady5::default())
+    }
+
+    fn seen(&self, held: &[[f64; 5]], lens: &BrownConrady5) -> Plate {
         let mut noise = Noise { state: 1 };
-        let views = held.iter().map(|held| self.view(held, &mut noise)).collect();
+        let views = held.iter().map(|held| self.view(held, lens, &mut noise)).collect();
         Plate { centre: Some([self.k.cx, self.k.cy]), views }
     }
 
-    fn view(&self, &[about_x, about_y, x, y, distance]: &[f64; 5], noise: &mut Noise) -> View {
+    fn view(
+        &self,
+        &[about_x, about_y, x, y, distance]: &[f64; 5],
+        lens: &BrownConrady5,
+        noise: &mut Noise,
+    ) -> View {
         let turn = rotation(about_x.to_radians(), about_y.to_radians());
         let tilt = geometry::tilt_projection_matrix(trig(self.sensor));
         let mut view = View::default();
@@ -77,11 +92,12 @@ impl Truth {
             let seen = [x, y, distance];
             let seen = add_scaled(&seen, place[0] - middle[0], &column(&turn, 0));
             let seen = add_scaled(&seen, place[1] - middle[1], &column(&turn, 1));
-            let [u, v, w] = tilt.map(|row| row[0] * seen[0] + row[1] * seen[1] + row[2] * seen[2]);
+            let ideal = Pt2 { x: seen[0] / seen[2], y: seen[1] / seen[2] };
+            let Pt2 { x: u, y: v } = geometry::apply_homography(tilt, lens.distort(ideal));
             view.board.push(Pt2 { x: place[0], y: place[1] });
             view.pixels.push(Pt2 {
-                x: self.k.fx * (u / w) + self.k.cx + self.noise * noise.normal(),
-                y: self.k.fy * (v / w) + self.k.cy + self.noise * noise.normal(),
+                x: self.k.fx * u + self.k.cx + self.noise * noise.normal(),
+                y: self.k.fy * v + self.k.cy + self.noise * noise.normal(),
             });
         }
         view
@@ -89,7 +105,7 @@ impl Truth {
 }
 
 fn rotation(about_x: f64, about_y: f64) -> Matrix3 {
-    let ((sx, cx), (sy, cy)) = (about_x.sin_cos(), about_y.sin_cos());
+    let ((sx, cx), (sy, cy)) = (sine_cosine(about_x), sine_cosine(about_y));
     let about_x = [[1.0, 0.0, 0.0], [0.0, cx, -sx], [0.0, sx, cx]];
     let about_y = [[cy, 0.0, sy], [0.0, 1.0, 0.0], [-sy, 0.0, cy]];
     product(&about_y, &about_x)
@@ -111,6 +127,6 @@ impl Noise {
 
     fn normal(&mut self) -> f64 {
         let (a, b) = (self.uniform(), self.uniform());
-        (-2.0 * (1.0 - a).ln()).sqrt() * (2.0 * std::f64::consts::PI * b).cos()
+        (-2.0 * logarithm(1.0 - a)).sqrt() * sine_cosine(2.0 * std::f64::consts::PI * b).1
     }
 }

@@ -1,6 +1,7 @@
 //! A search as a table: what it was asked, then a line for each tried tilt, fields parted by commas.
 
 use crate::drive::{Dots, Scored, Source, Tried};
+use crate::typed::shown;
 use jinnychair::{BrownConrady5, FxFyCxCy, Outcome, PinholeCamera, Seed, SkipReason};
 
 /// How a table begins.
@@ -8,6 +9,12 @@ pub const HEAD: &str = "# Every tilt that a search of jinnychair tried.";
 
 /// What a table says of its axes where tilt y was held.
 pub const ONE_AXIS: &str = "x alone; tilt y is held at 0";
+
+/// The name of what is said of a journal that isn't known to be its run's.
+pub const UNCHECKED: &str = "checked";
+
+/// The name of the lean's tilts and their bounds, in radians, x and y.
+pub const LEAN: &str = "lean_rad";
 
 /// The names of the fields, with their units.
 pub const FIELDS: &str = "number,round,source,tilt_x_deg,tilt_y_deg,outcome,score,mean_px,rms_px,counted_rows,rows,\
@@ -50,6 +57,17 @@ impl Record {
         self.about("axes") == Some(ONE_AXIS)
     }
 
+    /// The lean's tilts and, where the views determine them, their bounds, in radians.
+    #[must_use]
+    pub fn lean(&self) -> Option<([f64; 2], Option<[f64; 2]>)> {
+        let numbers = self.about(LEAN)?.split(' ').map(|word| word.parse().ok());
+        match numbers.collect::<Option<Vec<f64>>>()?[..] {
+            [x, y] => Some(([x, y], None)),
+            [x, y, by_x, by_y] => Some(([x, y], Some([by_x, by_y]))),
+            _ => None,
+        }
+    }
+
     /// All texts of a name.
     pub fn all_about(&self, name: &str) -> impl Iterator<Item = &str> {
         self.about.iter().filter(move |(other, _)| other == name).map(|(_, text)| text.as_str())
@@ -76,7 +94,8 @@ impl Record {
         if !text.starts_with(HEAD) {
             let read = text.lines().next().unwrap_or("");
             return Err(format!(
-                "line 1: read `{read}`; expected `{HEAD}`. Name a table that `jinnychair search` wrote"
+                "line 1: read `{}`; expected `{HEAD}`. Name a table that `jinnychair search` wrote",
+                shown(read)
             ));
         }
         let mut record = Self::default();
@@ -88,7 +107,7 @@ impl Record {
             let about = line.strip_prefix("# ").and_then(|about| about.split_once(": "));
             let (name, about) = about.ok_or_else(|| {
                 let expected = format!("`# NAME: TEXT`, or the names of the fields, {FIELDS}");
-                format!("line {}: read `{line}`; expected {expected}", i + 1)
+                format!("line {}: read `{}`; expected {expected}", i + 1, shown(line))
             })?;
             record.add(name, about);
         }
@@ -170,7 +189,7 @@ fn parse_line(line: &str) -> Result<Tried, String> {
 
 fn skip(outcome: &str, later: &[&str]) -> Result<SkipReason, String> {
     let skip = SKIPS.iter().find(|skip| *outcome == skip.1.to_string());
-    let skip = skip.ok_or(format!("`{outcome}` is no outcome"))?;
+    let skip = skip.ok_or_else(|| format!("`{}` is no outcome", shown(outcome)))?;
     if later.iter().any(|field| *field != "-") {
         return Err("a skipped tilt has minus signs for its score, errors and camera".into());
     }
@@ -182,21 +201,22 @@ fn source(text: &str) -> Result<Source, String> {
     match given.into_iter().find(|source| source_text(*source) == text) {
         Some(source) => Ok(source),
         None => {
-            let number =
-                text.strip_prefix("around ").ok_or(format!("`{text}` is no source of a seed"))?;
+            let number = text
+                .strip_prefix("around ")
+                .ok_or_else(|| format!("`{}` is no source of a seed", shown(text)))?;
             whole(number).map(Source::Around)
         }
     }
 }
 
 fn whole(text: &str) -> Result<usize, String> {
-    text.parse().map_err(|_| format!("`{text}` isn't a whole number"))
+    text.parse().map_err(|_| format!("`{}` isn't a whole number", shown(text)))
 }
 
 fn numbers<const N: usize>(fields: &[&str]) -> Result<[f64; N], String> {
     let mut numbers = [0.0; N];
     for (number, field) in numbers.iter_mut().zip(fields) {
-        *number = field.parse().map_err(|_| format!("`{field}` isn't a number"))?;
+        *number = field.parse().map_err(|_| format!("`{}` isn't a number", shown(field)))?;
     }
     Ok(numbers)
 }

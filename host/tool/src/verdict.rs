@@ -2,36 +2,35 @@
 
 use crate::angle::degrees;
 use crate::choices::Choices;
+use crate::distribution::f_above;
 use crate::drive::{Dots, Finished, JOURNAL_END, Stop, Tried, best, last_step, reach};
-use crate::open::{Open, free_numbers};
+use crate::fit_test::{self, misfit};
+use crate::lean::Lean;
+use crate::neighbour_test;
+use crate::next_view::NextView;
+use crate::open::Open;
+use crate::outliers::{Outliers, Stray};
 use crate::plan::Plan;
-use crate::residuals::{Dot, Fit};
+use crate::residuals::Fit;
 use crate::solve::Host;
 use jinnychair::{Options, Outcome, Progress, ScheimpflugParams, SkipReason, Winner};
 
-/// Scores within this part of the winner's are as good as its own.
-const ALIKE: f64 = 0.01;
-/// A dot is off where its error is this many times the median, and above this many pixels.
-const STRAY_DOT: [f64; 2] = [8.0, 0.5];
-/// A view is off where its RMS is this many times the median of the views.
-const STRAY_VIEW: f64 = 3.0;
-/// A fit is bad where its errors are this many times what the views' own maps leave.
-const MISFIT: f64 = 1.5;
-/// Errors of neighbours that are this alike aren't noise.
-const CORRELATED: f64 = 0.3;
-/// Errors below this, in pixels, are no reason to look for a cause.
-const FINE: f64 = 0.05;
-/// The least turn of the plate between two views, and the most that noise may leave open, in degrees.
-const LEAST_TURN: f64 = 10.0;
+/// Another tilt fits as well where its squares differ from the lean's by what chance alone does once in a hundred, and where
+/// by the lean's own ± chance alone would put it there less than once in a million.
+const ALIKE_LEVEL: f64 = 0.01;
+const ELSEWHERE_LEVEL: f64 = 1e-6;
+/// The most that noise may leave open, in degrees.
 const MOST_OPEN: f64 = 0.5;
 
 /// Something that speaks against a winner.
 #[derive(Clone, Debug, PartialEq, Eq)]
 pub struct Point {
+    /// A word for programs.
+    pub code: &'static str,
     /// What it is.
     pub what: String,
     /// What to do.
-    pub remedy: &'static str,
+    pub remedy: String,
 }
 
 impl std::fmt::Display for Point {
@@ -40,8 +39,8 @@ impl std::fmt::Display for Point {
     }
 }
 
-fn point(what: String, remedy: &'static str) -> Point {
-    Point { what, remedy }
+fn point(code: &'static str, what: String, remedy: &str) -> Point {
+    Point { code, what, remedy: remedy.into() }
 }
 
 /// Limits that service sets.
@@ -62,21 +61,14 @@ fn at(one: &Tried) -> String {
     format!("{x}° {y}°")
 }
 
-/// What speaks against the winner in the search itself: where it lies among the tried tilts. `apart` is how far two
-/// tilts are told apart, for x and y.
+/// What speaks against the winner in the search itself: where it lies among the tried tilts.
 #[must_use]
-pub fn of_search(
-    finished: &Finished,
-    winner: &Winner,
-    options: &Options,
-    apart: [f64; 2],
-) -> Vec<Point> {
+pub fn of_search(finished: &Finished, winner: &Winner, options: &Options) -> Vec<Point> {
     let mut points = vec![];
     for i in 0..2 {
         points.extend(at_edge(finished, winner, options, i));
     }
-    points.extend(few_scored(finished));
-    points.extend(alike(finished, winner, apart));
+    points.extend(skipped(finished));
     points
 }
 
@@ -96,6 +88,7 @@ fn at_edge(finished: &Finished, winner: &Winner, options: &Options, i: usize) ->
             degrees(options.max_abs_tilt)
         );
         return Some(point(
+            "at-the-bound",
             what,
             "Look at the centre and the views; if the mount allows more, raise --bound.",
         ));
@@ -105,7 +98,7 @@ fn at_edge(finished: &Finished, winner: &Winner, options: &Options, i: usize) ->
             "tilt {axis} is the outermost that was tried, {}°: a better one may lie beyond it",
             degrees(tilt)
         );
-        return Some(point(what, "Type tilts beyond it (--tilts-x, --tilts-y)."));
+        return Some(point("outermost", what, "Type tilts beyond it (--tilts-x, --tilts-y)."));
     }
     let first = best(finished.tried.iter().filter(|one| one.round == 0))?;
     let moved = (tilt - tilts(first.seed.sensor)[i]).abs();
@@ -114,16 +107,16 @@ fn at_edge(finished: &Finished, winner: &Winner, options: &Options, i: usize) ->
             "tilt {axis} lies as far from its seed as the rounds reach, {}°: a better one may lie beyond it",
             degrees(reach(options))
         );
-        point(what, "Type tilts near it (--tilts-x, --tilts-y), or take a larger --step.")
+        point("out-of-reach", what, "Type tilts near it (--tilts-x, --tilts-y), or take a larger --step.")
     })
 }
 
-fn few_scored(finished: &Finished) -> Option<Point> {
+fn skipped(finished: &Finished) -> Option<Point> {
     let tried = finished.tried.len();
     let skipped = finished.tried.iter().filter(|one| one.outcome.score().is_none()).count();
-    (2 * skipped > tried).then(|| {
-        let what = format!("{skipped} of {tried} tilts were skipped");
-        point(what, "Look at the reasons in the table or the chart, and at the views.")
+    (skipped > 0).then(|| {
+        let what = format!("{skipped} of {tried} tilts were skipped: a lean there is missed");
+        point("skipped", what, "Look at the reasons in the table or the chart, and at the views.")
     })
 }
 
@@ -144,192 +137,281 @@ pub fn too_few_counted(tried: &[Tried], options: &Options) -> Option<Point> {
         most.all
     );
     Some(point(
+        "too-few-counted",
         what,
         "Look which views lie behind the camera, and at the poses; --min-counted asks for fewer.",
     ))
 }
 
-fn alike(finished: &Finished, winner: &Winner, apart: [f64; 2]) -> Option<Point> {
-    let won = tilts(winner.sensor);
-    let is_elsewhere = |one: &Tried| {
-        let tilt = tilts(one.seed.sensor);
-        (0..2).any(|i| (tilt[i] - won[i]).abs() > apart[i])
+/// Tried tilts that fit the views as well as the lean does, and lie where its ± excludes them: another valley.
+#[must_use]
+pub fn of_rivals(finished: &Finished, fit: &Fit, lean: &Lean) -> Option<Point> {
+    let rows = finished.tried.iter().filter_map(|one| one.dots.map(|dots| dots.counted)).max()?;
+    let solved = 6 * lean.plain.fitted.poses.len() + 4;
+    let freedom = (2 * rows).checked_sub(solved).filter(|left| *left > 0 && lean.has_noise())?;
+    let freedom = freedom.min(lean.plain.freedom) as f64;
+    // A tilt is scored by some of the dots: as far as these are larger than the winner's, all are.
+    let winner = best(finished.tried.iter())?;
+    let at_lean = lean.plain.fitted.squares / fit.squares() * winner.scored?.rms?.powi(2);
+    let is_alike = |one: &&Tried| {
+        let rms = one.scored.and_then(|scored| scored.rms);
+        let f = rms.map(|rms| 0.5 * freedom * (rms * rms / at_lean - 1.0));
+        f.is_some_and(|f| f_above(f, 2.0, freedom) > ALIKE_LEVEL)
     };
-    let most = winner.score + ALIKE * winner.score.abs();
-    let rivals =
-        finished.tried.iter().filter(|one| one.outcome.score().is_some_and(|score| score <= most));
-    let rivals: Vec<_> = rivals.filter(|one| is_elsewhere(one)).collect();
+    // Some of the dots say as much less of where the lean is.
+    let share = rows as f64 / fit.dots.len() as f64;
+    let is_elsewhere = |one: &&Tried| {
+        let away = lean.plain.distance(tilts(one.seed.sensor));
+        away.is_none_or(|f| f_above(share * f, 2.0, freedom) < ELSEWHERE_LEVEL)
+    };
+    let rivals: Vec<_> = finished.tried.iter().filter(is_alike).filter(is_elsewhere).collect();
     let rival = best(rivals.iter().copied())?;
     let what = format!(
-        "{} other tilts score alike, as no. {} at {} with {:.5} against {:.5}: these views don't tell them apart",
+        "{} other tilts fit the views as well, by chance's measure, as no. {} at {}, where the lean's ± excludes them",
         rivals.len(),
         rival.number,
         at(rival),
-        rival.outcome.score().unwrap_or(f64::NAN),
-        winner.score
     );
-    Some(point(
-        what,
-        "Take views with the plate turned further; equal scores fall to the earlier number.",
-    ))
+    Some(point("alike", what, "Take views with the plate turned further."))
 }
 
-/// What speaks against the winner in how its camera fits the views.
+/// What speaks against the winner in the dots that its camera sees, and from which side.
 #[must_use]
-pub fn of_fit(host: &Host, fit: &Fit) -> Vec<Point> {
+pub fn of_fit(fit: &Fit, is_left_handed: bool) -> Vec<Point> {
+    [mirrored(fit, is_left_handed), not_counted(fit)].into_iter().flatten().collect()
+}
+
+/// Dots and views that disagree with all others, with the lean without them.
+#[must_use]
+pub fn of_outliers(outliers: &Outliers, fit: &Fit) -> Vec<Point> {
+    let without = |lean: [f64; 2]| lean.map(degrees).join("° ") + "°";
     let mut points = vec![];
-    points.extend(stray_dots(fit));
-    points.extend(stray_views(fit, host.plate().views.len()));
-    points.extend(misfit(host, fit));
-    points.extend(systematic(fit));
-    points.extend(little_variety(fit));
-    points.extend(mirrored(fit));
-    points.extend(few_counted(fit));
+    if let Some(one) = &outliers.view {
+        let what = format!(
+            "view {} disagrees with the others, by more than chance; without it the lean would be {}",
+            fit.called(one.view),
+            without(one.tilts)
+        );
+        let remedy = "Look at its dots and at its plate; take the view again, or leave it out.";
+        points.push(point("view", what, remedy));
+    }
+    if let Some((first, rest)) = outliers.dots.first().zip(outliers.rest.as_ref()) {
+        let others = outliers.dots[1..].iter();
+        let place = |dot: &Stray| {
+            format!(
+                "view {} place {} {}, {:.2} px",
+                fit.called(dot.view),
+                dot.place.x,
+                dot.place.y,
+                dot.off
+            )
+        };
+        let others: String = others.map(|dot| format!("; {}", place(dot))).collect();
+        let what = format!(
+            "a dot disagrees with all others, by more than chance: {} off{others}; without that the lean would be {}",
+            place(first),
+            without(rest.1.tilts())
+        );
+        let remedy = "Look whether it was taken for another; leave it out and search again.";
+        points.push(point("stray-dot", what, remedy));
+    }
     points
 }
 
-fn median(mut values: Vec<f64>) -> f64 {
-    values.sort_by(f64::total_cmp);
-    values.get(values.len() / 2).copied().unwrap_or(0.0)
+/// What speaks against the model: another lens, a fit that isn't one, neighbours that err alike.
+#[must_use]
+pub fn of_model(host: &Host, lean: &Lean) -> Vec<Point> {
+    let mut points: Vec<_> =
+        of_lens(host, lean).or_else(|| of_misfit(host, lean)).into_iter().collect();
+    points.extend(of_neighbours(host, lean));
+    points
 }
 
-fn stray_dots(fit: &Fit) -> Option<Point> {
-    let worst = fit.worst();
-    let median = median(worst.iter().map(|dot| dot.size()).collect());
-    let [times, pixels] = STRAY_DOT;
-    let is_stray = |dot: &&&Dot| dot.size() > (times * median).max(pixels);
-    let count = worst.iter().filter(is_stray).count();
-    let first = worst.first().filter(is_stray)?;
+fn of_misfit(host: &Host, lean: &Lean) -> Option<Point> {
+    let found = misfit(host, lean).filter(|found| found.chance < fit_test::LEVEL)?;
     let what = format!(
-        "{count} dots are far off: the worst, view {} place {} {}, by {:.2} px, where half of all dots are within \
-         {median:.3} px",
-        first.view + 1,
-        first.place.x,
-        first.place.y,
-        first.size()
+        "the errors, {:.4} px, are larger than those of the views' own maps, {:.4} px, by more than chance: no one camera \
+         explains the views",
+        found.here, found.own
     );
-    Some(point(what, "Look whether that dot was taken for another; leave it out and search again."))
+    let remedy = "Look for views of another camera or zoom, for a lens that bends, and for a plate that isn't flat.";
+    Some(point("misfit", what, remedy))
 }
 
-fn stray_views(fit: &Fit, views: usize) -> Option<Point> {
-    let rms: Vec<f64> = (0..views).map(|view| fit.view_rms(view)).collect();
-    let median = median(rms.clone());
-    let stray = |view: &usize| rms[*view] > (STRAY_VIEW * median).max(FINE);
-    let stray: Vec<String> = (0..views).filter(stray).map(|view| (view + 1).to_string()).collect();
-    (!stray.is_empty()).then(|| {
-        let what = format!(
-            "view {} has far larger errors than the others, whose RMS is about {median:.3} px",
-            stray.join(", ")
-        );
-        point(what, "Look at its dots; take the view again, or leave it out.")
-    })
+fn of_neighbours(host: &Host, lean: &Lean) -> Option<Point> {
+    let chance = neighbour_test::chance_for(host, lean);
+    chance.filter(|chance| *chance < neighbour_test::LEVEL && lean.has_noise())?;
+    let what = "neighbouring dots err alike, by more than chance and the fit make them".into();
+    let remedy = "Look whether the plate is flat and its places are right, and whether the lens's distortion was taken \
+                  off as it is, around the right centre.";
+    Some(point("neighbours", what, remedy))
 }
 
-fn misfit(host: &Host, fit: &Fit) -> Option<Point> {
-    let own = host.own_spread()?;
-    let here = fit.rms() * (2.0 * fit.counted() as f64 / free_numbers(host)?).sqrt();
-    (here > MISFIT * own && here > own + FINE).then(|| {
-        let what = format!(
-            "the errors, {here:.3} px, are larger than the views' own spread, {own:.3} px: no tried camera \
-             explains the views"
-        );
-        point(what, "Look for stray dots, for a lens with distortion, and for views of another camera; try more tilts.")
-    })
+/// How likely chance is, in words.
+fn chance_text(chance: f64) -> String {
+    if chance < 1e-6 {
+        "less than once in a million".into()
+    } else {
+        format!("once in {:.0}", 1.0 / chance)
+    }
 }
 
-fn systematic(fit: &Fit) -> Option<Point> {
-    let alike = fit.neighbour_correlation();
-    (alike > CORRELATED && fit.rms() > FINE && fit.counted() >= 30).then(|| {
-        let what = format!(
-            "neighbouring dots err alike (correlation {alike:.2}; noise has about 0): the lens has distortion, the \
-             plate isn't flat, or no tried tilt is right"
-        );
-        point(what, "This search knows no radial distortion: take it off the pixels first. Check the plate.")
-    })
+/// A lens that isn't the stated one, by the test.
+fn of_lens(host: &Host, lean: &Lean) -> Option<Point> {
+    let (open, chance) = lean.other_lens()?;
+    let [.., k1, k2, p1, p2] = open.fitted.shared;
+    let ([x, y], plain) = (open.tilts(), lean.tilts());
+    let [by_x, by_y] = [plain[0] - x, plain[1] - y].map(degrees);
+    let [x, y] = [x, y].map(degrees);
+    let lens =
+        if host.model().lens == Default::default() { "a lens that bends" } else { "another lens" };
+    let what = format!(
+        "{lens} fits the views better, by more than chance ({}): k1 = {k1:.4}, k2 = {k2:.4}, p1 = {p1:.5}, p2 = {p2:.5}. \
+         It would look like a lean of {by_x}° {by_y}°, and the lean would be {x}° {y}°",
+        chance_text(chance)
+    );
+    let remedy = "State the lens with --lens K1,K2,P1,P2,K3, or take its distortion off the pixels, around the stated \
+                  centre. Check the plate: is it flat?";
+    Some(point("lens", what, remedy))
 }
 
-fn little_variety(fit: &Fit) -> Option<Point> {
-    let turn = fit.largest_turn().to_degrees();
-    (turn < LEAST_TURN).then(|| {
-        let what = format!("the plate was turned by at most {turn:.1}° between views");
-        point(what, "Take views with the plate turned by 20° to 40°, about both axes.")
-    })
-}
-
-fn mirrored(fit: &Fit) -> Option<Point> {
+fn mirrored(fit: &Fit, is_left_handed: bool) -> Option<Point> {
     let right = fit.is_right_handed.iter().filter(|is_right| **is_right).count();
     let rare = 2 * right < fit.is_right_handed.len();
     let views = fit.is_right_handed.iter().enumerate().filter(|(_, is_right)| **is_right == rare);
-    let views: Vec<String> = views.map(|(view, _)| (view + 1).to_string()).collect();
+    let views: Vec<String> = views.map(|(view, _)| fit.called(view)).collect();
+    if right == 0 && !is_left_handed {
+        let what = "all views show the plate mirrored: its axes are left-handed, or x and y are exchanged, or y is upwards".into();
+        return Some(point(
+            "mirrored",
+            what,
+            "Look at the pixels' and the plate's axes; --mirrored says that the plate's are left-handed.",
+        ));
+    }
+    if right == fit.is_right_handed.len() && is_left_handed {
+        let what =
+            "no view shows the plate mirrored, and --mirrored says that its axes are left-handed"
+                .into();
+        return Some(point(
+            "not-mirrored",
+            what,
+            "Leave --mirrored out, or look at the pixels' axes.",
+        ));
+    }
     (right > 0 && right < fit.is_right_handed.len()).then(|| {
         let what = format!(
             "view {} shows the plate from the other side than the other views",
             views.join(", ")
         );
-        point(what, "Look whether x and y are exchanged, or one of them negated, in these views.")
+        point(
+            "other-side",
+            what,
+            "Look whether x and y are exchanged, or one of them negated, in these views.",
+        )
     })
 }
 
-fn few_counted(fit: &Fit) -> Option<Point> {
+fn not_counted(fit: &Fit) -> Option<Point> {
     let (counted, all) = (fit.counted(), fit.dots.len());
-    (10 * counted < 9 * all).then(|| {
+    (counted < all).then(|| {
         point(
-            format!("only {counted} of {all} dots are counted"),
+            "not-counted",
+            format!("{} of {all} dots aren't counted", all - counted),
             "Look which views lie behind the camera.",
         )
     })
 }
 
-/// What speaks against the winner in the stated centre. `middle` and `half` are the middle and half the size of what is
-/// seen, in pixels.
+/// Two centres that disagree: the one that is held, by the words, and the file's.
+#[must_use]
+pub fn of_two_centres(held: [f64; 2], other: Option<[f64; 2]>, open: &Open) -> Option<Point> {
+    let [x, y] = other?;
+    let by = [x - held[0], y - held[1]];
+    let is_within = open.centre_within.is_some_and(|within| by[0].hypot(by[1]) <= within);
+    if is_within {
+        return None;
+    }
+    let [worth_x, worth_y] = open.by_centre.map(|[a, b]| degrees(a * by[0] + b * by[1]));
+    let what = format!(
+        "two centres are stated: {} {} is held, and the file has {x} {y}, by which the lean would be {worth_x}° {worth_y}° \
+         beside this one",
+        held[0], held[1]
+    );
+    let remedy =
+        "Take the wrong one out; or state a tolerance that has both, with --centre-within PX.";
+    Some(point("two-centres", what, remedy))
+}
+
+/// What speaks against the result in the stated centre. `middle` and `half` are the middle and half the size of what is
+/// seen, in pixels. The views don't tell a wrong centre from a lean: this asks for what is plausible alone.
 #[must_use]
 pub fn of_centre(
     centre: [f64; 2],
     is_guessed: bool,
-    middle: [f64; 2],
-    half: [f64; 2],
+    [middle, half]: [[f64; 2]; 2],
+    open: &Open,
 ) -> Vec<Point> {
     if is_guessed {
-        return vec![point(
-            "the optical centre is guessed, and a wrong centre looks exactly like a tilt".into(),
-            "State it with --centre X Y, from the lens's data sheet or a calibration without tilt.",
-        )];
+        return vec![guessed()];
     }
-    let distance = |[x, y]: [f64; 2]| (x - middle[0]).hypot(y - middle[1]);
     let [x, y] = centre;
     let seen = format!("{:.0} {:.0}", middle[0], middle[1]);
-    if distance(centre) > 0.1 * half[0].hypot(half[1]) && 2.0 * distance([y, x]) < distance(centre)
-    {
-        return vec![point(
-            format!(
-                "the centre {x} {y} lies {:.0} px from the middle of what is seen, {seen}; {y} {x} would fit it",
-                distance(centre)
-            ),
-            "Look whether x and y are exchanged, in the centre or in the views.",
-        )];
+    if is_exchanged(centre, middle, open) {
+        let what = format!(
+            "with the centre exchanged, {y} {x} in place of {x} {y}, the lean would be far smaller, and the centre nearer to \
+             the middle of what is seen, {seen}"
+        );
+        let remedy = "Look whether x and y are exchanged, in the centre or in the views.";
+        return vec![point("centre-exchanged", what, remedy)];
     }
     if (x - middle[0]).abs() > half[0] || (y - middle[1]).abs() > half[1] {
-        return vec![point(
-            format!("the centre {x} {y} lies outside of what is seen, whose middle is {seen}"),
-            "Look whether centre and views are in pixels of the same picture.",
-        )];
+        let what =
+            format!("the centre {x} {y} lies outside of what is seen, whose middle is {seen}");
+        let remedy = "Look whether centre and views are in pixels of the same picture.";
+        return vec![point("centre-outside", what, remedy)];
     }
     vec![]
 }
 
-/// What speaks against the winner by service's limits, with what is left open.
+fn guessed() -> Point {
+    point(
+        "centre-guessed",
+        "the optical centre is guessed, and a wrong centre looks exactly like a tilt".into(),
+        "State it with --centre X Y, from the lens's data sheet or a calibration without tilt.",
+    )
+}
+
+/// Whether the exchanged centre lies nearer to the middle of what is seen, and leaves less than a quarter of the lean.
+fn is_exchanged([x, y]: [f64; 2], middle: [f64; 2], open: &Open) -> bool {
+    let distance = |[x, y]: [f64; 2]| (x - middle[0]).hypot(y - middle[1]);
+    let ([lean_x, lean_y], _) = open.headline();
+    let moved = |[by_x, by_y]: [f64; 2]| (by_x - by_y) * (y - x);
+    let [there_x, there_y] = open.by_centre.map(moved);
+    let is_smaller = 4.0 * (lean_x + there_x).hypot(lean_y + there_y) < lean_x.hypot(lean_y);
+    is_smaller && distance([y, x]) < distance([x, y])
+}
+
+/// What speaks against the result by service's limits, with what is left open.
 #[must_use]
 pub fn of_limits(winner: &Winner, open: &Open, limits: Limits) -> Vec<Point> {
     let mut points = vec![];
-    let total = open.total();
+    let (here, bounds) = open.headline();
     let axes = if open.held.is_some() { 0..1 } else { 0..2 };
     for i in axes {
-        let (axis, tilt) = (["x", "y"][i], tilts(winner.sensor)[i]);
-        if let Some(limit) = limits.tilt.filter(|limit| tilt.abs() + total[i] > *limit) {
-            let (tilt, open, limit) = (degrees(tilt), degrees(total[i]), degrees(limit));
-            let what =
-                format!("tilt {axis}, {tilt}° ± {open}°, is or may be beyond the limit {limit}°");
-            points.push(point(what, "Service the mount; check the centre before."));
+        let (axis, tilt) = (["x", "y"][i], here[i]);
+        let bound = bounds.map_or(f64::INFINITY, |bounds| bounds[i]);
+        if let Some(limit) = limits.tilt.filter(|limit| tilt.abs() + bound > *limit) {
+            let what = format!(
+                "tilt {axis}, {}° ± {}°, is or may be beyond the limit {}°",
+                degrees(tilt),
+                degrees(bound),
+                degrees(limit)
+            );
+            points.push(point(
+                "limit-tilt",
+                what,
+                "Correct the sensor's mount, or look at the limit.",
+            ));
         }
     }
     if let Some(limit) = limits.mean.filter(|limit| winner.mean_reproj_error > *limit) {
@@ -337,25 +419,30 @@ pub fn of_limits(winner: &Winner, open: &Open, limits: Limits) -> Vec<Point> {
             "the mean error, {:.4} px, is above the limit {limit} px",
             winner.mean_reproj_error
         );
-        points.push(point(what, "Look at the worst dots and views; take the views again."));
+        points.push(point("limit-mean", what, "Look at the worst dots and views."));
     }
     points
 }
 
-/// Noise that leaves a winner's tilts open too far.
+/// Views that leave the lean open too far, and the turn of the plate that would help most.
 #[must_use]
-pub fn of_noise(open: &Open) -> Option<Point> {
-    let noise = open.noise.map(|noise| noise.map(f64::to_degrees));
-    noise.is_none_or(|noise| noise.iter().any(|open| *open > MOST_OPEN)).then(|| {
-        let by = noise.map_or("any amount".into(), |[x, y]| match open.held {
-            None => format!("±{x:.2}° and ±{y:.2}°"),
-            Some(_) => format!("±{x:.2}°"),
+pub fn of_noise(noise: Option<[f64; 2]>, is_held: bool, next: Option<&NextView>) -> Option<Point> {
+    let noise = noise.map(|noise| noise.map(f64::to_degrees));
+    let is_wide = |[x, y]: [f64; 2]| x > MOST_OPEN || (y > MOST_OPEN && !is_held);
+    noise.is_none_or(is_wide).then(|| {
+        let by = noise.map_or("any amount".into(), |[x, y]| match is_held {
+            false => format!("±{x:.2}° and ±{y:.2}°"),
+            true => format!("±{x:.2}°"),
         });
-        let tilts = if open.held.is_some() { "tilt x" } else { "the tilts" };
-        point(
-            format!("noise in the pixels leaves {tilts} open by {by}"),
-            "Take more views, with the plate turned by 20° to 40°, about both axes.",
-        )
+        let tilts = if is_held { "tilt x" } else { "the tilts" };
+        let remedy = match next {
+            Some(next) => format!(
+                "Take more views, first one with the plate's {} turned away by 30°.",
+                next.turned
+            ),
+            None => "Take more views, with the plate turned by 20° to 40°, about both axes.".into(),
+        };
+        point("noise", format!("noise in the pixels leaves {tilts} open by {by}"), &remedy)
     })
 }
 
@@ -368,13 +455,11 @@ pub fn without_views(
     open: &Open,
     choices: &Choices,
 ) -> Vec<Point> {
-    let is_guessed = choices.guess_centre.is_some();
-    let nowhere = [0.0; 2];
     let against = [
         finished.stop.as_ref().map(of_stop).into_iter().collect(),
-        if is_guessed { of_centre(nowhere, true, nowhere, nowhere) } else { vec![] },
+        choices.guess_centre.map(|()| guessed()).into_iter().collect(),
         of_plan(plan),
-        of_search(finished, winner, plan.options(), open.steps.map(|step| 4.0 * step)),
+        of_search(finished, winner, plan.options()),
         of_limits(winner, open, choices.limits()),
     ];
     against.concat()
@@ -382,11 +467,12 @@ pub fn without_views(
 
 /// What can't be looked at without the views.
 pub const ONLY_BY_VIEWS: &[&str] = &[
-    "whether noise in the pixels leaves the tilts open too far",
+    "the lean, which is the least-squares optimum beside the winner, and whether noise in the pixels leaves it open too far",
+    "whether other tilts fit the views as well",
     "whether the stated centre lies where the views are, and not with x and y exchanged",
     "stray dots and stray views, and dots that aren't counted",
     "whether the errors are noise, or those of a bent plate, of a lens or of another camera",
-    "whether the plate was turned far enough between the views, and is seen from one side",
+    "whether the plate is seen from one side",
 ];
 
 /// A search that was stopped before its end.
@@ -411,24 +497,41 @@ pub fn of_stop(stop: &Stop) -> Point {
     } else {
         "Search with more time, with fewer tilts, or with fewer rounds."
     };
-    point(what, remedy)
+    point("stopped", what, remedy)
 }
 
-/// A tilt y that is held at 0 while the views want another: by more than the steps, twice the noise and the centre's
-/// tolerance explain.
+/// A winner that lies farther from the lean than steps, penalty and noise explain.
+#[must_use]
+pub fn of_distance(open: &Open) -> Option<Point> {
+    let (off, explained, lean) = (open.off()?, open.explained?, open.lean?);
+    let is_far = (0..2).any(|i| off[i].abs() > explained[i]);
+    is_far.then(|| {
+        let [lean, off, explained] = [lean, off, explained].map(|both| both.map(degrees).join("° "));
+        let what = format!(
+            "the winner lies {off}° beside the lean, {lean}°, and its steps, the penalty on tilts and noise explain no more \
+             than {explained}°"
+        );
+        point("off-the-lean", what, "Type tilts near the lean (--tilts-x, --tilts-y); look at the views.")
+    })
+}
+
+/// A tilt y that is held at 0 while the views want another, by more than noise, the lens and the centre's tolerance explain.
 #[must_use]
 pub fn of_held(open: &Open) -> Option<Point> {
-    let [wanted, noise] = open.held?.wanted?;
-    let by_centre = open.by_centre().unwrap_or_default()[1];
-    (wanted.abs() > open.steps[0] + 2.0 * noise + by_centre).then(|| {
+    let [wanted, bound] = open.held?.wanted?;
+    let [by_x, by_y] = open.by_centre[1];
+    let by_centre = open.centre_within.unwrap_or(0.0) * by_x.hypot(by_y);
+    (wanted.abs() > bound + by_centre).then(|| {
         let what = format!(
             "tilt y is held at 0, and the views want {}° ± {}°: the sensor leans about y too, or the centre's x is off by \
              {:.1} px",
             degrees(wanted),
-            degrees(noise),
-            wanted.abs() / open.per_pixel[1]
+            degrees(bound),
+            wanted.abs() / by_x.abs()
         );
-        point(what, "Search without --one-axis; or check the centre, and state its tolerance with --centre-within PX.")
+        let remedy =
+            "Search without --one-axis; or check the centre, and state its tolerance with --centre-within PX.";
+        point("held", what, remedy)
     })
 }
 
@@ -436,13 +539,15 @@ pub fn of_held(open: &Open) -> Option<Point> {
 #[must_use]
 pub fn of_plan(plan: &Plan) -> Vec<Point> {
     let holes = plan.axes.iter().flat_map(|axis| axis.hole_texts());
-    let points = holes.map(|hole| point(hole, "Type tilts there, or take a larger --step."));
+    let points =
+        holes.map(|hole| point("hole", hole, "Type tilts there, or take a larger --step."));
     points.filter(|_| plan.options().refine_rounds > 0).collect()
 }
 
 #[cfg(test)]
 mod tests {
     use super::*;
+    use crate::residuals::Dot;
     use jinnychair::Pt2;
 
     fn fit(counted: usize, all: usize) -> Fit {
@@ -451,25 +556,14 @@ mod tests {
             place: Pt2 { x: i as f64, y: 0.0 },
             error: (i < counted).then_some([0.1, if i.is_multiple_of(2) { 0.1 } else { -0.1 }]),
         };
-        let normals = vec![[0.0, 0.0, 1.0], [0.0, 0.5f64.sin(), 0.5f64.cos()]];
-        Fit { dots: (0..all).map(dot).collect(), normals, is_right_handed: vec![true, true] }
+        let names = vec!["a.png".into(), String::new()];
+        Fit { dots: (0..all).map(dot).collect(), is_right_handed: vec![true, true], names }
     }
 
     #[test]
     fn dots_that_do_not_count_are_told() {
-        assert_eq!(few_counted(&fit(9, 10)), None);
-        assert!(
-            few_counted(&fit(89, 100)).unwrap().what.contains("only 89 of 100 dots are counted")
-        );
-    }
-
-    #[test]
-    fn a_fit_without_faults_has_none() {
-        let fit = fit(40, 40);
-        assert_eq!(
-            (stray_dots(&fit), systematic(&fit), little_variety(&fit), mirrored(&fit)),
-            (None, None, None, None)
-        );
-        assert!((fit.largest_turn() - 0.5).abs() < 1e-9);
+        assert_eq!(not_counted(&fit(10, 10)), None);
+        assert!(not_counted(&fit(99, 100)).unwrap().what.contains("1 of 100 dots aren't counted"));
+        assert_eq!(of_fit(&fit(40, 40), false), []);
     }
 }

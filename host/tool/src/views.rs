@@ -3,11 +3,13 @@
 //! ```text
 //! # What follows the sign is a comment.
 //! centre 655 470           # the optical centre in pixels
-//! view                     # begins a view
+//! view IMG_0012.png        # begins a view; its name may follow
 //! 0.00 0.00 412.3 305.8    # a dot: its place on the plate, then the pixel where it is seen
 //! ```
 
+use crate::typed::{self, shown};
 use jinnychair::Pt2;
+use std::collections::BTreeSet;
 use std::fmt::{Display, Formatter};
 
 /// The dots that one view shows.
@@ -17,6 +19,8 @@ pub struct View {
     pub board: Vec<Pt2>,
     /// Seen pixels, one for each place.
     pub pixels: Vec<Pt2>,
+    /// Its name, as that of its photograph; empty where it has none.
+    pub name: String,
 }
 
 impl View {
@@ -35,8 +39,10 @@ pub struct Plate {
     pub views: Vec<View>,
 }
 
-/// The most dots that a view, and that all views together, may have.
-pub const MOST_DOTS: [usize; 2] = [400, 1024];
+/// The fewest dots that a view may have: with fewer it has no map.
+pub const LEAST_DOTS: usize = 4;
+/// The most dots that a tilt is scored by.
+pub const MOST_SCORED: usize = 1024;
 
 /// What is wrong with a file, and where.
 #[derive(Clone, Debug, PartialEq)]
@@ -65,6 +71,9 @@ const CENTRE_FORM: &str = "`centre X Y`, two numbers in pixels, as `centre 655 4
 const DOT_FORM: &str =
     "four numbers parted by spaces, place and pixel of a dot, as `0 20 412.3 305.8`";
 
+const PIXELS_FIRST: &str = "the last two numbers of a line are the same in each view, and the first two never: so the pixels stand \
+                            first. Write the place on the plate first, and then the pixel";
+
 impl Plate {
     /// Reads the text of a file.
     ///
@@ -85,8 +94,9 @@ impl Plate {
         let words: Vec<&str> = line.split_whitespace().collect();
         match words[..] {
             [] => {}
-            ["view"] => self.views.push(View::default()),
-            ["view", ..] => return Err(unexpected(line, "`view` alone on its line")),
+            ["view", ref name @ ..] => {
+                self.views.push(View { name: name.join(" "), ..View::default() });
+            }
             ["centre" | "center", ref rest @ ..] => {
                 if self.centre.is_some() {
                     return Err("the centre is stated twice. Leave one of the lines out".into());
@@ -110,7 +120,6 @@ impl Plate {
     }
 
     fn check(&self) -> Result<(), String> {
-        let [most_in_view, most] = MOST_DOTS;
         if self.views.len() < 3 {
             return Err(format!(
                 "{} views, at least 3 are needed. Take more, each with the plate held at another angle",
@@ -119,20 +128,32 @@ impl Plate {
         }
         for (i, view) in self.views.iter().enumerate() {
             let dots = view.dots();
-            if !(4..=most_in_view).contains(&dots) {
+            if dots < LEAST_DOTS {
                 return Err(format!(
-                    "view {} has {dots} dots, not 4 to {most_in_view}. Leave the view out, or thin it out",
-                    i + 1
+                    "view {} has {dots} dots, at least {LEAST_DOTS} are needed. Leave the view out",
+                    called(i, &view.name)
                 ));
             }
         }
-        let dots = self.dots();
-        if dots > most {
-            return Err(format!(
-                "{dots} dots in all views, at most {most} can be scored. Thin them out"
-            ));
+        if self.begins_with_pixels() {
+            return Err(PIXELS_FIRST.into());
         }
         Ok(())
+    }
+
+    /// Whether the pixels stand where the places belong: a plate has the same places in each view, and is seen in others.
+    fn begins_with_pixels(&self) -> bool {
+        let bits = |points: &[Pt2]| -> BTreeSet<[u64; 2]> {
+            points.iter().map(|point| [point.x.to_bits(), point.y.to_bits()]).collect()
+        };
+        let are_shared = |points: fn(&View) -> &[Pt2]| {
+            let first = bits(points(&self.views[0]));
+            let shared =
+                self.views[1..].iter().map(|view| bits(points(view)).intersection(&first).count());
+            shared.collect::<Vec<_>>()
+        };
+        let (places, pixels) = (are_shared(|view| &view.board), are_shared(|view| &view.pixels));
+        places.iter().all(|count| *count == 0) && pixels.iter().all(|count| *count > 3)
     }
 
     /// How many dots all views show.
@@ -148,14 +169,15 @@ impl Plate {
     /// The text that [`Plate::parse`] reads.
     pub fn text(&self) -> String {
         let mut text = format!(
-            "{HEAD}\n# centre X Y: the optical centre in pixels. view: begins a view.\n\
+            "{HEAD}\n# centre X Y: the optical centre in pixels. view: begins a view; its name may follow.\n\
              # Then a line for each dot: its place on the plate, and the pixel where it is seen.\n"
         );
         if let Some([x, y]) = self.centre {
             text += &format!("centre {x} {y}\n");
         }
         for view in &self.views {
-            text += "view\n";
+            text += format!("view {}", view.name).trim_end();
+            text += "\n";
             for (place, pixel) in view.board.iter().zip(&view.pixels) {
                 text += &format!("{} {} {} {}\n", place.x, place.y, pixel.x, pixel.y);
             }
@@ -164,9 +186,18 @@ impl Plate {
     }
 }
 
+/// A view, counted from 0, as it is called in a sentence: its number from 1, and its name.
+#[must_use]
+pub fn called(view: usize, name: &str) -> String {
+    match name {
+        "" => (view + 1).to_string(),
+        name => format!("{} ({})", view + 1, shown(name)),
+    }
+}
+
 /// What was read, and what is expected in its place.
 fn unexpected(read: &str, expected: &str) -> String {
-    format!("read `{read}`; expected {expected}")
+    format!("read `{}`; expected {expected}", shown(read))
 }
 
 /// As many finite numbers as asked for; else why not.
@@ -177,9 +208,9 @@ fn numbers<const N: usize>(words: &[&str]) -> Result<[f64; N], String> {
     let words: [&str; N] = words.try_into().map_err(|_| format!(" ({} words)", words.len()))?;
     let mut numbers = [0.0; N];
     for (number, word) in numbers.iter_mut().zip(words) {
-        *number = match word.parse::<f64>() {
-            Ok(value) if value.is_finite() => value,
-            _ => return Err(format!(" (`{word}` isn't a finite number)")),
+        *number = match typed::number(word) {
+            Some(value) if value.is_finite() => value,
+            _ => return Err(format!(" (`{}` isn't a finite number)", shown(word))),
         };
     }
     Ok(numbers)
@@ -214,7 +245,6 @@ mod tests {
             fault("centre 655 470 px # optical"),
             format!("line 1: read `centre 655 470 px`; {centre}")
         );
-        assert_eq!(fault("view 1\n"), "line 1: read `view 1`; expected `view` alone on its line");
         assert!(
             fault("# none yet\n1 2 3 4\n").starts_with("line 2: a dot before the first `view`")
         );
@@ -222,21 +252,54 @@ mod tests {
             fault("centre 1 2\ncenter 1 2\n").starts_with("line 2: the centre is stated twice")
         );
         assert!(fault("").starts_with("0 views, at least 3 are needed"));
-        assert!(fault("view\nview\nview\n").starts_with("view 1 has 0 dots, not 4 to 400"));
-        let view = format!("view\n{}", "0 0 1 1\n".repeat(342));
         assert!(
-            fault(&view.repeat(3))
-                .starts_with("1026 dots in all views, at most 1024 can be scored")
+            fault("view\nview\nview\n").starts_with("view 1 has 0 dots, at least 4 are needed")
         );
+    }
+
+    #[test]
+    fn pixels_that_stand_first_are_told() {
+        let mut plate = crate::synthetic::BUILT_IN.plate();
+        assert!(Plate::parse(&plate.text()).is_ok());
+        for view in &mut plate.views {
+            std::mem::swap(&mut view.board, &mut view.pixels);
+        }
+        assert!(fault(&plate.text()).starts_with("the last two numbers of a line are the same"));
+        // A plate that is seen from one place alone, or whose dots differ from view to view, has them where they belong.
+        plate.views.iter_mut().for_each(|view| view.board = view.pixels.clone());
+        assert!(Plate::parse(&plate.text()).is_ok());
+    }
+
+    #[test]
+    fn a_minus_may_be_that_of_print_and_what_is_shown_is_cut() {
+        let minus = "view\n\u{2212}1 0 \u{2212}2.5 1\n0 0 1 2\n1 0 1 2\n1 1 1 2\n".repeat(3);
+        let plate = Plate::parse(&minus).unwrap();
+        assert_eq!((plate.views[0].board[0].x, plate.views[0].pixels[0].x), (-1.0, -2.5));
+        let told = fault(&format!("view\n{}\n", "1 ".repeat(1_000_000)));
+        assert!(told.len() < 300 && told.contains("1 1 1 ... (1999999 letters)"), "{told}");
+        assert!(fault("view\n\u{1b}[31m 1 2 3\n").contains("read `\\u{1b}[31m 1 2 3`"));
     }
 
     #[test]
     fn text_is_read_back_also_with_the_other_spelling() {
         let board = [[0.0, 0.5], [1.0, 0.0], [1.0, 1.0], [0.0, 1.0]].map(|[x, y]| Pt2 { x, y });
-        let view = View { board: board.to_vec(), pixels: vec![Pt2 { x: 0.1, y: 0.2 }; 4] };
-        let plate = Plate { centre: Some([640.5, 480.0]), views: vec![view; 3] };
+        let pixels = vec![Pt2 { x: 0.1, y: 0.2 }; 4];
+        let view = View { board: board.to_vec(), pixels, name: String::new() };
+        let named = View { name: "IMG 12.png".into(), ..view.clone() };
+        let plate = Plate { centre: Some([640.5, 480.0]), views: vec![view.clone(), named, view] };
         assert_eq!(Plate::parse(&plate.text()), Ok(plate.clone()));
         let other = plate.text().replace("\ncentre", "\r\ncenter");
         assert_eq!(Plate::parse(&other), Ok(plate));
+    }
+
+    #[test]
+    fn a_view_is_called_by_its_number_and_its_name() {
+        let dots = "0 0 1 1\n".repeat(4);
+        let few = format!("view\n{dots}view\t two  words.png # mine\n0 0 1 1\nview\n{dots}");
+        assert!(
+            fault(&few).starts_with("view 2 (two words.png) has 1 dots, at least 4 are needed")
+        );
+        assert_eq!([called(0, ""), called(1, "a")], ["1", "2 (a)"]);
+        assert_eq!(called(0, "\u{1b}[31m"), "1 (\\u{1b}[31m)");
     }
 }

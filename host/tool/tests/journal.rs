@@ -72,7 +72,7 @@ fn no_journal_is_written_over() {
     assert_said(&here, &small(&["--journal=missing/n"]), 1, &["missing/n: can't be written: "]);
     // A search that can't start leaves none.
     let words = ["search", "--bound=40deg", "--journal=new"];
-    assert_said(&here, &words, 1, &["the search can't start"]);
+    assert_said(&here, &words, 2, &["--bound: `40deg` is above 0.5rad, which is 28.6°"]);
     assert!(!here.join("new").exists() && !here.join("new.inputs").exists());
 }
 
@@ -81,9 +81,11 @@ fn a_journal_is_shown_in_decimals_and_degrees() {
     let here = searched("journal-shown");
     let shown = said(&here, &["show", "night"], 0);
     let table = Record::parse(&file(here.join("tilts.csv"))).unwrap();
-    assert_eq!(shown.lines().count(), 1 + table.tried.len());
+    let (rows, checked) = shown.trim_end().rsplit_once('\n').unwrap();
+    assert_eq!(rows.lines().count(), 1 + table.tried.len());
+    assert!(checked.starts_with("checked         the run's"), "{checked}");
     assert!(shown.starts_with("number  round"), "{shown}");
-    for (line, tried) in shown.lines().skip(1).zip(&table.tried) {
+    for (line, tried) in rows.lines().skip(1).zip(&table.tried) {
         let fields: Vec<&str> = line.split_whitespace().collect();
         assert_eq!(fields.len(), 17);
         assert_eq!(fields[0], tried.number.to_string());
@@ -94,9 +96,9 @@ fn a_journal_is_shown_in_decimals_and_degrees() {
     assert_said(&here, &["show"], 2, &["no journal is named"]);
     assert_said(&here, &["show", "a", "b"], 2, &["what is `b`?"]);
     assert_said(&here, &["show", "none"], 1, &["none: can't be read: "]);
-    // It needs no inputs.
+    // Without inputs it is doubtful.
     fs::remove_file(here.join("night.inputs")).unwrap();
-    assert_eq!(said(&here, &["show", "night"], 0), shown);
+    assert_said(&here, &["show", "night"], 3, &[rows]);
 }
 
 #[test]
@@ -126,25 +128,24 @@ fn a_chart_is_drawn_from_journal_and_inputs_alone() {
     assert_said(&alone, &["chart", "night", "--out=night"], 1, &["night: this is an input"]);
     assert_said(&alone, &["chart", "night", "--out=night.inputs"], 1, &["this is an input"]);
     fs::remove_file(alone.join("night.inputs")).unwrap();
-    assert_said(&alone, &["chart", "night"], 1, &["night.inputs: can't be read"]);
+    assert_said(&alone, &["chart", "night"], 3, &["night.inputs: there is no such file"]);
 }
 
 #[test]
 fn inputs_of_another_journal_are_told() {
     let here = searched("journal-strange");
-    said(&here, &["search", "--no-decomposition", "--rounds=0", "--journal=other"], 3);
+    said(&here, &["search", "--no-decomposition", "--rounds=0", "--journal=other"], 0);
     fs::copy(here.join("other.inputs"), here.join("night.inputs")).unwrap();
-    let told =
-        "night.inputs: they belong to another journal: they lead to candidate 0 with the seed";
-    assert_said(&here, &["chart", "night"], 1, &[told]);
+    let told = ["not the run's from line 1 on: the seed's ", "whether the inputs are this"];
+    assert_said(&here, &["chart", "night"], 1, &told);
     assert!(!here.join("night.svg").exists());
-    assert_said(&here, &["show", "night"], 3, &[told]);
+    assert_said(&here, &["show", "night"], 1, &told);
     // Changed inputs are refused.
     let text = file(here.join("other.inputs")).replace("rounds 0", "rounds 1");
     fs::write(here.join("other.inputs"), text).unwrap();
-    for (command, code) in [("chart", 1), ("show", 3)] {
-        let told = ["other.inputs: line ", "the file was changed"];
-        assert_said(&here, &[command, "other"], code, &told);
+    for command in ["chart", "show"] {
+        let told = ["UNCHECKED", "other.inputs: line ", "the file was changed"];
+        assert_said(&here, &[command, "other"], 3, &told);
     }
 }
 
@@ -155,19 +156,19 @@ fn a_line_that_was_cut_off_is_left_out_and_a_bad_one_is_named() {
     let cut = format!("{}\n{}", whole[..5].join("\n"), &whole[5][..100]);
     fs::write(here.join("night"), cut).unwrap();
     let told = "night: line 6 has no end: it was cut off, or is being written. It is left out";
-    assert_eq!(said(&here, &["show", "night"], 3).lines().count(), 1 + 5 + 1);
+    assert_eq!(said(&here, &["show", "night"], 3).lines().count(), 1 + 5 + 3);
     assert_said(&here, &["show", "night"], 3, &[told]);
     assert_said(&here, &["chart", "night"], 3, &[told, "written: night.svg"]);
     let bad = format!("{}\n{}\n", whole[..5].join("\n"), whole[5].to_uppercase());
     fs::write(here.join("night"), bad).unwrap();
-    let told = "night: line 6: this isn't a line of a journal (29)";
-    assert_eq!(said(&here, &["show", "night"], 1).lines().count(), 1 + 5 + 1);
+    let told = "night: not the run's from line 6 on: this isn't a line of a journal (29)";
     assert_said(&here, &["show", "night"], 1, &[told]);
+    assert_eq!(said(&here, &["show", "night", "--unchecked"], 3).lines().count(), 1 + 1 + 5 + 1);
     assert_said(&here, &["chart", "night"], 1, &[told]);
     // An empty journal is one.
     fs::write(here.join("night"), "").unwrap();
-    assert_eq!(said(&here, &["show", "night"], 0).lines().count(), 1);
-    assert_said(&here, &["chart", "night"], 0, &["written: night.svg"]);
+    assert_eq!(said(&here, &["show", "night"], 3).lines().count(), 1 + 2);
+    assert_said(&here, &["chart", "night"], 3, &["written: night.svg"]);
 }
 
 /// What the program says where no file may be longer than so many blocks of 512 bytes. The signal that comes with it is ignored.
@@ -190,8 +191,11 @@ fn a_disk_without_room_stops_the_search() {
     assert!(names(&here).is_empty());
     let text = said_with_limit(&here, 8);
     assert!(text.contains("night: can't be written: File too large"), "{text}");
+    assert!(text.contains(". Then `jinnychair resume night` goes on with it"), "{text}");
     assert_eq!(names(&here), ["night", "night.inputs"]);
     // The lines before the one that had no room are whole.
     let journal = Journal::read(&here.join("night")).unwrap();
     assert_eq!((journal.lines.len(), journal.ending), (16, Ending::Whole));
+    // With room it goes on, as was said.
+    assert_said(&here, &["resume", "night"], 0, &["kept            night: 16 lines"]);
 }

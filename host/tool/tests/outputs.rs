@@ -9,7 +9,7 @@ use std::collections::BTreeSet;
 use std::ops::ControlFlow;
 use tool::chart::chart;
 use tool::choices::MIN_COUNTED;
-use tool::drive::{Finished, Source, Tried, best, last_step, run, to_the_end};
+use tool::drive::{Finished, Source, Tried, best, run, to_the_end};
 use tool::report;
 use tool::table::{self, Record};
 use tool::verdict::{of_search, of_stop, too_few_counted};
@@ -374,7 +374,7 @@ fn what_the_search_itself_has_against_a_winner_is_told() {
     let told = |options: &Options, solve: &dyn Fn(&Seed) -> Option<Solution>| {
         let finished = search(options, solve);
         let winner = finished.winner.unwrap();
-        let points = of_search(&finished, &winner, options, [4.0 * last_step(options); 2]);
+        let points = of_search(&finished, &winner, options);
         points.iter().map(|point| format!("{point}\n")).collect::<String>()
     };
     let options = options(2);
@@ -391,13 +391,8 @@ fn what_the_search_itself_has_against_a_winner_is_told() {
     let reached =
         told(&options, &|seed| (seed.sensor.tilt_x < 0.115).then(|| off_by(K, near(seed, 0.113))));
     assert!(reached.contains("as far from its seed as the rounds reach, 1.719°"), "{reached}");
-    let flat = told(&options, &|_| Some(off_by(K, 0.5)));
-    assert!(
-        flat.contains("other tilts score alike") && flat.contains("don't tell them apart"),
-        "{flat}"
-    );
     let few = told(&options, &|seed| {
         (seed.sensor.tilt_x.abs() < 0.01).then(|| off_by(K, near(seed, 0.0) + 0.1))
     });
-    assert!(few.contains("tilts were skipped"), "{few}");
+    assert!(few.contains("tilts were skipped: a lean there is missed"), "{few}");
 }

@@ -106,11 +106,13 @@ fn a_good_search_is_on_its_page_with_all_that_was_asked_and_found() {
         &[
             "<title>Tilt search: night</title>",
             "Views: views.txt, 14 views, 980 dots",
-            "✓ GOOD</p>\n<p>nothing that was looked at speaks against the winner</p>",
-            "<h2>Winner</h2>",
-            "<span>tilt x</span>−1.1942° ± 0.123°<span>−0.020843 rad</span>",
-            "<th scope=\"row\">left open</th><td>±0.123° x, ±0.123° y, the sum of these</td></tr>\n\
-             <tr><th scope=\"row\" class=\"in\">by the steps</th><td>±0.031° x, ±0.031° y</td>",
+            "✓ GOOD</p>\n<p>nothing that was looked at speaks against the result</p>",
+            "<h2>Lean</h2>",
+            "<span>lean x</span>−1.1958° ± 0.106°<span>−0.020871 rad</span>",
+            "<th scope=\"row\">left open</th><td>±0.106° x, ±0.133° y, the sum of these</td></tr>\n",
+            "<tr><th scope=\"row\" class=\"in\">by noise</th><td>±0.012° x, ±0.009° y (covers 95 of 100)</td>",
+            "<h2>Winner of the search</h2>",
+            "<tr><th scope=\"row\" class=\"in\">off the lean</th><td>",
             "±0.081° x, ±0.081° y for a centre within 2 px",
             "<figure>\n<!-- A chart of jinnychair. -->\n<svg ",
             "<td>S</td><td class=\"n\">52</td><td>scored</td>",
@@ -123,7 +125,7 @@ fn a_good_search_is_on_its_page_with_all_that_was_asked_and_found() {
             "<td>fx 1418.856 px  fy 1415.043 px  cx 655.000 px  cy 470.000 px</td>",
             "★ the winner. S scored; H skipped: the host found no camera; ",
             "<h2>The winner&#39;s errors</h2>",
-            "view 13, place 180 60: 0.22",
+            "view 9, place 60 100: 0.16",
             "5 after the grid, steps from 0.500° down to 0.031°; they reach 0.969° from a seed",
             "<h3>What could be missed</h3>",
             "nothing below -2.969°, nothing above 0.969°",
@@ -179,8 +181,9 @@ fn a_doubtful_search_has_its_points_and_skipped_tilts_their_letters() {
         &page,
         &[
             "<section class=\"verdict doubtful\">\n<p class=\"sign\">! DOUBTFUL</p>",
-            "<p>one point speaks against the winner</p>",
-            "<li>the mean error, 0.0732 px, is above the limit 0.05 px. Look at the worst dots",
+            "<p>2 points speak against the result</p>",
+            "<li>4 of 52 tilts were skipped: a lean there is missed. Look at the reasons",
+            "<li>the mean error, 0.0609 px, is above the limit 0.05 px. Look at the worst dots",
             "<code>48,1,1,1,1,52</code>",
         ],
     );
@@ -215,7 +218,9 @@ fn without_the_views_the_page_says_what_could_not_be_looked_at() {
             "? NOT WHOLE</p>\n<p>nothing that can be looked at without the views speaks against the winner</p>",
             "The views aren&#39;t at hand: views.txt: can&#39;t be read: ",
             "±0.031° x, ±0.031° y, the sum of what is known of these",
-            "by noise</th><td>not known without the views</td>",
+            "<th scope=\"row\">lean</th><td>the lean isn&#39;t known without the views: these are the winner&#39;s",
+            "by noise, lens</th><td>not known without the views: the ± doesn&#39;t have it</td>",
+            "by the steps</th><td>±0.031° x, ±0.031° y</td>",
             // An option stays on one line.
             "tolerance with <span class=\"word\">--centre-within</span> PX</td>",
             "<span>tilt x</span>−1.1942° ± 0.031°",
@@ -314,7 +319,7 @@ fn a_hinged_module_and_a_resumed_search_have_a_page() {
     let whole = page(&here, &[], 3);
     assert_sound(&whole);
     let parts = [
-        "<div><span>tilt y</span>held at 0°</div>",
+        "<div><span>lean y</span>held at 0°</div>",
         "0° (held: one axis; let free, it would be ",
         "<li>tilt y is held at 0, and the views want ",
         "<th scope=\"row\">one axis</th><td>yes: tilt y is held at 0</td>",
@@ -347,17 +352,18 @@ fn names_are_texts_and_no_page_vouches_for_a_changed_journal() {
     lines[9].round = 3;
     write_journal(&here.join("night"), &lines);
     let words = ["report", "night", "--page=night.html"];
-    let told = "night: line 10: the line's round is 3; the run is in round 1 (30), and no page is made of such";
+    let told =
+        "night: not the run's from line 10 on: the line's round is 3; the run is in round 1 (30)";
     assert_said(&here, &words, 1, &[told]);
     fs::remove_file(here.join("night.inputs")).unwrap();
-    assert_said(&here, &words, 1, &["night.inputs: can't be read"]);
+    assert_said(&here, &words, 1, &["no page is made of such a journal"]);
     assert!(!here.join("night.html").exists());
     // No foreign file is written over.
     let before = names(&here);
     for (name, fault) in [
         (
             "views.txt",
-            "views.txt: there is such a file, and this program didn't write it. Name another with --page",
+            "views.txt: there is such a file, and this program didn't write it. --force writes over it; or name another with --page",
         ),
         ("night", "night: this is an input, and would be written over. Name another with --page"),
     ] {

@@ -63,7 +63,8 @@ fn each_reason_is_counted_for_itself() {
         "  skipped N     4: the score is not a number\n",
         "report          42,1,2,3,4,52\n",
     ];
-    assert_said(&here, &["report", "night"], 0, &expected);
+    // A reason can't be told from a forged one, but a score in a line is gone, so that later rounds lie elsewhere.
+    assert_said(&here, &["report", "night", "--unchecked"], 3, &expected);
 }
 
 #[test]
@@ -75,24 +76,29 @@ fn what_is_strange_about_a_journal_is_told_behind_its_report() {
     let told = "night: line 6 has no end: it was cut off, or is being written. It is left out";
     assert_said(&here, &["report", "night"], 3, &["5 lines", "report          5,0,0,0,0,5", told]);
     fs::write(here.join("night"), format!("{}x\n", &whole[..ends[4]])).unwrap();
-    let told = "night: line 6: this isn't a line of a journal (29)";
-    assert_said(&here, &["report", "night"], 1, &["report          5,0,0,0,0,5", told]);
+    let told = "night: not the run's from line 6 on: this isn't a line of a journal (29)";
+    assert_said(&here, &["report", "night"], 1, &[told]);
+    let shown = ["report          5,0,0,0,0,5", "UNCHECKED: not the run's from line 6 on"];
+    assert_said(&here, &["report", "night", "--unchecked"], 3, &shown);
     fs::write(here.join("night"), "").unwrap();
-    assert_said(&here, &["report", "night"], 0, &["0 lines", "report          0,0,0,0,0,0"]);
+    assert_said(&here, &["report", "night"], 3, &["0 lines", "report          0,0,0,0,0,0"]);
     // More lines than a search has are of more than one.
     let lines = Journal::parse(whole.as_bytes()).lines;
     write_journal(&here.join("night"), &lines.repeat(13));
     let told = ["676 lines, and a search tries at most 656 tilts (28)", "take the journal that"];
-    assert_said(&here, &["report", "night"], 1, &told);
+    assert_said(&here, &["report", "night", "--unchecked"], 1, &told);
     // Inputs of another journal.
     fs::write(here.join("night"), &whole).unwrap();
-    said(&here, &["search", "--no-decomposition", "--rounds=0", "--journal=other"], 3);
+    said(&here, &["search", "--no-decomposition", "--rounds=0", "--journal=other"], 0);
     fs::copy(here.join("other.inputs"), here.join("night.inputs")).unwrap();
-    assert_said(&here, &["report", "night"], 3, &["night.inputs: they belong to another journal"]);
-    // None are needed.
+    assert_said(&here, &["report", "night"], 1, &["night: not the run's from line 1 on"]);
+    // Without any it is doubtful.
     fs::remove_file(here.join("night.inputs")).unwrap();
-    said(&here, &["report", "night"], 0);
+    assert_said(&here, &["report", "night"], 3, &["report          52,0,0,0,0,52", "UNCHECKED"]);
 }
+
+/// Journals that are made up are shown all the same.
+const UNCHECKED: &str = "--unchecked";
 
 /// The winner in words, by hand: the earliest of the lowest.
 fn winner(lines: &[Line]) -> String {
@@ -120,7 +126,8 @@ fn winners_of_stretches_and_rounds_are_told_and_the_winner_of_those() {
     }
     write_journal(&here.join("night"), &lines);
     let all = winner(&lines);
-    let text = said(&here, &["report", "night", "--stretches=1-9,10-20,21-30,31-52,60-70"], 0);
+    let text =
+        said(&here, &["report", "night", "--stretches=1-9,10-20,21-30,31-52,60-70", UNCHECKED], 3);
     for expected in [
         format!("winners of stretches\n  lines 1 to 9    {}", winner(&lines[..9])),
         format!("\n  lines 10 to 20  {}", winner(&lines[9..20])),
@@ -136,10 +143,10 @@ fn winners_of_stretches_and_rounds_are_told_and_the_winner_of_those() {
     assert!(!text.contains("in no stretch"), "{text}");
     // However it is cut, ties included.
     for cut in ["1-52", "1-10,11-11,12-52", "1-5,6-41,42-60", "1-9,10,11-12,13,14-40,41-52"] {
-        let text = said(&here, &["report", "night", "--stretches", cut], 0);
+        let text = said(&here, &["report", "night", "--stretches", cut, UNCHECKED], 3);
         assert_eq!(text.matches(&format!("\n  all of these    {all}")).count(), 2, "{text}");
     }
-    let text = said(&here, &["report", "night", "--stretches=5-8,12-40"], 0);
+    let text = said(&here, &["report", "night", "--stretches=5-8,12-40", UNCHECKED], 3);
     for gap in ["lines 1 to 4", "lines 9 to 11", "lines 41 to 52"] {
         assert!(text.contains(&format!("\n  left out        {gap}: in no stretch\n")), "{text}");
     }
@@ -148,7 +155,7 @@ fn winners_of_stretches_and_rounds_are_told_and_the_winner_of_those() {
         "  lines 1 to 2    none: the journal has 0 lines",
         "  all of these    none: nothing was scored",
     ];
-    assert_said(&here, &["report", "night", "--stretches=1-2"], 0, &told);
+    assert_said(&here, &["report", "night", "--stretches=1-2"], 3, &told);
     for (stretches, fault) in [
         ("--stretches=3-1", "--stretches: `3-1` isn't a stretch: write its first and last line"),
         ("--stretches=1-5,5-9", "--stretches: `5-9` doesn't lie behind the stretch before it"),

@@ -4,12 +4,13 @@
 mod common;
 
 use common::{assert_said, file, folder, names, program, said, searched, small, write_journal};
-use jinnychair::journal::{Recorded, StoredInputs};
+use jinnychair::journal::{HostVersion, Recorded, StoredInputs};
 use std::ffi::OsStr;
 use std::fs;
 use std::path::{Path, PathBuf};
 use std::process::{Child, Command, Stdio};
 use std::time::{Duration, Instant};
+use tool::case::this_host;
 use tool::journal::Journal;
 use tool::synthetic::BUILT_IN;
 
@@ -230,11 +231,35 @@ fn only_the_views_that_it_began_with_are_taken() {
 }
 
 #[test]
+fn another_hosts_journal_goes_on_only_aloud() {
+    let here = searched("resume-host");
+    let whole = file(here.join("night"));
+    let mut stored = StoredInputs::load(&here.join("night")).unwrap();
+    assert_eq!(stored.host, Some(this_host()));
+    let refused =
+        "another than without the break. Go on with the program that began it, or say --mixed-host";
+    let host = HostVersion { name: "another".into(), version: "1".into() };
+    for (host, named) in [(Some(host), "the host another 1"), (None, "a host that isn't named")] {
+        stored.host = host;
+        fs::write(here.join("night.inputs"), stored.text()).unwrap();
+        fs::write(here.join("night"), &whole[..whole.len() / 2]).unwrap();
+        let began = format!("the journal was begun by {named}, and ");
+        assert_said(&here, &["resume", "night"], 1, &[&began, refused]);
+        assert_eq!(file(here.join("night")), whole[..whole.len() / 2]);
+        assert_said(&here, &["resume", "night", "--mixed-host"], 0, &[&began, "goes on with "]);
+        assert_eq!(file(here.join("night")), whole);
+        assert!(file(here.join("tilts.csv")).contains("\n# resumed: with another host, "));
+        // A replay needs no host.
+        said(&here, &["replay", "night"], 0);
+    }
+}
+
+#[test]
 fn a_journal_that_would_be_lost_is_not_touched() {
     let here = searched("resume-lost");
     let whole = file(here.join("night"));
     // Inputs of another search.
-    said(&here, &["search", "--no-decomposition", "--rounds=0", "--journal=other"], 3);
+    said(&here, &["search", "--no-decomposition", "--rounds=0", "--journal=other"], 0);
     let own = file(here.join("night.inputs"));
     fs::copy(here.join("other.inputs"), here.join("night.inputs")).unwrap();
     let told = [
@@ -284,7 +309,28 @@ fn what_is_dropped_from_the_middle_is_kept_aside() {
     fs::remove_file(here.join("night.dropped")).unwrap();
     let told = "dropped         2 bytes: line 21: this isn't a line of a journal (29). They are in";
     assert_said(&here, &["resume", "night"], 0, &[told]);
-    assert_eq!((file(here.join("night")), file(here.join("night.dropped"))), (whole, "x\n".into()));
+    assert_eq!(file(here.join("night.dropped")), "x\n");
+    assert_eq!(file(here.join("night")), whole);
+    // More than a line's beginning is kept aside as well, and a file that another program changed isn't touched.
+    fs::remove_file(here.join("night.dropped")).unwrap();
+    let foreign = "x".repeat(300);
+    fs::write(here.join("night"), format!("{}{foreign}", &whole[..kept])).unwrap();
+    assert_said(
+        &here,
+        &["resume", "night"],
+        0,
+        &["dropped         300 bytes: line 21: this isn't"],
+    );
+    assert_eq!(
+        (file(here.join("night.dropped")), file(here.join("night"))),
+        (foreign, whole.clone())
+    );
+    for changed in [whole.replace('\n', "\r"), whole.replace('\n', "\r\n")] {
+        fs::write(here.join("night"), &changed).unwrap();
+        let told = ["night: line 1: its lines end with CR", "so it isn't touched"];
+        assert_said(&here, &["resume", "night"], 1, &told);
+        assert_eq!(file(here.join("night")), changed);
+    }
 }
 
 #[test]

@@ -7,10 +7,12 @@ use jinnychair::{
     Solution, Winner,
 };
 use tool::drive::{last_step, run, to_the_end};
+use tool::lean::{Lean, Lens};
 use tool::open::Open;
 use tool::plan::Plan;
 use tool::solve::Host;
 use tool::synthetic::{BUILT_IN, Truth};
+use tool::views::Plate;
 
 /// Degrees about one axis, from −0.1 to −3.
 const PLANTED: [f64; 8] = [-0.1, -0.2, -0.35, -0.5, -1.0, -1.7, -2.4, -3.0];
@@ -55,7 +57,7 @@ fn scripted(seed: &Seed, planted: ScheimpflugParams) -> Solution {
 }
 
 fn search_with(host: &Host, options: &Options, decomposition: &[Seed]) -> Winner {
-    let base = host.base().unwrap();
+    let base = host.base();
     let (views, center) = (host.plate().views.len(), host.observed_centre());
     let inputs = Inputs { views, options, decomposition, base, center };
     run(&inputs, &[], |seed| host.solve(seed), to_the_end).unwrap().winner.unwrap()
@@ -129,42 +131,42 @@ fn a_centre_that_is_off_moves_the_tilts_as_told() {
         let host = Host::new(plate).unwrap();
         let winner = search_with(&host, &options(6), &[host.decomposition().unwrap()]);
         let seed = Seed { reference_k: winner.camera.k, sensor: winner.sensor };
-        let open = Open::new(&host, &winner, &seed, &Plan::new(&options(6), &[]), Some(10.0));
-        (winner.sensor, open.by_centre().unwrap())
+        let lean = Lean::new(&host, &seed, Lens::Open).unwrap();
+        let open = Open::new(&winner, &lean, &Plan::new(&options(6), &[]), Some(10.0));
+        (open.lean.unwrap(), open.by_tolerance().unwrap())
     };
     let [cx, cy] = [truth.k.cx, truth.k.cy];
     let (here, told) = found([cx, cy]);
     let (moved, _) = found([cx + 10.0, cy + 10.0]);
-    assert!((moved.tilt_x - here.tilt_x - told[0]).abs() < 0.02 * told[0]);
-    assert!((here.tilt_y - moved.tilt_y - told[1]).abs() < 0.02 * told[1]);
+    assert!((moved[0] - here[0] - told[0]).abs() < 0.02 * told[0]);
+    assert!((here[1] - moved[1] - told[1]).abs() < 0.02 * told[1]);
 }
 
-/// What the program says of noise: the winners of many plates spread by about as much.
+/// What the program says of noise: the leans of many plates spread by about as much.
 #[test]
 fn noise_leaves_the_tilts_open_as_told() {
     const PLATES: usize = 12;
     let (mut told, mut squares) = (0.0, 0.0);
-    for i in 0..PLATES {
-        // The same noise each time, at other pixels: the plate is held elsewhere.
-        let held = |j: usize| {
-            let (sine, cosine) = (45.0 * j as f64).to_radians().sin_cos();
-            [35.0 * sine, 35.0 * cosine, i as f64, 0.0, 440.0 + i as f64]
-        };
-        let held: Vec<_> = (0..8).map(held).collect();
-        let host = Host::new(Truth { noise: 0.3, ..BUILT_IN }.plate_held(&held)).unwrap();
+    let held = |j: usize| {
+        let (sine, cosine) = (45.0 * j as f64).to_radians().sin_cos();
+        [35.0 * sine, 35.0 * cosine, (j / 8) as f64, 0.0, 440.0 + (j / 8) as f64]
+    };
+    // All in one, so that no noise comes twice.
+    let held: Vec<_> = (0..8 * PLATES).map(held).collect();
+    let all = Truth { noise: 0.3, ..BUILT_IN }.plate_held(&held);
+    for views in all.views.chunks(8) {
+        let host = Host::new(Plate { views: views.to_vec(), ..all }).unwrap();
         let winner = search_with(&host, &options(6), &[]);
         let seed = Seed { reference_k: winner.camera.k, sensor: winner.sensor };
-        let plan = Plan::new(&options(6), &[]);
-        let [x, y] = Open::new(&host, &winner, &seed, &plan, None).noise.unwrap();
+        let lean = Lean::new(&host, &seed, Lens::Exact).unwrap();
+        let [x, y] = lean.by_noise().unwrap();
         told += 0.5 * (x + y) / PLATES as f64;
-        let [x, y] = [
-            winner.sensor.tilt_x - BUILT_IN.sensor.tilt_x,
-            winner.sensor.tilt_y - BUILT_IN.sensor.tilt_y,
-        ];
+        let [x, y] = lean.tilts();
+        let [x, y] = [x - BUILT_IN.sensor.tilt_x, y - BUILT_IN.sensor.tilt_y];
         squares += 0.5 * (x * x + y * y) / PLATES as f64;
     }
     let seen = 2.0 * squares.sqrt();
-    assert!((0.4..2.5).contains(&(seen / told)), "seen {seen}, told {told}");
+    assert!((0.6..1.6).contains(&(seen / told)), "seen {seen}, told {told}");
 }
 
 /// Why the centre is held: with the centre of an untilted camera's solution, tilt 0 fits exactly.

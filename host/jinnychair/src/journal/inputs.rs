@@ -9,8 +9,8 @@ use std::fs::{self, File};
 use std::io::{self, Write};
 use std::path::{Path, PathBuf};
 
-/// How a file begins. The number is raised with each change of the form.
-const HEAD: &str = "jinnychair inputs 1";
+/// How a file begins that doesn't name its host, and one that does: the number is raised with each change of the form.
+const HEADS: [&str; 2] = ["jinnychair inputs 1", "jinnychair inputs 2"];
 
 const BASE: [&str; 4] = ["base-fx", "base-fy", "base-cx", "base-cy"];
 const CENTER: [&str; 2] = ["centre-x", "centre-y"];
@@ -30,11 +30,28 @@ pub enum Views {
     },
 }
 
+/// The program that worked out cameras and rows for a search. Another one, or another version of it, may give other bits.
+#[derive(Clone, Debug, PartialEq, Eq)]
+pub struct HostVersion {
+    /// Its name, one word.
+    pub name: String,
+    /// Its version.
+    pub version: String,
+}
+
+impl Display for HostVersion {
+    fn fmt(&self, f: &mut Formatter) -> FmtResult {
+        write!(f, "{} {}", self.name, self.version)
+    }
+}
+
 /// All that a search started from, and who started it.
 #[derive(Clone, Debug, PartialEq)]
 pub struct StoredInputs {
     /// The library's version.
     pub library: String,
+    /// The host, if it is named.
+    pub host: Option<HostVersion>,
     /// The date, as the host writes it.
     pub date: String,
     /// Where the views come from.
@@ -82,6 +99,7 @@ impl StoredInputs {
     pub fn new(inputs: &Inputs, plate: Views, date: &str) -> Self {
         Self {
             library: env!("CARGO_PKG_VERSION").into(),
+            host: None,
             date: plain(date),
             plate,
             views: inputs.views,
@@ -120,7 +138,13 @@ impl StoredInputs {
     #[must_use]
     pub fn text(&self) -> String {
         let options = &self.options;
-        let mut text = format!("{HEAD}\nlibrary {}\ndate {}\n", self.library, self.date);
+        let head = HEADS[usize::from(self.host.is_some())];
+        let mut text = format!("{head}\nlibrary {}\n", self.library);
+        if let Some(HostVersion { name, version }) = &self.host {
+            text +=
+                &format!("host {} {}\n", name.replace(char::is_whitespace, "-"), plain(version));
+        }
+        text += &format!("date {}\n", self.date);
         text += &match &self.plate {
             Views::BuiltIn => "views-from built-in\n".to_owned(),
             Views::File { name, sha256 } => {
@@ -254,13 +278,26 @@ impl<'a> Fields<'a> {
     }
 
     fn head(&mut self) -> Result<(), InputsError> {
-        if self.lines[0] != HEAD {
+        if !HEADS.contains(&self.lines[0]) {
+            let [_, newest] = HEADS;
             return Err(self.fault(&format!(
-                "`{HEAD}`. Name a file that this version wrote, or take the version that wrote it"
+                "`{newest}`. Name a file that this version wrote, or take the version that wrote it"
             )));
         }
         self.at = 1;
         Ok(())
+    }
+
+    /// The host, where the form has one.
+    fn host(&mut self) -> Result<Option<HostVersion>, InputsError> {
+        if self.lines[0] == HEADS[0] {
+            return Ok(None);
+        }
+        let form = "`host`, its name and its version";
+        let host = self.peek("host").and_then(|host| host.split_once(' '));
+        let (name, version) = host.ok_or_else(|| self.fault(form))?;
+        self.at += 1;
+        Ok(Some(HostVersion { name: name.into(), version: version.into() }))
     }
 
     /// What follows a name, if it is the next line's.
@@ -362,7 +399,8 @@ impl<'a> Fields<'a> {
     }
 
     fn stored(&mut self) -> Result<StoredInputs, InputsError> {
-        let (library, date) = (self.text("library")?.into(), self.text("date")?.into());
+        let library = self.text("library")?.into();
+        let (host, date) = (self.host()?, self.text("date")?.into());
         let (plate, views) = (self.plate()?, self.whole("views")?);
         let mut options = self.options()?;
         let [fx, fy, cx, cy] = self.reals(BASE)?;
@@ -374,6 +412,7 @@ impl<'a> Fields<'a> {
         let (base, center) = (FxFyCxCy { fx, fy, cx, cy }, Pt2 { x, y });
         Ok(StoredInputs {
             library,
+            host,
             date,
             plate,
             views,

@@ -13,6 +13,8 @@ pub struct Legend<'a> {
     pub tried: &'a [Tried],
     pub bound: Option<f64>,
     pub one_axis: bool,
+    /// Whether the lean is marked.
+    pub has_lean: bool,
     /// What the ring marks, if there is one.
     pub best: Option<&'a str>,
     pub left: f64,
@@ -70,6 +72,11 @@ impl Legend<'_> {
             svg.ring([self.left + 14.0, y]);
             self.text(svg, y, best);
             y += 38.0;
+        }
+        if self.has_lean {
+            svg.lean([self.left + 14.0, y], Some([14.0, 9.0]));
+            self.text(svg, y, "the lean, with its ±");
+            y += 30.0;
         }
         for (source, words) in
             [(Source::Decomposition, "seed by decomposition"), (Source::SeedFile, "seed of a file")]

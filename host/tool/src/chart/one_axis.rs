@@ -2,8 +2,8 @@
 
 use super::part::{PART, Part};
 use super::plot::Plot;
-use super::svg::{ALARM, FAINT, INK, LARGEST_MARK, Svg, told, trimmed};
-use super::{COLUMNS, PARTS_TOP, degrees};
+use super::svg::{ALARM, FAINT, INK, LARGEST_MARK, LEAN, Svg, told, trimmed};
+use super::{COLUMNS, Lean, PARTS_TOP, degrees};
 use crate::drive::{Source, Tried};
 use crate::table::letter;
 
@@ -21,6 +21,7 @@ pub fn draw(
     tried: &[Tried],
     winner: Option<&Tried>,
     bound: Option<f64>,
+    lean: Option<Lean>,
     parts: &[Part],
 ) -> f64 {
     let mut in_order: Vec<_> = tried.iter().filter(|one| degrees(one)[0].is_finite()).collect();
@@ -34,7 +35,7 @@ pub fn draw(
         curves.push(Curve::new(part, corner, size, &in_order, winner));
     }
     for (i, curve) in curves.iter().enumerate() {
-        curve.draw(svg, bound, curves.get(i + 1));
+        curve.draw(svg, bound, lean, curves.get(i + 1));
     }
     let ends = curves.iter().map(|curve| curve.plot.corner[1] + curve.plot.size[1]);
     ends.fold(PARTS_TOP, f64::max) + super::UNDER_A_PLOT
@@ -64,7 +65,7 @@ impl<'a> Curve<'a> {
     }
 
     /// The part with its marks. The next part's place is shown in it.
-    fn draw(&self, svg: &mut Svg, bound: Option<f64>, next: Option<&Curve>) {
+    fn draw(&self, svg: &mut Svg, bound: Option<f64>, lean: Option<Lean>, next: Option<&Curve>) {
         self.title(svg, bound);
         self.plot.axes(svg);
         svg.open(self.plot.corner, self.plot.size);
@@ -73,6 +74,9 @@ impl<'a> Curve<'a> {
         }
         if let Some(next) = next {
             self.outline(svg, next);
+        }
+        if let Some(([x, _], half)) = lean {
+            self.lean(svg, x, half.map(|[half, _]| half));
         }
         self.plot.join(svg, &self.shown);
         self.marks(svg);
@@ -102,6 +106,20 @@ impl<'a> Curve<'a> {
         for x in [-bound, bound].map(|tilt| self.plot.x(tilt)) {
             let style = format!(r#"stroke="{INK}" stroke-dasharray="7 4""#);
             svg.line([x, top], [x, bottom], &style);
+        }
+    }
+
+    /// A line at the lean, and lines at its bounds.
+    fn lean(&self, svg: &mut Svg, tilt: f64, half: Option<f64>) {
+        let (top, bottom) = (self.plot.corner[1], self.plot.corner[1] + self.plot.size[1]);
+        let mut line = |tilt: f64, dashes: &str| {
+            let (x, style) =
+                (self.plot.x(tilt), format!(r#"stroke="{LEAN}" stroke-width="1.5"{dashes}"#));
+            svg.line([x, top], [x, bottom], &style);
+        };
+        line(tilt, "");
+        for side in half.into_iter().flat_map(|half| [-half, half]) {
+            line(tilt + side, r#" stroke-dasharray="3 3""#);
         }
     }
 

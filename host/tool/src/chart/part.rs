@@ -1,9 +1,9 @@
 //! A part of the plane of tilts, with every tilt that was tried in it, coloured by the scores of that part.
 
-use super::degrees;
 use super::svg::{
     ALARM, FAINT, INK, LARGEST_MARK, RING, Svg, signed, tick_step, ticks, told, trimmed,
 };
+use super::{Lean, degrees};
 use crate::drive::{Source, Tried};
 use crate::table::letter;
 
@@ -99,6 +99,7 @@ impl Part {
         tried: &[Tried],
         winner: Option<&Tried>,
         bound: Option<f64>,
+        lean: Option<Lean>,
         next: Option<&Part>,
     ) {
         let scale = Scale::new(tried.iter().filter(|one| self.holds(one)));
@@ -113,6 +114,10 @@ impl Part {
         }
         if let Some(next) = next {
             self.outline(svg, next, tried);
+        }
+        if let Some((at, half)) = lean {
+            let half = half.map(|half| [0, 1].map(|i| 0.5 * PART * half[i] / self.half[i]));
+            svg.lean([self.x(at[0]), self.y(at[1])], half);
         }
         svg.close();
         svg.rectangle(self.corner, [PART, PART], &format!(r#"fill="none" stroke="{INK}""#));

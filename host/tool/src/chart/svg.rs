@@ -12,6 +12,7 @@ pub const FAINT: &str = "#dddddd";
 pub const ALARM: &str = "#c1121f";
 pub const GOOD: &str = "#1b7837";
 pub const SEED: &str = "#1f5fbf";
+pub const LEAN: &str = "#a3137f";
 
 /// The largest mark, and the winner's ring, in units of the drawing.
 pub const LARGEST_MARK: f64 = 7.5;
@@ -126,6 +127,20 @@ impl Svg {
         for [dx, dy] in [[1.0, 0.0], [-1.0, 0.0], [0.0, 1.0], [0.0, -1.0]] {
             let at = |reach: f64| [x + reach * dx, y + reach * dy];
             self.line(at(RING), at(RING + 7.0), &format!(r#"stroke="{ALARM}""#));
+        }
+    }
+
+    /// Marks the lean, with a box that is as wide and as high as its bounds.
+    pub fn lean(&mut self, [x, y]: [f64; 2], half: Option<[f64; 2]>) {
+        for (colour, width) in [("#ffffff", 5.0), (LEAN, 2.5)] {
+            let style = format!(r#"stroke="{colour}" stroke-width="{width}""#);
+            self.line([x - 8.0, y], [x + 8.0, y], &style);
+            self.line([x, y - 8.0], [x, y + 8.0], &style);
+        }
+        if let Some([width, height]) = half {
+            let style =
+                format!(r#"fill="none" stroke="{LEAN}" stroke-width="1.5" stroke-dasharray="3 3""#);
+            self.rectangle([x - width, y - height], [2.0 * width, 2.0 * height], &style);
         }
     }
 

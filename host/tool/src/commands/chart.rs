@@ -1,77 +1,78 @@
 //! `chart`: draws the table or the journal that `search` wrote.
 
-use super::{Command, End, Fault, Word, Words, unknown};
+use super::{Asked, Command, End, Fault, Form, Words, check_believed, end_of};
 use crate::chart::{HEAD, chart};
-use crate::files::{check_free, read, with_ending, write};
-use crate::journal::{Ending, Journal, check_belonging, read_inputs, record};
+use crate::drive::as_it_stands;
+use crate::files::{read_bytes, text_of, with_ending};
+use crate::journal::{Journal, record, record_of_lines};
+use crate::output::{Output, Over};
+use crate::report::stop_place;
 use crate::screen::Screen;
-use crate::table::Record;
+use crate::table::{self, Record};
+use crate::walk::Walked;
 use jinnychair::journal::inputs_path;
 use std::path::{Path, PathBuf};
 
-pub(super) const COMMAND: Command = Command {
-    name: "chart",
-    does: "draws the tried tilts of a table or a journal that a search wrote",
-    help: "\
-jinnychair chart TABLE [--out FILE]
-jinnychair chart JOURNAL [--out FILE]
+pub(super) const COMMAND: Command = Command { name: "chart", run };
 
-Draws every tried tilt of TABLE, a file that `jinnychair search` wrote, as SVG: the same picture that the search
-drew. Or those of JOURNAL, which a search with --journal wrote or is writing, from its lines and JOURNAL.inputs
-alone; the verdict, RMS errors and counted dots are then left out, as a journal doesn't have them. FILE is the
-table's name with .svg in place of .csv, or the journal's with .svg behind it, if none is given.",
-    run,
+const FORM: Form = Form {
+    missing: &["no table is named"],
+    most: 1,
+    options: &["--out"],
+    flags: &["--force", "--unchecked"],
 };
 
-fn run(mut words: Words, screen: &mut Screen) -> Result<End, Fault> {
-    let (mut from, mut out) = (None, None);
-    while let Some(word) = words.next()? {
-        match word {
-            Word::Option(option) if option == "--out" => {
-                out = Some(PathBuf::from(words.file(&option)?))
-            }
-            Word::Option(option) => return Err(unknown(&option)),
-            Word::File(path) if from.is_some() => return Err(unknown(&path.display().to_string())),
-            Word::File(path) => from = Some(PathBuf::from(path)),
-        }
-    }
-    let from = from.ok_or(Fault::Usage("no table is named".into()))?;
-    let out = out.unwrap_or_else(|| beside(&from));
-    check_free(&out, &[&from, &inputs_path(&from)], HEAD)?;
-    let (record, end) = if is_journal(&from) {
-        of_journal(&from, screen)?
+fn run(words: Words, screen: &mut Screen) -> Result<End, Fault> {
+    let asked = Asked::read(words, &FORM)?;
+    let from = asked.files[0].as_path();
+    let out = asked.path("--out").map_or_else(|| beside(from), Ok)?;
+    let over = Over::Own(HEAD).or_all(asked.has("--force"));
+    let out = Output::open(&out, "--out", over, &[from, &inputs_path(from)])?;
+    screen.leave_to([&out]);
+    let bytes = read_bytes(from)?;
+    let (record, end) = if is_journal(from, &bytes) {
+        let walked = Walked::of_bytes(from, bytes);
+        check_believed(&walked, asked.has("--unchecked"))?;
+        screen.say(walked.text());
+        (of_journal(&walked), end_of(&walked))
     } else {
         let fault = |fault: String| format!("{}: {fault}", from.display());
-        (Record::parse(&read(&from)?).map_err(fault)?, End::Good)
+        (text_of(bytes).and_then(|text| Record::parse(&text)).map_err(fault)?, End::Good)
     };
-    write(&out, &chart(&record))?;
-    screen.say(format!("written: {}", out.display()));
+    out.write(&chart(&record))?;
+    screen.say(format!("written: {}", out.name()));
     Ok(end)
 }
 
-/// A journal has inputs beside it, or begins with a line.
-fn is_journal(path: &Path) -> bool {
-    let begins = || Journal::read(path).is_ok_and(|journal| !journal.lines.is_empty());
-    inputs_path(path).exists() || begins()
+/// A journal has inputs beside it, or begins with a line; a table begins as one.
+fn is_journal(path: &Path, bytes: &[u8]) -> bool {
+    let begins = || !Journal::parse(bytes).lines.is_empty();
+    !bytes.starts_with(table::HEAD.as_bytes()) && (inputs_path(path).exists() || begins())
 }
 
-fn of_journal(path: &Path, screen: &mut Screen) -> Result<(Record, End), Fault> {
-    let journal = Journal::read(path)?;
-    if let Ending::Bad(error) = journal.ending {
-        return Err(Fault::Failed(format!("{}: {error}", path.display())));
+fn of_journal(walked: &Walked) -> Record {
+    let lines = &walked.journal.lines;
+    let mut record = walked
+        .inputs
+        .as_ref()
+        .map_or_else(|| record_of_lines(lines), |inputs| record(inputs, lines));
+    let stop = walked.search.as_ref().and_then(|search| as_it_stands(search, vec![]).stop);
+    match (walked.mark(), stop) {
+        (Some(mark), _) => record.add(table::UNCHECKED, &mark),
+        (None, Some(stop)) => record.add("stopped", &stop_place(&stop)),
+        (None, None) => {}
     }
-    let inputs = read_inputs(path)?;
-    let fault = |fault: String| format!("{}: {fault}", inputs_path(path).display());
-    check_belonging(&inputs, &journal.lines).map_err(fault)?;
-    let told = journal.ending_text();
-    if let Some(text) = &told {
-        screen.say(format!("{}: {text}", path.display()));
-    }
-    let end = if told.is_some() { End::Doubtful } else { End::Good };
-    Ok((record(&inputs, &journal.lines), end))
+    record
 }
 
-fn beside(table: &Path) -> PathBuf {
+/// The chart's name where none is stated.
+fn beside(table: &Path) -> Result<PathBuf, Fault> {
+    if std::fs::metadata(table).is_ok_and(|about| !about.is_file()) {
+        return Err(Fault::Usage(format!(
+            "{}: this is no plain file, so name the chart with --out",
+            table.display()
+        )));
+    }
     let is_table = table.extension().is_some_and(|ending| ending == "csv");
-    if is_table { table.with_extension("svg") } else { with_ending(table, ".svg") }
+    Ok(if is_table { table.with_extension("svg") } else { with_ending(table, ".svg") })
 }

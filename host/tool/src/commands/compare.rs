@@ -1,68 +1,113 @@
 //! `compare`: where two journals part.
 
-use super::{Command, End, Fault, Words, only_files};
+use super::{Asked, Command, End, Fault, Form, Words, give};
 use crate::compare::{self, Comparison};
-use crate::journal::{Ending, Journal, read_inputs};
+use crate::drift::{self, Drift, Told, drift};
+use crate::json::Json;
 use crate::screen::Screen;
-use jinnychair::journal::inputs_path;
-use std::path::Path;
+use crate::summary;
+use crate::walk::Walked;
+use jinnychair::journal::Views;
 
-pub(super) const COMMAND: Command = Command {
-    name: "compare",
-    does: "says where two journals part",
-    help: "\
-jinnychair compare JOURNAL JOURNAL
+pub(super) const COMMAND: Command = Command { name: "compare", run };
 
-Says where two journals part, bit by bit: first in what their searches started from, then line by line in seeds,
-outcomes, scores, mean errors and cameras, and in their winners. For a search that was run on two computers, with two
-versions, or twice. Ends with 0 where they are the same, and with 3 where they part.",
-    run,
+const FORM: Form = Form {
+    missing: &["no journal is named", "no second journal is named"],
+    most: 2,
+    options: &[],
+    flags: &["--json"],
 };
 
 fn run(words: Words, screen: &mut Screen) -> Result<End, Fault> {
-    let paths = only_files(words, ["no journal is named", "no second journal is named"])?;
-    let [a, b] = [Journal::read(&paths[0])?, Journal::read(&paths[1])?];
-    for (path, journal) in paths.iter().zip([&a, &b]) {
-        if let (Ending::Bad(_), Some(text)) = (journal.ending, journal.ending_text()) {
-            return Err(Fault::Failed(format!("{}: {text}", path.display())));
+    let asked = Asked::read(words, &FORM)?;
+    let [a, b] = [Walked::read(&asked.files[0])?, Walked::read(&asked.files[1])?];
+    for walked in [&a, &b] {
+        if let (Some(_), Some(text)) = (walked.journal.bad_line(), walked.journal.ending_text()) {
+            return Err(Fault::Failed(format!("{}: {text}", walked.path.display())));
         }
+        screen.say(format!("{:15} {}", walked.path.display().to_string(), walked.found()));
     }
     let mut found = Comparison::default();
-    let is_compared = compare_inputs(&paths, &mut found, screen);
-    compare::lines(&a.lines, &b.lines, &mut found);
-    compare::winners(&a.lines, &b.lines, &mut found);
+    let is_compared = compare_inputs(&a, &b, &mut found, screen);
+    let [lines_a, lines_b] = [&a, &b].map(|walked| &walked.journal.lines[..]);
+    compare::lines(lines_a, lines_b, &mut found);
+    compare::winners(lines_a, lines_b, &mut found);
     found.said.iter().for_each(|line| screen.say(line));
-    let endings = paths.iter().zip([&a, &b]);
-    let cut = endings.filter_map(|(path, journal)| Some((path, journal.ending_text()?)));
+    let endings = [&a, &b].into_iter();
+    let cut = endings.filter_map(|walked| Some((&walked.path, walked.journal.ending_text()?)));
     let cut: Vec<String> = cut.map(|(path, text)| format!("{}: {text}", path.display())).collect();
     cut.iter().for_each(|text| screen.say(text));
+    let drift = found.parted.as_ref().and_then(|_| say_drift([&a, &b], screen));
     match &found.parted {
         Some(place) => screen.say(format!("they part first {place}")),
         None => screen.say("the same, bit by bit"),
     }
-    let is_good = found.parted.is_none() && is_compared && cut.is_empty();
-    Ok(if is_good { End::Good } else { End::Doubtful })
+    let are_the_runs = a.is_the_runs() && b.is_the_runs();
+    let is_good = found.parted.is_none() && is_compared && cut.is_empty() && are_the_runs;
+    let end = if is_good { End::Good } else { End::Doubtful };
+    if !asked.has("--json") {
+        return Ok(end);
+    }
+    let journals = [&a, &b].map(|walked| summary::of_walked("compare", walked));
+    let object = summary::head("compare")
+        .with("journals", journals.to_vec())
+        .with("is_same", found.parted.is_none() && is_compared)
+        .with("parted", found.parted)
+        .with("compared", found.said)
+        .with(
+            "drift",
+            drift.map(|drift| Json::Object(summary::tilts(drift.by, Some(drift.within)))),
+        );
+    give(object, end, screen)
 }
 
-/// Compares the inputs where both have them; what is missing or damaged is told.
-fn compare_inputs(
-    paths: &[std::path::PathBuf; 2],
-    found: &mut Comparison,
-    screen: &mut Screen,
-) -> bool {
-    let read = |path: &Path| match inputs_path(path).exists() {
-        true => read_inputs(path),
-        false => Err(format!("{}: there is no such file", inputs_path(path).display())),
+/// How far the lean has moved from the first to the second, or why that isn't known.
+fn say_drift(walked: [&Walked; 2], screen: &mut Screen) -> Option<Drift> {
+    if have_the_same_views(walked) {
+        screen.say("drift           not known: both searched the same views");
+        return None;
+    }
+    let told = match walked.map(Told::new) {
+        [Ok(a), Ok(b)] => [a, b],
+        faults => {
+            let why = faults.into_iter().find_map(Result::err).unwrap_or_default();
+            screen.say(format!("drift           not known: {why}"));
+            return None;
+        }
     };
-    match [read(&paths[0]), read(&paths[1])] {
-        [Ok(a), Ok(b)] => {
-            compare::inputs(&a, &b, found);
+    for (walked, told) in walked.iter().zip(&told) {
+        if told.points() > 0 {
+            let (name, points) = (walked.path.display(), told.points());
+            let points = if points == 1 { "one point".into() } else { format!("{points} points") };
+            screen.say(format!("doubtful        {name}: {points} against it"));
+        }
+    }
+    let found = drift(&told[0], &told[1]);
+    screen.say(match &found {
+        Ok(drift) => drift::text(drift),
+        Err(why) => format!("drift           not known: {why}"),
+    });
+    found.ok()
+}
+
+/// Whether both searched the same views, whose errors are no measure of how far a second measurement lies off.
+fn have_the_same_views(walked: [&Walked; 2]) -> bool {
+    let views = walked.map(|walked| match &walked.inputs.as_ref()?.plate {
+        Views::BuiltIn => Some(None),
+        Views::File { sha256, .. } => Some(Some(sha256)),
+    });
+    views[0].is_some() && views[0] == views[1]
+}
+
+/// Compares the inputs where both have them; what is missing or damaged was told.
+fn compare_inputs(a: &Walked, b: &Walked, found: &mut Comparison, screen: &mut Screen) -> bool {
+    match (&a.inputs, &b.inputs) {
+        (Some(a), Some(b)) => {
+            compare::inputs(a, b, found);
             true
         }
-        faults => {
-            for fault in faults.into_iter().filter_map(Result::err) {
-                screen.say(format!("inputs          not compared: {fault}"));
-            }
+        _ => {
+            screen.say("inputs          not compared");
             false
         }
     }

@@ -2,21 +2,11 @@
 
 use super::{Command, End, Fault, Words};
 use crate::screen::Screen;
+use crate::typed;
 use jinnychair::FxFyCxCy;
 use jinnychair::geometry::{Conic, conic_to_camera, known_plate};
 
-pub(super) const COMMAND: Command = Command {
-    name: "known-camera",
-    does: "checks the camera formula against a camera that you choose",
-    help: "\
-jinnychair known-camera FX FY CX CY
-
-Makes the six numbers of a plate seen by this camera, hands them to the camera formula and shows what
-comes back, which is the same camera. The four are whole numbers times one power of two (1, 2, 4 .. 256):
-1 to 256 for the focal lengths FX and FY, -256 to 256 for the centre CX and CY. For example
-800 808 640 -480, which are 200, 202, 160 and -120 times 4.",
-    run,
-};
+pub(super) const COMMAND: Command = Command { name: "known-camera", run };
 
 fn run(words: Words, screen: &mut Screen) -> Result<End, Fault> {
     let chosen = camera(words)?;
@@ -30,7 +20,7 @@ fn run(words: Words, screen: &mut Screen) -> Result<End, Fault> {
 
 fn camera(words: Words) -> Result<FxFyCxCy, Fault> {
     let four: Option<Vec<f64>> =
-        words.left.iter().map(|word| word.to_str().and_then(|word| word.parse().ok())).collect();
+        words.left.iter().map(|word| word.to_str().and_then(typed::number)).collect();
     match four.as_deref() {
         Some(&[fx, fy, cx, cy]) => Ok(FxFyCxCy { fx, fy, cx, cy }),
         _ => Err(Fault::Usage("known-camera takes four numbers".into())),

@@ -1,58 +1,54 @@
 //! `replay`: the winner of a journal, worked out again from its lines and its inputs alone.
 
-use super::{Command, End, Fault, Words, only_file};
+use super::{Asked, Command, End, Fault, Form, Words, give};
 use crate::angle::degrees;
-use crate::journal::{Ending, Journal, read_bytes, read_inputs};
+use crate::files::read_bytes;
+use crate::journal::{Ending, Journal, read_inputs};
 use crate::screen::Screen;
 use crate::stretches::winner_text;
+use crate::summary;
+use crate::walk::Walked;
 use jinnychair::journal::{
     Line, Replayed, StoredInputs, inputs_path, replay, stretch_winner, what_differs,
 };
 use jinnychair::{LineRefusal, ReplayError, ResultError, Seed};
 use std::path::Path;
 
-pub(super) const COMMAND: Command = Command {
-    name: "replay",
-    does: "runs a journal again, without views or host, and says who won",
-    help: "\
-jinnychair replay JOURNAL
+pub(super) const COMMAND: Command = Command { name: "replay", run };
 
-Runs JOURNAL again from JOURNAL.inputs, without the views and the host: every line must have the number, the round and
-the seed that the search hands out next, bit by bit, and a score that its own numbers give. Then the winner is the
-search's. Shows it with its tilts from the journal; or which tilts come next, where the run isn't over (exit code 3);
-or that the run ended with nothing scored, or the first line that isn't the run's and what is wrong with it (exit
-code 1).
-
-A changed journal isn't always found: the camera of a line counts only where the next round lies around it.",
-    run,
-};
+const FORM: Form =
+    Form { missing: &["no journal is named"], most: 1, options: &[], flags: &["--json"] };
 
 fn run(words: Words, screen: &mut Screen) -> Result<End, Fault> {
-    let path = only_file(words, "journal")?;
+    let asked = Asked::read(words, &FORM)?;
+    let path = asked.files[0].clone();
     let bytes = read_bytes(&path)?;
     let inputs = read_inputs(&path)?;
     let journal = Journal::parse(&bytes);
     screen.say(format!("journal         {}, {} lines", path.display(), journal.lines.len()));
     let replayed = replay(&inputs.inputs(), &bytes)
         .map_err(|error| fault(&path, error, &inputs, (&bytes, &journal)))?;
-    match replayed {
+    let end = match replayed {
         Replayed::Winner { number, score } => {
             screen.say(winner(number, score, &journal.lines)?);
-            Ok(End::Good)
+            End::Good
         }
         Replayed::NothingScored => {
             let cause = ResultError::NothingScored;
-            Err(Fault::Failed(format!("{}: no winner: {cause}", path.display())))
+            return Err(Fault::Failed(format!("{}: no winner: {cause}", path.display())));
         }
         Replayed::Unfinished(next) => {
             screen.say(unfinished(&journal.lines, &next));
-            screen.say(format!(
-                "to do           `jinnychair resume {}` goes on with it",
-                path.display()
-            ));
-            Ok(End::Doubtful)
+            let name = path.display();
+            screen.say(format!("to do           `jinnychair resume {name}` goes on with it"));
+            End::Doubtful
         }
+    };
+    if !asked.has("--json") {
+        return Ok(end);
     }
+    let walked = Walked::of_bytes(&path, bytes);
+    give(summary::of_walked("replay", &walked), end, screen)
 }
 
 /// The winner's number and score as the run has them, its tilts and errors as its line has them.
@@ -103,6 +99,10 @@ fn fault(
             let why = what_differs(&inputs.inputs(), bytes);
             let why = why.map_or(refusal.fault().into(), |difference| difference.to_string());
             format!("{name}: line {line}: {why} ({}). {}", refusal.number(), refusal.remedy())
+        }
+        ReplayError::NotALine { line } => {
+            let (why, remedy) = journal.not_a_line();
+            format!("{name}: line {line}: {why}. {remedy}")
         }
         error => format!("{name}: {error}"),
     })

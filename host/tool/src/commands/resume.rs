@@ -1,15 +1,14 @@
 //! `resume`: goes on with a search that was switched off, from its journal.
 
-use super::search::{check_journal, conclude, outputs};
+use super::outputs::Names;
+use super::search::conclude;
 use super::{Command, End, Fault, Word, Words, unknown};
 use crate::again;
-use crate::case::{Case, library_version};
-use crate::chart;
+use crate::case::{Case, library_version, this_host};
 use crate::choices::Choices;
-use crate::files::{check_free, with_ending};
-use crate::journal::{Journal, read_bytes, read_inputs};
+use crate::files::{read_bytes, with_ending};
+use crate::journal::{Journal, is_cut, read_inputs};
 use crate::screen::Screen;
-use crate::table;
 use jinnychair::journal::{
     EndedBy, JournalFileError, JournalWriter, ResumeReport, Resumed, StoredInputs, inputs_path,
     what_differs,
@@ -19,44 +18,27 @@ use std::fs::{File, OpenOptions};
 use std::io::{self, Write};
 use std::path::{Path, PathBuf};
 
-pub(super) const COMMAND: Command = Command {
-    name: "resume",
-    does: "goes on with a search that was switched off, from its journal",
-    help: "\
-jinnychair resume JOURNAL [VIEWS] [--minutes N] [--out NAME]
-
-Goes on with the search of JOURNAL after a power loss, or after it was stopped: from JOURNAL.inputs, the lines that are
-whole, and the views. The views are those that the search began with, by their checksum; VIEWS names their file where
-it was moved. All options are those of the search. The journal is cut to the lines that were kept, which leaves out a
-line that was being written, and grows from there; at the end stand the same winner, verdict, table and chart as
-without the break.
-
-Where a line in the middle isn't the run's, it and all behind it are tried again, and what was dropped is kept in
-JOURNAL.dropped. A journal that another process writes to is refused; `show`, `report` and `chart` may read it.
-
-    --minutes N              stops the search again after so many minutes
-    --out NAME               the name of table and chart (tilts)",
-    run,
-};
+pub(super) const COMMAND: Command = Command { name: "resume", run };
 
 /// What the words ask for.
 struct Asked {
     journal: PathBuf,
     views: Option<PathBuf>,
-    out: Option<PathBuf>,
+    names: Names,
     minutes: Option<f64>,
+    mixed_host: bool,
 }
 
 impl Asked {
     fn read(mut words: Words) -> Result<Self, Fault> {
-        let (mut files, mut out, mut choices) = (vec![], None, Choices::default());
+        let (mut files, mut names, mut choices) = (vec![], Names::default(), Choices::default());
+        let mut mixed_host = false;
         while let Some(word) = words.next()? {
             match word {
                 Word::File(path) if files.len() < 2 => files.push(PathBuf::from(path)),
                 Word::File(path) => return Err(unknown(&path.display().to_string())),
-                Word::Option(option) if option == "--out" && out.is_none() => {
-                    out = Some(PathBuf::from(words.file(&option)?));
-                }
+                Word::Option(option) if names.take(&option, &mut words)? => {}
+                Word::Option(option) if option == "--mixed-host" => mixed_host = true,
                 Word::Option(option) if option == "--minutes" => {
                     let value = words.value(&option)?;
                     let set = choices.set("minutes", &mut || Ok(value.clone()));
@@ -72,25 +54,22 @@ impl Asked {
         }
         let mut files = files.into_iter();
         let journal = files.next().ok_or(Fault::Usage("no journal is named".into()))?;
-        Ok(Self { journal, views: files.next(), out, minutes: choices.minutes })
+        Ok(Self { journal, views: files.next(), names, minutes: choices.minutes, mixed_host })
     }
 }
 
 fn run(words: Words, screen: &mut Screen) -> Result<End, Fault> {
     let asked = Asked::read(words)?;
     let path = asked.journal.as_path();
-    let [csv, svg] = outputs(asked.out.as_deref());
-    check_journal(path, [&csv, &svg]).map_err(Fault::Usage)?;
     let beside = inputs_path(path);
-    let inputs: Vec<&Path> =
-        [Some(path), Some(&beside), asked.views.as_deref()].into_iter().flatten().collect();
-    check_free(&csv, &inputs, table::HEAD)?;
-    check_free(&svg, &inputs, chart::HEAD)?;
+    let outputs = asked.names.open(&Vec::from_iter(asked.views.as_deref()), Some(path))?;
+    screen.leave_to(outputs.all());
     let bytes = read_bytes(path)?;
     if bytes.is_empty() && !beside.exists() {
         return Err(Fault::Failed(not_resumed(&JournalFileError::NotBegun(path.into()))));
     }
     let stored = read_inputs(path)?;
+    check_host(&stored, asked.mixed_host, screen)?;
     let named = |fault: String| match asked.views {
         None => format!("{fault}. Name the views' file behind the journal if it was moved"),
         Some(_) => fault,
@@ -105,7 +84,29 @@ fn run(words: Words, screen: &mut Screen) -> Result<End, Fault> {
     screen.say(case.plan().text());
     let lines = Journal::read(path)?.lines;
     let finished = case.go_on(resumed.search, &lines, resumed.writer)?;
-    conclude(&case, finished, Some(path), [&csv, &svg], screen)
+    let result = asked.names.json.then_some("resume");
+    conclude(&case, finished, Some(path), (&outputs, result), screen)
+}
+
+/// A journal goes on with the host that began it, or aloud with another.
+fn check_host(stored: &StoredInputs, is_allowed: bool, screen: &mut Screen) -> Result<(), Fault> {
+    let here = this_host();
+    if stored.host.as_ref() == Some(&here) {
+        return Ok(());
+    }
+    let began = match &stored.host {
+        Some(host) => format!("the host {host}"),
+        None => "a host that isn't named".into(),
+    };
+    if !is_allowed {
+        return Err(Fault::Failed(format!(
+            "the journal was begun by {began}, and this one is {here}: its cameras may have other bits, and the winner be \
+             another than without the break. Go on with the program that began it, or say --mixed-host"
+        )));
+    }
+    screen
+        .say(format!("host            the journal was begun by {began}, and goes on with {here}"));
+    Ok(())
 }
 
 /// Another version or another computer is told: the winner may differ from that of an unbroken search in the last bits.
@@ -135,14 +136,19 @@ fn keep_dropped(
     let fault =
         |error| format!("{}: no search can start from them: {error}", inputs_path(path).display());
     let Resumed { report, .. } = Search::resume(&inputs, bytes).map_err(fault)?;
-    let refusal = match report.ended_by {
-        EndedBy::Nothing | EndedBy::MissingNewline => return Ok(None),
-        EndedBy::NotALine => LineRefusal::NotALine,
-        EndedBy::NotTheRun => LineRefusal::NotTheRun,
+    let (refusal, journal) = (LineRefusal::NotTheRun, Journal::parse(bytes));
+    let is_cut = journal.changed.is_none() && is_cut(&bytes[report.kept..]);
+    let why = match report.ended_by {
+        EndedBy::Nothing => return Ok(None),
+        EndedBy::MissingNewline if is_cut => return Ok(None),
+        EndedBy::MissingNewline | EndedBy::NotALine => journal.not_a_line().0,
+        EndedBy::NotTheRun => {
+            let why = what_differs(&inputs, bytes);
+            let why = why.map_or(refusal.fault().into(), |why| why.to_string());
+            format!("{why} ({})", refusal.number())
+        }
     };
-    let why = what_differs(&inputs, bytes).map_or(refusal.fault().into(), |why| why.to_string());
-    let (line, number) = (report.lines + 1, refusal.number());
-    let why = format!("line {line}: {why} ({number})");
+    let why = format!("line {}: {why}", report.lines + 1);
     if report.lines == 0 {
         return Err(format!(
             "{}: {why}. Nothing of this journal would be left, so it isn't touched. Look whether it is a journal, and \
@@ -177,7 +183,7 @@ fn kept_text(path: &Path, report: &ResumeReport, why: Option<&str>) -> String {
     let mut text = format!("kept            {}: {lines} lines, {kept} bytes", path.display());
     text += &match (ended_by, why) {
         (EndedBy::Nothing, _) => "\ndropped         nothing".into(),
-        (EndedBy::MissingNewline, _) => format!(
+        (EndedBy::MissingNewline, None) => format!(
             "\ndropped         {dropped} bytes: line {} was being written when the search was switched off",
             lines + 1
         ),

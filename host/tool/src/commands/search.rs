@@ -1,31 +1,31 @@
 //! `search`: reads the views, says what will be tried, runs the search, shows the winner and the verdict, writes a
 //! table and a chart.
 
-use super::{Command, End, Fault, Word, Words, unknown};
+use super::outputs::{Names, Outputs};
+use super::{Command, End, Fault, Word, Words, twice, unknown};
 use crate::case::Case;
-use crate::chart::{self, chart};
 use crate::choices::Choices;
 use crate::drive::Finished;
-use crate::files::{check_free, read, read_with_checksum, with_ending, write};
+use crate::files::{name_text, read, read_with_checksum};
+use crate::json::Json;
+use crate::output::{Output, Over};
 use crate::screen::Screen;
+use crate::summary;
 use crate::synthetic::{BUILT_IN, built_in_text};
-use crate::table::{self, Record};
+use crate::verdict::Point;
 use crate::views::{self, Plate};
+use crate::walk::Walked;
 use jinnychair::journal::Views;
+use std::fs;
 use std::path::{Path, PathBuf};
 
-pub(super) const COMMAND: Command = Command {
-    name: "search",
-    does: "finds the tilt of a sensor from views of a plate",
-    help: include_str!("search.txt"),
-    run,
-};
+pub(super) const COMMAND: Command = Command { name: "search", run };
 
 /// What the words ask for.
 #[derive(Default)]
 struct Asked {
     views: Option<PathBuf>,
-    out: Option<PathBuf>,
+    names: Names,
     write_views: Option<PathBuf>,
     journal: Option<PathBuf>,
     choices: Choices,
@@ -53,8 +53,10 @@ impl Asked {
     }
 
     fn take(&mut self, option: &str, words: &mut Words) -> Result<(), Fault> {
+        if self.names.take(option, words)? {
+            return Ok(());
+        }
         let place = match option {
-            "--out" => &mut self.out,
             "--write-views" => &mut self.write_views,
             "--journal" => &mut self.journal,
             "--options" => &mut self.choices_file,
@@ -72,10 +74,10 @@ impl Asked {
                 return if is_known { Ok(()) } else { Err(unknown(option)) };
             }
         };
-        if place.replace(words.file(option)?.into()).is_some() {
-            return Err(Fault::Usage(format!("{option}: it is stated twice. Leave one out")));
+        match place.replace(words.file(option)?.into()) {
+            Some(_) => Err(twice(option)),
+            None => Ok(()),
         }
-        Ok(())
     }
 
     fn inputs(&self) -> Vec<&Path> {
@@ -87,86 +89,115 @@ impl Asked {
 fn run(words: Words, screen: &mut Screen) -> Result<End, Fault> {
     let asked = Asked::read(words)?;
     if let Some(path) = &asked.write_views {
-        check_free(path, &asked.inputs(), views::HEAD)?;
-        write(path, &BUILT_IN.plate().text())?;
-        screen.say(format!("written: {}", path.display()));
+        let over = Over::Nothing.or_all(asked.names.force);
+        let out = Output::open(path, "--write-views", over, &asked.inputs())?;
+        screen.leave_to([&out]);
+        out.write(&BUILT_IN.plate().text())?;
+        screen.say(format!("written: {}", out.name()));
         return Ok(End::Good);
     }
-    let [csv, svg] = outputs(asked.out.as_deref());
-    check_free(&csv, &asked.inputs(), table::HEAD)?;
-    check_free(&svg, &asked.inputs(), chart::HEAD)?;
     let journal = asked.journal.as_deref();
-    journal.map_or(Ok(()), |path| {
-        check_journal(path, [&csv, &svg]).map_err(|text| Fault::Usage(format!("--journal: {text}")))
-    })?;
+    let outputs = asked.names.open(&asked.inputs(), journal)?;
+    screen.leave_to(outputs.all());
     let (plate, from) = plate(&asked)?;
     let case = Case::new(plate, from, &asked.choices, screen)?;
     screen.say(case.plan().text());
-    let finished = case.search(journal)?;
-    conclude(&case, finished, journal, [&csv, &svg], screen)
+    let finished = case.search(journal).map_err(|fault| way_on(fault, journal))?;
+    let result = asked.names.json.then_some("search");
+    conclude(&case, finished, journal, (&outputs, result), screen)
 }
 
-/// The names of table and chart: nothing of the given name is cut off but an ending that is added again.
-pub(super) fn outputs(name: Option<&Path>) -> [PathBuf; 2] {
-    let name = name.unwrap_or(Path::new("tilts"));
-    let is_ending = name.extension().is_some_and(|ending| ending == "csv" || ending == "svg");
-    let name = if is_ending { name.with_extension("") } else { name.into() };
-    [with_ending(&name, ".csv"), with_ending(&name, ".svg")]
-}
-
-/// Shows how a search ended, and writes table and chart.
+/// Shows how a search ended, and writes table and chart; gives the result to programs where a command's name says so.
 pub(super) fn conclude(
     case: &Case,
     finished: Finished,
     journal: Option<&Path>,
-    [csv, svg]: [&Path; 2],
+    (outputs, result): (&Outputs, Option<&str>),
     screen: &mut Screen,
 ) -> Result<End, Fault> {
+    let is_stopped = finished.stop.is_some();
     if let Some(path) = journal {
         screen.say(format!("journal         {}, {} lines", path.display(), finished.tried.len()));
     }
+    let kept = result.map(|command| (command, finished.clone()));
     let (record, against) = case.show(finished, screen);
-    save(&record, csv, svg, screen)?;
+    let written = outputs.write(&record, screen);
+    if is_stopped {
+        screen.say(format!("to do           {}", how_to_go_on(journal)));
+    }
+    if let Some((command, finished)) = kept {
+        let code = match (&written, &against) {
+            (Err(_), _) | (_, Err(_)) => 1,
+            (_, Ok(against)) => {
+                if against.is_empty() {
+                    0usize
+                } else {
+                    3
+                }
+            }
+        };
+        let object = object(case, command, &finished, journal, &against)?;
+        let fault = written.as_ref().err().map(|fault| fault.text().to_owned());
+        let object = object.with("written", outputs.names()).with("fault", fault);
+        screen.give(&object.with("exit_code", code).to_string());
+    }
+    written?;
     let against = against?;
     Ok(if against.is_empty() { End::Good } else { End::Doubtful })
 }
 
-/// Table and chart would be written over a journal of the same name.
-pub(super) fn check_journal(journal: &Path, outputs: [&Path; 2]) -> Result<(), String> {
-    let full = |path: &Path| std::path::absolute(path).unwrap_or(path.into());
-    if outputs.iter().any(|output| full(output) == full(journal)) {
-        let name = journal.display();
-        return Err(format!("{name} is the table's or the chart's name. Name another"));
-    }
-    Ok(())
+/// The result for programs.
+fn object(
+    case: &Case,
+    command: &str,
+    finished: &Finished,
+    journal: Option<&Path>,
+    against: &Result<Vec<Point>, String>,
+) -> Result<Json, String> {
+    let judged =
+        finished.winner.as_ref().ok().map(|winner| case.judge(finished, winner)).transpose()?;
+    let open = judged.as_ref().map(|judged| &judged.open);
+    let walked = journal.map(Walked::read).transpose()?;
+    let inputs = walked.as_ref().and_then(|walked| Some((&walked.path, walked.inputs.as_ref()?)));
+    let head = summary::head(command)
+        .with("journal", walked.as_ref().map(summary::journal))
+        .with("inputs", inputs.map(|(path, inputs)| summary::inputs(path, inputs)));
+    let against = against.as_ref().map(Vec::as_slice).map_err(String::as_str);
+    Ok(summary::of_search(head, finished, open, against))
 }
 
-/// Writes what can be written, and then says what couldn't.
-fn save(record: &Record, csv: &Path, svg: &Path, screen: &mut Screen) -> Result<(), Fault> {
-    let saved = [write(csv, &record.table()), write(svg, &chart(record))];
-    for (path, saved) in [csv, svg].into_iter().zip(&saved) {
-        if saved.is_ok() {
-            screen.say(format!("written: {}", path.display()));
+/// A fault of a disk, and what to do once there is room: the lines before it are kept.
+fn way_on(fault: String, journal: Option<&Path>) -> String {
+    let has_lines = |path: &&Path| fs::metadata(path).is_ok_and(|file| file.len() > 0);
+    match journal.filter(has_lines).filter(|_| fault.contains(": can't be written: ")) {
+        Some(path) => {
+            format!("{fault}. Then `jinnychair resume {}` goes on with it", path.display())
         }
+        None => fault,
     }
-    let faults: Vec<String> = saved.into_iter().filter_map(Result::err).collect();
-    if faults.is_empty() { Ok(()) } else { Err(Fault::Failed(faults.join("\njinnychair: "))) }
+}
+
+/// What to do with a search that was stopped.
+fn how_to_go_on(journal: Option<&Path>) -> String {
+    match journal {
+        Some(path) => format!("`jinnychair resume {}` goes on with it", path.display()),
+        None => "this search can't be gone on with: it has no journal (--journal FILE)".into(),
+    }
 }
 
 /// The views, where they come from, and what they are in words.
 fn plate(asked: &Asked) -> Result<(Plate, (Views, String)), Fault> {
-    let (mut plate, from, input) = match &asked.views {
+    let (plate, from, input) = match &asked.views {
         None => (BUILT_IN.plate(), Views::BuiltIn, built_in_text()),
         Some(path) => {
             let fault = |fault: views::ViewsError| format!("{}: {fault}", path.display());
             let (text, sha256) = read_with_checksum(path)?;
-            let name = path.display().to_string();
+            let name = name_text(path);
             let from = Views::File { name: name.clone(), sha256 };
             (Plate::parse(&text).map_err(fault)?, from, name)
         }
     };
-    plate.centre = asked.choices.centre.or(plate.centre);
-    match (plate.centre, asked.choices.guess_centre) {
+    match (asked.choices.centre.or(plate.centre), asked.choices.guess_centre) {
         (None, None) => Err(Fault::Usage(format!(
             "{input}: no optical centre is stated, and a wrong centre looks exactly like a tilt. State it with \
              --centre X Y, or by a line `centre X Y` in the file. --guess-centre searches with a guess, whose tilts \

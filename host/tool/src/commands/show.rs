@@ -1,23 +1,15 @@
 //! `show`: the lines of a journal as a table, in decimals and degrees.
 
-use super::{Command, End, Fault, Words, end_of, only_file};
-use crate::journal::Journal;
+use super::{Asked, Command, End, Fault, Form, Words, check_believed, end_of};
 use crate::screen::Screen;
 use crate::table::letter;
+use crate::walk::Walked;
 use jinnychair::journal::{Line, Recorded};
 
-pub(super) const COMMAND: Command = Command {
-    name: "show",
-    does: "shows a journal as a table in decimals and degrees",
-    help: "\
-jinnychair show JOURNAL
+pub(super) const COMMAND: Command = Command { name: "show", run };
 
-Shows the lines of JOURNAL, a file that `jinnychair search --journal` wrote or is writing: the candidate's number and
-round, its tilts in degrees, its outcome (S scored; skipped: H the host found no camera, C not a camera, E too few dots
-counted or no finite mean error, N the score is not a number), score, mean error, camera, and the seed's camera. Numbers
-are rounded for the eye; the journal has every bit.",
-    run,
-};
+const FORM: Form =
+    Form { missing: &["no journal is named"], most: 1, options: &[], flags: &["--unchecked"] };
 
 const HEADS: [&str; 17] = [
     "number",
@@ -40,10 +32,15 @@ const HEADS: [&str; 17] = [
 ];
 
 fn run(words: Words, screen: &mut Screen) -> Result<End, Fault> {
-    let path = only_file(words, "journal")?;
-    let journal = Journal::read(&path)?;
-    screen.say(table(&journal.lines));
-    end_of(&path, &journal, screen)
+    let asked = Asked::read(words, &FORM)?;
+    let walked = Walked::read(&asked.files[0])?;
+    check_believed(&walked, asked.has("--unchecked"))?;
+    if let Some(mark) = walked.mark() {
+        screen.say(mark);
+    }
+    screen.say(table(&walked.journal.lines));
+    screen.say(walked.text());
+    Ok(end_of(&walked))
 }
 
 /// Columns as wide as their widest field.
