@@ -1,5 +1,5 @@
--- The end of a run, from any book between the calls on: the record that calls leave is sound, an accepted answer takes it on, and a host whose answers are accepted
--- reaches the end, whatever list each call is lent. Assumes nothing.
+-- How a run ends, from any book between the calls on: the calls leave a sound record, an accepted Answer leaves less to
+-- do, and a host whose answers are accepted reaches the end, whatever list each call is lent. Assumes nothing.
 use Rattle.std.proofs.Common.{ℕ, zero, suc, ◌+◌, ◌-◌, ◌*◌, ◌≤◌, ◌<◌, arith, ◌≡◌, refl, sym, ap, subst, ◌∙◌, true, false, true≢false, List, [], ◌∷◌, ltb-true, ltb-false, lt-ltb, le-ltb, le-leb, ltb, length, length-append, Float, Ok, Err}
 use Rattle.common.specs.declared.Refusal.{Refusal}
 use Rattle.common.specs.declared.Refusal.TheVariants.{NoSeedWaits}
@@ -35,7 +35,7 @@ use Rattle.book.specs.RunOf.{run_of}
 use Rattle.book.proofs.RunOf.{run_number}
 
 -- ---- what stays true of the record
--- of its numbers
+-- the limits of its numbers
 pub record Sizes (i : Inputs) (r : Run) : Type 0 where
   pub small_share : r.options.min_counted ≤ 100
   pub few_rounds : r.options.refine_rounds ≤ 16
@@ -47,7 +47,7 @@ pub record Sizes (i : Inputs) (r : Run) : Type 0 where
   pub few : r.place.number + still_left r ≤ 656
   pub adds_up : total r.counts ≡ r.place.number
 
--- a seed is left unless the run is over, and none waits once it is
+-- the record between the calls: a seed is left unless the run is over, and none waits once it is
 pub record Lasts (i : Inputs) (r : Run) : Type 0 where
   pub sizes : Sizes i r
   pub room : r.place.over ≡ false → r.place.at < r.place.len
@@ -82,7 +82,7 @@ await_lasts i r s o h = record { sizes = same h.sizes; room = h.room; calm = λ 
     same : Sizes i r → Sizes i (awaiting r s)
     same z = unfold awaiting in record { small_share = z.small_share; few_rounds = z.few_rounds; in_rounds = z.in_rounds; demand_is = z.demand_is; least = z.least; most = z.most; list_fits = z.list_fits; few = z.few; adds_up = z.adds_up }
 
--- Next keeps the run as it is, or has a seed wait
+-- Next leaves the run as it is, or lets a seed wait
 next_by : (P : Run → Type 0) (r : Run) (l : List Float) → P r → ((s : CandidateSeed) → r.place.over ≡ false → P (awaiting r s)) → P (next_def r l).run
 next_by P r l p q =
     case_result (next_refusal r (length l))
@@ -100,14 +100,14 @@ next_place : (r : Run) (l : List Float) → ((next_def r l).run.place ≡ r.plac
 next_place r l = next_by (λ s. (s.place ≡ r.place) × (s.options ≡ r.options)) r l (refl, refl) (λ s o. await_place r s)
 
 -- ---- the end of a round
--- all seeds of the list are answered, and none waits
+-- the record when a round ends: all seeds of its list are answered, and none waits
 record Full (i : Inputs) (r : Run) : Type 0 where
   sizes : Sizes i r
   answered : r.place.at ≡ r.place.len
   calm : r.waiting.is_waiting ≡ false
   going : r.place.over ≡ false
 
--- s follows r by closing its round: no answer is counted, and no more is left
+-- s comes from r by closing its round: no answer is added, and no more is left
 record Follows (i : Inputs) (r s : Run) : Type 0 where
   lasts : Lasts i s
   same_number : s.place.number ≡ r.place.number
@@ -193,7 +193,7 @@ close_follows : (k : ℕ) → Closes k
 close_follows zero = close_last
 close_follows (suc k) = close_more k (close_follows k)
 
--- ---- an accepted answer counts, and leaves less
+-- ---- an accepted Answer adds one answer, and less is left
 record Answers (i : Inputs) (r s : Run) : Type 0 where
   lasts : Lasts i s
   counts : s.place.number ≡ r.place.number + 1
@@ -286,7 +286,7 @@ through_lasts i r (c ∷ cs) h =
     let y = b.1 in
     (b.0, omega arith)
 
--- ---- what is accepted
+-- ---- which calls are accepted
 module _ (i : Inputs) (r : Run) (h : Lasts i r) where
   next_hands_out : r.place.over ≡ false → r.waiting.is_waiting ≡ false → (l : List Float) → demand i ≤ length l
       → next_def r l ≡ record { reply = Ok (handed-as.Candidate r.place.number); run = awaiting r (seed_at l r.place.at) }
@@ -319,7 +319,7 @@ through_over i r [] h o = o
 through_over i r (c ∷ cs) h o = subst (λ (s : Run). (through s cs).place.over ≡ true) (sym (over_stays i r h o c)) (through_over i r cs h o)
 
 -- ---- a host whose answers are accepted
--- a record with the same place and options has as much left
+-- two records with the same place and options have as much left
 left_same : (r s : Run) → s.place ≡ r.place → s.options ≡ r.options → still_left s ≡ still_left r
 left_same r s p o =
     ap (λ (x : Place). x.len - x.at + 9 * (s.options.refine_rounds - x.round)) p

@@ -1,4 +1,4 @@
--- The one invariant of the plain book, and that Next and Answer keep it. Assumes nothing.
+-- The one invariant of the book: Next and Answer keep it. Assumes nothing.
 use Rattle.std.proofs.Common.{ℕ, zero, suc, ◌+◌, ◌-◌, ◌*◌, ◌≤◌, ◌<◌, arith, ◌≡◌, refl, sym, ◌∙◌, ◌⊎◌, inl, inr, ⊎_elim, true, false, true≢false, List, [], ◌∷◌, ◌++◌, append_assoc, append-nil, ltb-true, ltb-false, length, get_or, length-append}
 use Rattle.std.specs.Float.Ieee.{lt}
 use Rattle.common.specs.Tests.{case}
@@ -22,7 +22,7 @@ use Rattle.book.proofs.Seeds.{Seeded, best_among, around_seeded, around_few, nin
 use Rattle.book.proofs.PerRound.{FewPerRound, few_opened}
 use Rattle.book.proofs.Made.{Made, await_made, end_made, entry_made, open_made}
 
--- ---- what an entry and a scored candidate are
+-- ---- entries and scored candidates of a run
 pub record Proper (i : Inputs) (e : Entry) : Type 0 where
   pub seeded : Seeded i e.round e.seed
   pub stands : Stands i e.seed.sensor e.outcome
@@ -44,13 +44,13 @@ scored_proper i (e ∷ es) h =
     let d = h.0.seeded in
     case_result e.outcome (λ g q. simp (scored_of, q) (record { within = d.within; untilted = d.untilted; facts = rw q at s }, r)) (λ reason q. simp (scored_of, q) r)
 
--- the entries are numbered from k on
+-- the entries are numbered from k
 abbrev pub Counted : ℕ → List Entry → Type 0
 Counted k [] = Unit {0}
 Counted k (e ∷ es) = (e.number ≡ k) × Counted (suc k) es
 
 -- ---- the invariant
--- of inputs that Start accepts
+-- the inputs' limits, which Start checks
 pub record Sized (i : Inputs) : Type 0 where
   pub few_rounds : i.rounds ≤ 16
   pub least : 54 ≤ demand i
@@ -59,11 +59,11 @@ pub record Sized (i : Inputs) : Type 0 where
   pub small_bound : lt half₆₄ i.max ≡ false
   pub small_share : i.share ≤ 100
 
--- of a book, also between an answer and the round that it ends
+-- holds of a book also between an answer and the end of its round
 pub record Core (b : Book) : Type 0 where
   pub sized : Sized b.inputs
   pub in_rounds : b.round ≤ b.inputs.rounds
-  -- 512 seeds in round 0 at most, and nine in each later round
+  -- at most 512 seeds in round 0, and nine in each later round
   pub few : length b.earlier + length b.list ≤ 512 + 9 * b.round
   pub fits : 6 * length b.list ≤ demand b.inputs
   pub seeds : All (Seeded b.inputs b.round) b.list
@@ -73,7 +73,8 @@ pub record Core (b : Book) : Type 0 where
   pub per_round : FewPerRound b
   pub made : Made b
 
--- of a book between the calls: a seed is left just until the run is over, and none waits once it is; a run that is over has had every round, or nothing was scored
+-- holds of a book between the calls: a seed is left unless the run is over, and none waits once it is; a run that is
+-- over has had every round, or nothing was scored
 pub record Good (i : Inputs) (b : Book) : Type 0 where
   pub inputs_are : b.inputs ≡ i
   pub core : Core b
@@ -85,7 +86,7 @@ pub record Good (i : Inputs) (b : Book) : Type 0 where
 pub waits_going : (i : Inputs) (b : Book) → Good i b → b.waits ≡ true → b.over ≡ false
 waits_going i b g w = case b.over (λ o. absurd (true≢false (sym w ∙ g.calm o))) (λ o. o)
 
--- no more are answered than the list has
+-- no more seeds are answered than the list has
 pub at_most : (i : Inputs) (b : Book) → Good i b → length b.answered ≤ length b.list
 at_most i b g = case b.over (λ o. let e = g.full o in omega arith) (λ o. let e = g.room o in omega arith)
 
@@ -116,7 +117,7 @@ await_good i b o g = record {
   finished = λ e. absurd (true≢false (sym e ∙ o));
 }
 
--- ---- the end of a round: all of its seeds are answered, and k further rounds are asked for
+-- ---- the end of a round: all its seeds are answered, and k further rounds are asked for
 record Ending (i : Inputs) (k : ℕ) (b : Book) : Type 0 where
   inputs_are : b.inputs ≡ i
   core : Core b
@@ -154,7 +155,7 @@ end_good i k b r e = record {
   finished = λ o. ⊎_elim (λ z. inr (let l = e.left in omega arith)) (λ n. inl (else_nothing (round_best_of b) (run_best_of b) n)) r;
 }
 
--- whom the next list lies around
+-- the candidate that the next list lies around
 else_chosen : (a c : Chosen) (w : Candidate) → or_else a c ≡ chosen w → (a ≡ chosen w) ⊎ (c ≡ chosen w)
 else_chosen nothing c w e = inr e
 else_chosen (chosen v) c w e = inl e
@@ -274,6 +275,6 @@ module _ (b : Book) (o : Outcome) where
       let n = h.in_rounds in
       close_by (closing i) (c.inputs.rounds - c.round) c (record { inputs_are = entry_same.1 ∙ g.inputs_are; core = h; full = omega arith; going = over; left = omega arith }))
 
--- ---- so every step keeps it
+-- ---- so Next and Answer keep the invariant
 pub steps : (i : Inputs) → Steps (Good i)
 steps i = record { calm = waits_going i; awaits = await_good i; enters_by = λ b o v s g. enter_good b o i v s g }

@@ -1,4 +1,4 @@
--- What each call of the run adds to what was answered and to what was handed out is what the book has. Assumes nothing.
+-- Each call adds the same answers and the same handed-out seeds to the run as to the book. Assumes nothing.
 use Rattle.std.proofs.Common.{◌≡◌, refl, sym, ap, ◌∙◌, true, false, cond, List, [], ◌∷◌, ◌++◌, map, append-nil, ltb-false, le-leb, ltb, length, take, Float}
 use mathlib.Core.List.{map-append}
 use Rattle.common.specs.Tests.{case}
@@ -17,7 +17,7 @@ use Rattle.book.specs.RunOf.{run_of}
 use Rattle.book.proofs.RunOf.{State, run-fields, run-bests, sound_run}
 use Rattle.book.proofs.Simulation.{when_none_waits, when_short, when_long, await_run, await_there, in_list, in_part}
 
--- ---- the run accepts what the book enters
+-- ---- the run accepts the answers that the book enters
 pub answers_agree : (i : Inputs) (b : Book) (l : List Float) (c : Call) → State i b l → answered_by (run_of b) l c ≡ entered_by b c
 unfolding answered_by entered_by
 answers_agree i b l (next n) f = refl

@@ -1,4 +1,4 @@
--- 02, E10: a later round's list, exactly how many seeds it has, and its tilts about y in a one-axis run. Assumes nothing.
+-- How many seeds a later round's list has, and that in a one-axis run its tilts about y are zeros. Assumes nothing.
 use Rattle.std.proofs.Common.{ℕ, ◌<◌, arith, ◌≡◌, ap, subst, ◌∙◌, true, false, List, ◌++◌, length, Float}
 use Rattle.std.specs.Float.Ieee.{lt, le, eq}
 use Rattle.common.specs.All.{all_map}
@@ -25,7 +25,7 @@ around_length : (i : Inputs) (r : ℕ) (w : Candidate) → lt half₆₄ i.max �
 unfolding list_around
 around_length i r w h l u = round_length i.one_axis (step_of r i.step) w.sensor w.camera.k i.max h l u
 
--- ---- of a book, whose list stands in the front of the lent one
+-- ---- the book's list, which stands in front of the lent list
 own_round : (b : Book) (l : List Float) → Core b → Front (demand b.inputs) b.list l → 0 < b.round → LaterRound b.inputs (entries b) b.round (length b.list) l
 own_round b l h f p =
     let a = around b h.planned h.made p in
@@ -41,7 +41,7 @@ own_round b l h f p =
 pub later_round : (i : Inputs) (b : Book) (l : List Float) → State i b l → 0 < b.round → LaterRound i (entries b) b.round (length b.list) l
 later_round i b l s p = subst (λ (j : Inputs). LaterRound j (entries b) b.round (length b.list) l) s.good.inputs_are (own_round b l s.good.core s.there p)
 
--- ---- the tilts about y that stand there in a one-axis run
+-- ---- in a one-axis run the tilts about y in the lent list are zeros
 abbrev Untilted : CandidateSeed → Type 0
 Untilted s = eq s.sensor.tilt_y plus_zero ≡ true
 

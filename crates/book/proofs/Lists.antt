@@ -1,4 +1,5 @@
--- The lent list beside the book's: the seeds stand in its front, and a front of it is lent and given back. Assumes nothing.
+-- The lent list beside the book's list: the book's seeds stand in front of it, and a part of it is lent and given back.
+-- Assumes nothing.
 use Rattle.std.proofs.Common.{ℕ, zero, suc, ◌+◌, ◌-◌, ◌*◌, ◌≤◌, ◌<◌, arith, ◌≡◌, refl, sym, ap, ◌∙◌, Bool, true, false, List, [], ◌∷◌, ◌++◌, append_assoc, ltb-true, ltb-false, lt-ltb, le-ltb, ltb, length, get_or, take, drop, length-append, length-take, length-drop, get_or-append-add, drop-cons, Float}
 use Rattle.std.specs.Float.{nan}
 use lib.Seq.{drop-append-add, take-append-add, drop-length}
@@ -57,7 +58,7 @@ give_back d ss k m f = record {
   fits = f.fits;
 }
 
--- the seeds from place k on, as they stand there
+-- the seeds from place k on, read from the lent list
 seeds_from_lem : (ss : List CandidateSeed) (t : List Float) (k n : ℕ) → k + n ≡ length ss → seeds_from (flat ss ++ t) k n ≡ drop k ss
 unfolding seeds_from
 seeds_from_lem ss t k zero h = let e : k ≡ length ss = omega arith in rw e (sym (drop-length ss))
@@ -68,7 +69,7 @@ seeds_from_lem ss t k (suc n) h =
 pub seeds_there : {d : ℕ} (ss : List CandidateSeed) (l : List Float) (k : ℕ) → Front d ss l → k ≤ length ss → seeds_between l k (length ss) ≡ drop k ss
 seeds_there ss l k f h = rw f.list_is (seeds_from_lem ss f.tail k (length ss - k) (omega arith))
 
--- a list is written over the front
+-- writing a list puts it in front
 pub write_front : (d : ℕ) (ts : List CandidateSeed) (l : List Float) → d ≤ length l → 6 * length ts ≤ d → Front d ts (written ts l)
 write_front d ts l h k =
     let q = flat_length ts in
@@ -83,7 +84,7 @@ pub no_front : (d : ℕ) (ss : List CandidateSeed) (l : List Float) → Front d 
 unfolding laid
 no_front d ss l f = record { tail = l; list_is = refl; long = f.long; fits = omega arith }
 
--- a front of a list that is long enough is too short just where fewer numbers are lent
+-- Of a long enough list, a front of n numbers is too short exactly where n is.
 pub short : (d : ℕ) (l : List Float) (n : ℕ) → d ≤ length l → ltb (length (take n l)) d ≡ ltb n d
 short d l n h = go (ltb n d) refl
   where

@@ -1,4 +1,5 @@
--- Whom the book's list lies around: of a later round, the best of the round before or else of all before. Assumes nothing.
+-- The candidate that the book's list lies around: in a later round, the best of the round before or else of all rounds
+-- before. Assumes nothing.
 use Rattle.std.proofs.Common.{ℕ, zero, suc, ◌<◌, arith, ◌≡◌, refl, sym, ◌∙◌, true, false, List, [], ◌++◌, append-nil, eq-eqb, ne_eqb, le-leb, leb, eqb}
 use borrow.Author.Tests.{lt-leb}
 use Rattle.common.specs.Each.{All}
@@ -16,9 +17,9 @@ pub data Made (b : Book) : Type 0 where
   first : b.round ≡ 0 → Made b
   later : (w : Candidate) → centre_of b.round b.earlier ≡ chosen w → b.list ≡ list_around b.inputs b.round w → Made b
 
--- ---- the answered candidates of a book by their rounds
+-- ---- the entries of a book by their rounds
 module _ (r : ℕ) (es : List Entry) where
-  -- rounds before r, round r, and rounds after it
+  -- entries of rounds before r, of round r, and of the round after it
   pub none_of : All (λ e. e.round < r) es → of_round r es ≡ []
   none_of h = keep_none (λ e. eqb e.round r) es (all_map (λ e. e.round < r) (λ e. eqb e.round r ≡ false) (λ e p. ne_eqb e.round r (λ q. omega arith)) es h)
 
@@ -34,7 +35,7 @@ module _ (r : ℕ) (es : List Entry) where
     keep_none (λ e. leb e.round r) es (all_map (λ e. e.round ≡ suc r) (λ e. leb e.round r ≡ false) (λ e p. lt-leb e.round r (omega arith)) es h),
   )
 
--- all answered candidates are of rounds up to this one
+-- all entries are of rounds up to this one
 pub so_far : (b : Book) → Planned b → All (λ e. e.round < suc b.round) (entries b)
 so_far b h =
     all_append (λ e. e.round < suc b.round) b.earlier b.answered
@@ -46,7 +47,7 @@ this_round b h =
     keep_append (λ e. eqb e.round b.round) b.earlier b.answered
     ∙ rw (none_of b.round b.earlier h.past, all_of b.round b.answered h.this)
 
--- this round's answers don't change whom its list lies around
+-- The answers of round r don't change the candidate that its list lies around.
 same_centre : (r : ℕ) (es ds : List Entry) → All (λ e. e.round ≡ r) ds → centre_of r (es ++ ds) ≡ centre_of r es
 unfolding centre_of
 same_centre zero es ds h = refl
@@ -56,7 +57,7 @@ same_centre (suc r) es ds h =
     let y : up_to r (es ++ ds) ≡ up_to r es = keep_append (λ e. leb e.round r) es ds ∙ rw n.1 (append-nil (up_to r es)) in
     rw (x, y)
 
--- ---- what keeps it
+-- ---- the steps that keep it
 pub await_made : (b : Book) → Made b → Made (with_waiting b)
 unfolding with_waiting
 await_made b (first z) = first z

@@ -1,5 +1,5 @@
--- What a call does to the plain book: nothing, or Next hands out a seed, or Answer enters an outcome; and what holds of every book that follows by calls, from what
--- these two keep. Every fact about every list of calls rests on this. Assumes nothing.
+-- What a call does to the book: nothing, or Next hands out a seed, or Answer enters an outcome. What these two keep
+-- therefore holds of every book after any calls. Assumes nothing.
 use Rattle.std.proofs.Common.{ℕ, zero, suc, ◌-◌, ◌≡◌, refl, sym, ◌∙◌, ◌⊎◌, inl, inr, true, false, not, ◌&&◌, cond, List, [], ◌∷◌, ◌++◌, append_assoc, append-nil, ltb, length, Float, Result, Ok, Err}
 use Rattle.std.specs.Prelude.{⊤}
 use Rattle.common.specs.declared.Refusal.{Refusal}
@@ -21,7 +21,8 @@ use Rattle.book.proofs.Cases.{case_chosen, case_list, case_result}
 abbrev pub entry : Book → Outcome → Entry
 entry b o = record { number = number b; round = b.round; seed = current b; outcome = o }
 
--- ---- what may be entered, of a seed with the tilts t: any reason, or a scoring with what holds of every scored finding
+-- ---- what may be entered for a seed with the tilts t: any reason, or a scoring with the properties of a scored
+-- finding
 abbrev pub Stands : Inputs → ScheimpflugParams → Outcome → Type 0
 Stands i t (Ok s) = ScoredFacts t i.center s
 Stands i t (Err reason) = Unit {0}
@@ -32,7 +33,7 @@ outcome_stands i f t rows flags =
     (λ g e. rw e (scored_facts i.share f t i.center rows flags g e))
     (λ reason e. rw e tt)
 
--- ---- the end of a round, k further ones asked for: what holds before it, P, gives what holds of the book after it, Q
+-- ---- the end of a round, k further ones asked for: P holds of the book before it, and so Q of the book after it
 pub record Closing (P : ℕ → Book → Type 0) (Q : Book → Type 0) : Type 0 where
   pub ends : (k : ℕ) (b : Book) → (k ≡ 0) ⊎ (or_else (round_best_of b) (run_best_of b) ≡ nothing) → P k b → Q (with_end b)
   pub skips : (k : ℕ) (b : Book) (w : Candidate) → or_else (round_best_of b) (run_best_of b) ≡ chosen w → list_around b.inputs (suc b.round) w ≡ [] → P (suc k) b → P k (with_round b [])
@@ -55,7 +56,7 @@ module _ {P : ℕ → Book → Type 0} {Q : Book → Type 0} (c : Closing P Q) w
   close_by zero b h = c.ends zero b (inl refl) h
   close_by (suc k) b h = close_more k (close_by k) b h
 
--- an outcome is entered: the round goes on, or ends with its last seed
+-- entering an outcome: the round goes on, or ends with its last seed
 pub enter_by : (Q : Book → Type 0) (b : Book) (o : Outcome)
     → (ltb (length (with_entry b o).answered) (length (with_entry b o).list) ≡ true → Q (with_entry b o))
     → (ltb (length (with_entry b o).answered) (length (with_entry b o).list) ≡ false → Q (close_round ((with_entry b o).inputs.rounds - (with_entry b o).round) (with_entry b o)))
@@ -89,7 +90,7 @@ unfolding with_waiting
 await_holds b = (refl, refl)
 
 -- ---- a call
--- what it enters
+-- the entries that a call adds
 abbrev pub entered_for : Result ⊤ Refusal → Entry → List Entry
 entered_for (Ok nothing_refused) e = e ∷ []
 entered_for (Err refusal) e = []

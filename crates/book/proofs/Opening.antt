@@ -1,4 +1,4 @@
--- An accepted Start opens the book: the run, the list that it wrote, and what holds of them. Assumes nothing.
+-- An accepted Start opens the book: its run, the list that it writes, and what holds of them. Assumes nothing.
 use Rattle.std.proofs.Common.{ℕ, ◌+◌, ◌*◌, ◌/◌, ◌≤◌, ◌<◌, mul-le-mul, arith, ◌≡◌, refl, sym, ◌∙◌, inl, ⊎_elim, Bool, true, false, ◌&&◌, cond, true≢false, List, [], ◌∷◌, ltb-true, ltb-false, ltb, eqb, length, Float, Ok}
 use Rattle.std.specs.Float.Ieee.{eq}
 use mathlib.Core.List.Memᴰ
@@ -123,7 +123,7 @@ module _ (i : Inputs) (l : List Float) (z : refusal i l ≡ Ok tt) where
   opened_front : Front (demand i) (first_list i) (written (first_list i) l)
   opened_front = write_front (demand i) (first_list i) l demand_fits (let p = list_length in let q = demand_least.1 in omega arith)
 
-  -- the typed tilts about y, and the decomposition's, of a one-axis run
+  -- in a one-axis run the typed tilts about y, and those of the decomposition, are zeros
   zero_typed : i.one_axis ≡ true → (y : Float) → Memᴰ y i.ys → eq y plus_zero ≡ true
   zero_typed one y m = only_zeros i.ys (start_facts.one_y one) y m
 
@@ -139,7 +139,7 @@ module _ (i : Inputs) (l : List Float) (z : refusal i l ≡ Ok tt) where
   some_left [] h = absurd (true≢false h)
   some_left (s ∷ ss) h = omega arith
 
-  -- the bound is a number, since 3 doesn't hold
+  -- the bound is finite, since refusal 3 doesn't hold
   finite_max : is_finite i.max ≡ true
   finite_max =
       let n = none_hold (start_checks i.views (options_of i) i.xs i.ys i.decomposition (length l)) (conditions i (length l)) (start_decided i (length l)) z in

@@ -1,4 +1,4 @@
--- How many seeds each later round has handed out: no more than its list has. Assumes nothing.
+-- A later round hands out at most as many seeds as its list has. Assumes nothing.
 use Rattle.std.proofs.Common.{ℕ, suc, ◌≤◌, ◌<◌, arith, ◌≡◌, refl, List, [], ◌∷◌, ◌++◌, map, append-nil, eqb-true, ne_eqb, eqb, length}
 use mathlib.Core.List.{map-append}
 use borrow.Author.Tests.{eqb-false}
@@ -14,7 +14,7 @@ use Rattle.book.specs.Book.{Entry, Book, with_round}
 use Rattle.book.specs.Trace.{Handing, handed_in_round, handing_of}
 use Rattle.book.proofs.Planned.{Planned}
 
--- what holds of entries as they were handed out
+-- a property of handed-out seeds, from the same of their entries
 pub handings_all : (P : Handing → Type 0) (es : List Entry) → All (λ e. P (handing_of e)) es → All P (map handing_of es)
 handings_all P [] h = tt
 handings_all P (e ∷ es) h = (h.0, handings_all P es h.1)
@@ -33,7 +33,7 @@ in_round_length : (k : ℕ) (hs : List Handing) → length (handed_in_round k hs
 unfolding handed_in_round
 in_round_length k hs = keep_length (λ (h : Handing). eqb h.round k) hs
 
--- xs were handed out in rounds before n, and ys in round n
+-- xs were handed out in rounds before round n, ys in round n
 few_both : (k n most : ℕ) (xs ys : List Handing) → All (λ h. h.round < n) xs → All (λ h. h.round ≡ n) ys
     → length (handed_in_round k xs) ≤ most → (n ≡ k → length ys ≤ most) → length (handed_in_round k (xs ++ ys)) ≤ most
 few_both k n most xs ys past this few own =
@@ -54,7 +54,7 @@ pub record FewPerRound (b : Book) : Type 0 where
   pub listed : 0 < b.round → length b.list ≤ most_seeds b.inputs.one_axis
   pub before : (k : ℕ) → length (handed_in_round (suc k) (map handing_of b.earlier)) ≤ most_seeds b.inputs.one_axis
 
--- ws are the handings of this round, no more than its list has
+-- ws are the seeds that this round handed out, at most as many as its list has
 pub few_handed : (b : Book) (ws : List Handing) → FewPerRound b → Planned b → All (λ h. h.round ≡ b.round) ws → length ws ≤ length b.list
     → (k : ℕ) → length (handed_in_round (suc k) (map handing_of b.earlier ++ ws)) ≤ most_seeds b.inputs.one_axis
 few_handed b ws h p this most k =

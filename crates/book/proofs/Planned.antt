@@ -34,7 +34,7 @@ unfolding outcomes_in
 outcomes_all [] r h = refl
 outcomes_all (e ∷ xs) r h = simp (outcomes_in, eq-eqb e.round r h.0) (ap (λ (z : List Outcome). e.outcome ∷ z) (outcomes_all xs r h.1))
 
--- ---- a plan goes by the outcomes of the rounds before
+-- ---- a plan depends on the outcomes of the rounds before alone
 module _ (i : Inputs) (os ps : ℕ → List Outcome) where
   plan_same : (r : ℕ) → ((k : ℕ) → k < r → os k ≡ ps k) → plan i os r ≡ plan i ps r
   unfolding plan
@@ -61,7 +61,7 @@ entered_more r n (s ∷ ss) (p ∷ os) o h =
     let e : n + suc (length os) ≡ suc n + length os = omega arith in
     rw e (ap (λ (z : List Entry). record { number = n; round = r; seed = s; outcome = p } ∷ z) (entered_more r (suc n) ss os o (omega arith)))
 
--- a whole round's seeds, as they are handed out
+-- the seeds of a whole round, as they are handed out
 handings_entered : (r n : ℕ) (ss : List CandidateSeed) (os : List Outcome) → length os ≡ length ss → handings_of r n ss ≡ map handing_of (entered_all r n ss os)
 unfolding entered_all handings_of
 handings_entered r n [] os h = refl
@@ -77,14 +77,14 @@ pub record Planned (b : Book) : Type 0 where
   pub so_far : b.answered ≡ entered_all b.round (length b.earlier) b.list (map (λ e. e.outcome) b.answered)
   pub handings_are : map handing_of b.earlier ≡ handings b.inputs (outcomes_in b.earlier) b.round
 
--- the rounds up to and with this one, all of its seeds answered
+-- the rounds up to this one, when all seeds of this one are answered
 pub record Done (b : Book) : Type 0 where
   pub before_is : entries b ≡ (plan b.inputs (outcomes_in (entries b)) (suc b.round)).before
   pub list_is : following b.inputs b.round b.answered (entries b) ≡ (plan b.inputs (outcomes_in (entries b)) (suc b.round)).list
   pub handings_are : map handing_of (entries b) ≡ handings b.inputs (outcomes_in (entries b)) (suc b.round)
 
 module _ (b : Book) (h : Planned b) where
-  -- this round's outcomes come to the earlier ones
+  -- this round's outcomes don't change those of earlier rounds
   below_same : (k : ℕ) → k < b.round → outcomes_in (entries b) k ≡ outcomes_in b.earlier k
   below_same k l =
       outcomes_append b.earlier b.answered k
@@ -130,7 +130,7 @@ module _ (b : Book) (h : Planned b) where
   pub done : length b.answered ≡ length b.list → Done b
   done c = record { before_is = done_before; list_is = done_list; handings_are = done_handings c }
 
--- ---- as the book changes
+-- ---- the steps that keep it
 pub await_planned : (b : Book) → Planned b → Planned (with_waiting b)
 unfolding with_waiting
 await_planned b h = record { past = h.past; this = h.this; before_is = h.before_is; list_is = h.list_is; so_far = h.so_far; handings_are = h.handings_are }

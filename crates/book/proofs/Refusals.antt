@@ -1,4 +1,4 @@
--- Start refuses just where one of 01's or 02's conditions holds, for the first one. Assumes nothing.
+-- Start refuses exactly where one of its conditions holds, with the first that does. Assumes nothing.
 use Rattle.std.proofs.Common.{ℕ, ◌/◌, ◌%◌, ◌<◌, arith, ◌≡◌, refl, sym, ap, ◌∙◌, ◌⊎◌, inl, inr, ⊎_elim, Bool, true, false, not, ◌&&◌, ◌||◌, true≢false, List, [], ◌∷◌, ltb-true, ltb-false, eqb-true, ne_eqb, ltb, eqb, length, Float, Ok, Err}
 use Rattle.std.specs.Float.Ieee.{neg, lt, le, eq}
 use borrow.Author.Tests.{eqb-false}

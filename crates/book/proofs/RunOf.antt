@@ -1,4 +1,4 @@
--- The run's record as a function of the book, and that it is sound. Assumes nothing.
+-- The run's record is a function of the book, and it is sound. Assumes nothing.
 use Rattle.std.proofs.Common.{◌+◌, ◌*◌, ◌≤◌, arith, ◌≡◌, refl, Bool, true, false, not, List, lt-ltb, le-leb, length, length-append, Float}
 use Rattle.common.specs.Tests.{case}
 use Rattle.seed_rules.specs.declared.CandidateSeed.{CandidateSeed}
@@ -11,12 +11,12 @@ use Rattle.book.proofs.Good.{Good}
 use Rattle.book.proofs.Tally.{tally_total}
 use Rattle.book.specs.RunOf.{run_of, waiting_of, last_in}
 
--- a book between the calls, and the lent list: the round's seeds stand in its front
+-- a book between the calls and the lent list, in front of which the book's list stands
 pub record State (i : Inputs) (b : Book) (l : List Float) : Type 0 where
   pub good : Good i b
   pub there : Front (demand b.inputs) b.list l
 
--- ---- the run's fields, as the tests read them
+-- ---- the fields of the record that the tests read
 module _ (b : Book) where
   pub run_demand : (run_of b).place.demand ≡ demand b.inputs
   unfolding run_of
@@ -95,7 +95,7 @@ pub ruleset run-fields = (run_demand, run_over, run_len, run_at, run_number, run
 
 pub ruleset run-bests = (run_round_best, run_run_best, is_found)
 
--- ---- such a run is sound
+-- ---- the record is sound
 module _ (i : Inputs) (b : Book) (g : Good i b) where
   pub count_bound : number b ≤ 656
   count_bound =

@@ -1,4 +1,4 @@
--- What the seeds of a book are in their round, and that those of the list around a chosen candidate are. Assumes nothing.
+-- What holds of each seed of a round: of round 0's, and of those in the list around a candidate. Assumes nothing.
 use Rattle.std.proofs.Common.{ℕ, ◌≤◌, ◌<◌, arith, ◌≡◌, true, List, ◌∷◌, length}
 use Rattle.std.specs.Float.Ieee.{of_bits, eq}
 use Rattle.common.specs.All.{all_right, all_map}
@@ -15,7 +15,7 @@ use Rattle.score_best.specs.Best.{chosen, best_of}
 use Rattle.score_best.proofs.Order.{found_leads}
 use Rattle.book.specs.Book.{Inputs, step_of, list_around}
 
--- within the bound; and in a one-axis run without a tilt about y, which is +0 in later rounds
+-- the tilts are within the bound; in a one-axis run the tilt about y is a zero, and +0 in later rounds
 pub record Seeded (i : Inputs) (r : ℕ) (s : CandidateSeed) : Type 0 where
   pub within : in_bound i.max s.sensor ≡ true
   pub untilted : i.one_axis ≡ true → untilted_y s.sensor ≡ true

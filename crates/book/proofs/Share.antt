@@ -1,4 +1,5 @@
--- 02, E11: whoever was scored after some calls was scored by one of them, and then the mean rests on the share, or stood in the book before. Assumes nothing.
+-- A candidate that is scored after some calls was scored by one of them, so that its mean rests on the share, or stood
+-- in the book before. Assumes nothing.
 use Rattle.std.proofs.Common.{ℕ, ◌≡◌, refl, ap, ◌∙◌, ◌⊎◌, inl, inr, ⊎_elim, true, List, [], ◌∷◌, ltb, Float, Ok, Err}
 use mathlib.Core.List.{Memᴰ}
 use Rattle.common.specs.Tests.{case}
@@ -26,7 +27,7 @@ use Rattle.book.proofs.Simulation.{scored_append, call_agrees}
 
 -- ---- of one answer
 module _ (b : Book) (n : ℕ) (rows : List Float) (flags : List ℕ) (w : Candidate) where
-  -- the book's own part of `AnsweredBy`
+  -- what `AnsweredBy` says, of the book alone
   pub record Own (f : Finding) : Type 0 where
     pub camera : PinholeCamera
     pub finding_is : f ≡ Solved camera
@@ -73,7 +74,7 @@ module _ (b : Book) (n : ℕ) (rows : List Float) (flags : List ℕ) (w : Candid
 
 -- ---- of one call, beside the run
 module _ (i : Inputs) (b : Book) (l : List Float) (t : State i b l) where
-  -- an answer's own candidate, before any other calls
+  -- the candidate of the first call, an Answer
   now_answered : (n : ℕ) (f : Finding) (rows : List Float) (flags : List ℕ) (cs : List Call) (w : Candidate) → Own b n rows flags w f → AnsweredBy i.share (run_of b) l (answer n f rows flags ∷ cs) w
   unfolding run_after list_after book_call
   now_answered n f rows flags cs w o =
@@ -121,7 +122,7 @@ module _ (i : Inputs) (b : Book) (l : List Float) (t : State i b l) where
     rests_on = a.rests_on;
   }
 
--- ---- of any list of calls: scored by one of them, or before
+-- ---- over any list of calls: w was scored by one of them, or before
 pub by_calls : (i : Inputs) (b : Book) (l : List Float) (cs : List Call) (w : Candidate) → State i b l → Memᴰ w (scored_of (entries (after b cs)))
     → AnsweredBy i.share (run_of b) l cs w ⊎ Memᴰ w (scored_of (entries b))
 unfolding after
@@ -134,7 +135,7 @@ by_calls i b l (c ∷ cs) w t m =
     λ p. ⊎_elim (λ q. inr q) (λ q. inl (by_call i b l t c cs w q)) (mathlib.Core.List.Memᴰ.append_cases (scored_of (entries b)) (rw (grows b c, scored_append) at p)) in
     ⊎_elim (λ p. inl (later i b l t c cs w (rw a.run p))) split (by_calls i k (run_call (run_of b) l c).list cs w u m)
 
--- so the winner's mean rests on the share, unless it was kept from before
+-- so the winner's mean rests on the share, unless the winner is a kept line's
 pub rests_by : (share : ℕ) (kept : List Entry) (r : Run) (l : List Float) (cs : List Call) (w : Candidate) → AnsweredBy share r l cs w ⊎ Memᴰ w (scored_of kept) → Rests share kept r l cs w
 unfolding scored_of
 rests_by share [] r l cs w h = ⊎_elim (λ a. a) (λ n. absurd (mathlib.Core.List.Memᴰ.not-nil n)) h

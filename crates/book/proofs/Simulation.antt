@@ -1,4 +1,4 @@
--- Each call replies as the book does and keeps the run a function of the book. Assumes nothing.
+-- Each call replies as the book does, and the run stays a function of the book. Assumes nothing.
 use Rattle.std.proofs.Common.{ℕ, zero, suc, ◌+◌, ◌-◌, ◌*◌, ◌≤◌, ◌<◌, add-one, arith, ◌≡◌, refl, sym, ap, ◌∙◌, true, false, cond, List, [], ◌∷◌, ◌++◌, append_assoc, append-nil, ltb-true, ltb-false, le-leb, ltb, eqb, length, take, drop, length-append, take-append-drop, drop-cons, Float, Result, Ok, Err}
 use mathlib.Core.Option.{Option, none, some}
 use Rattle.std.specs.Prelude.{Some, None, ⊤}
@@ -48,7 +48,7 @@ use Rattle.book.proofs.Lists.{seed_at_lem, part_at, seeds_there, Front, lend, gi
 use Rattle.search_calls.specs.Last.{has_line, recorded_in, last_def}
 use Rattle.search_calls.specs.Counts.{counts_def}
 
--- a call's step beside the book's
+-- what a call makes of the run, beside what it makes of the book
 pub record Agrees (x : Step) (k : Kept) : Type 0 where
   pub reply : x.reply ≡ k.reply
   pub run : x.run ≡ run_of k.book
@@ -115,7 +115,7 @@ result_agrees i b l f =
     (λ o. case_chosen (run_best_of b) (λ e. simp (result_def, unless, run-fields, run-bests, t, o, e) (unmoved b l f.there (refused NothingScored))) (λ v e. simp (result_def, unless, run-fields, run-bests, t, o, e) (unmoved b l f.there (result v))))
     (λ o. simp (result_def, unless, run-fields, t, o) (unmoved b l f.there (refused NotOver)))
 
--- ---- the progress call
+-- ---- Progress
 pub progress_is : (i : Inputs) (b : Book) → Good i b
     → progress_def (run_of b) ≡ record { round = b.round; rounds = b.inputs.rounds; answered = length b.answered; total = length b.list; answered_in_run = number b }
 unfolding progress_def
@@ -125,7 +125,7 @@ progress_agrees : (i : Inputs) (b : Book) (l : List Float) → State i b l → A
 unfolding run_call book_progress
 progress_agrees i b l f = simp (progress_is i b f.good) (unmoved b l f.there (bar _))
 
--- ---- the stop call
+-- ---- Stop
 left_is : (b : Book) (l : List Float) → There b l → length b.answered ≤ length b.list → (b.waits ≡ true → length b.answered < length b.list)
     → left_seeds (run_of b) l ≡ left_in b
 unfolding left_seeds
@@ -173,7 +173,7 @@ stop_agrees i b l n f =
     (λ s. simp (unless, stop_is i b l n f, s) (unmoved b l f.there (refused ShortList)))
     (λ s. simp (unless, stop_is i b l n f, s, rest_read b) (unmoved b l f.there (stopped (run_best_of b) (rest_in b))))
 
--- ---- the last answered candidate's line
+-- ---- the last line
 abbrev OnLast : (Entry → Type 0) → Option Entry → Type 0
 OnLast P none = Unit {0}
 OnLast P (some e) = P e
@@ -183,7 +183,7 @@ unfolding last_of
 last_all P [] h = tt
 last_all P (d ∷ es) h = case_option (last_of es) (λ n. simp (last_of, n) h.0) (λ e n. let ih = last_all P es h.1 in simp (last_of, n) (rw n at ih))
 
--- it was scored, or skipped for a reason
+-- the line of an entry, scored or skipped
 line_is : (i : Inputs) (n r : ℕ) (s : CandidateSeed) (o : Outcome) → Stands i s.sensor o → (x : Run) → rec.sound x ≡ true → x.last ≡ rec.last_answer n r s (recorded_as o)
     → last_def x ≡ Some (record { number = n; round = r; seed = s; outcome = recorded_as o })
 unfolding last_def has_line recorded_in
@@ -212,7 +212,7 @@ last_agrees i b l f =
     (λ n. record { reply = simp n (ap last_reply (no_line (run_of b) (run_last b ∙ ap last_in n))); run = refl; there = f.there })
     (λ e n. record { reply = simp n (ap last_reply (last_line_is i b e f.good n)); run = refl; there = f.there })
 
--- ---- the counts call
+-- ---- Counts
 pub counts_is : (i : Inputs) (b : Book) → Good i b → counts_def (run_of b) ≡ tally (entries b)
 unfolding counts_def
 counts_is i b g = simp (run-fields, sound_run i b g)
@@ -222,7 +222,7 @@ unfolding run_call book_counts
 counts_agrees i b l f = simp (counts_is i b f.good) (unmoved b l f.there (counted (tally (entries b))))
 
 -- ---- the end of a round
--- the run and the list that go with a book
+-- the run and the lent list that go with a book
 pub record Ends (x : ans.Left) (b : Book) : Type 0 where
   pub run : x.run ≡ run_of b
   pub there : There b x.list
@@ -235,7 +235,7 @@ end_ends : (b : Book) (l : List Float) → b.waits ≡ false → There b l → E
 unfolding with_end
 end_ends b l w f = record { run = end_run b w; there = f }
 
--- the step of the next list
+-- the step of the next round
 step_next : (n : ℕ) (s : Float) → cond (eqb n 0) s (step_of n s *₆₄ half₆₄) ≡ step_of (suc n) s
 unfolding step_of
 step_next zero s = refl
@@ -252,7 +252,7 @@ run_seeds b w = simp (run_step, run_max, run_one_axis)
 nobody_waits : (b : Book) → b.waits ≡ false → (run_of b).waiting ≡ rec.nobody
 nobody_waits b w = simp (run_waiting, w)
 
--- an opened run, its step and its waiting seed given by what they equal
+-- an opened run whose step and waiting seed are given by equations
 abbrev opened_with : Run → ℕ → Float → Waiting → Run
 opened_with r n s q =
     let p = r.place in
@@ -290,7 +290,7 @@ open_ends : (b : Book) (l : List Float) (s : CandidateSeed) (ss : List Candidate
 unfolding with_round
 open_ends b l s ss w f d n = record { run = open_run b (s ∷ ss) w; there = write_front (demand b.inputs) (s ∷ ss) l f.long (omega arith) }
 
--- a round without seeds
+-- a round whose list is empty
 module _ (b : Book) where
   skip_same : ((with_round b []).waits ≡ false) × ((with_round b []).inputs ≡ b.inputs)
   unfolding with_round
@@ -300,7 +300,7 @@ module _ (b : Book) where
   unfolding with_round
   skip_there l f = no_front (demand b.inputs) b.list l f
 
--- k further rounds are asked for
+-- the end of a round, with k further rounds asked for
 abbrev CloseAgrees : ℕ → Type 0
 CloseAgrees k = (b : Book) (l : List Float) → b.waits ≡ false → There b l → 54 ≤ demand b.inputs → Ends (ans.close_round k (run_of b) l) (close_round k b)
 
@@ -324,7 +324,7 @@ close_agrees : (k : ℕ) → CloseAgrees k
 close_agrees zero = close_last
 close_agrees (suc k) = close_more k (close_agrees k)
 
--- ---- the scored ones of a longer list
+-- ---- the scored candidates of a longer list
 pub scored_append : (a b : List Entry) → scored_of (a ++ b) ≡ scored_of a ++ scored_of b
 unfolding scored_of
 scored_append [] b = refl
@@ -340,7 +340,7 @@ unfolding scored_of rec.with_outcome
 best_entry b (Err reason) es = simp (scored_append, append-nil)
 best_entry b (Ok s) es = rw (scored_append es (entry b (Ok s) ∷ [])) (sym (best_snoc (scored_of es) (candidate_of (number b) (current b).sensor s)))
 
--- an entered run, its seed's tilts and its bests given by what they equal
+-- an entered run whose bests, last line and counts are given by equations
 abbrev entered_with : Run → Best → Best → LastAnswer → Counts → Run
 entered_with r a c d m =
     let p = r.place in
@@ -407,7 +407,7 @@ enter_run b o w =
     (enter_run_best b o) (enter_last b o) (enter_counts b o)
     ∙ entered_is b o
 
--- ---- the answer to the list's last seed ends the round
+-- ---- entering an outcome: the answer to the list's last seed ends the round
 module _ (b : Book) (o : Outcome) where
   entry_same : ((with_entry b o).waits ≡ false) × ((with_entry b o).inputs ≡ b.inputs)
   unfolding with_entry
@@ -435,7 +435,7 @@ enter_agrees b o l w f d =
     (λ t. simp (closes b o t, enter_run b o w, run-fields, t) (close_agrees (c.inputs.rounds - c.round) c l (entry_same b o).0 (entry_there b o l f) (rw (entry_same b o).1 d)))
 
 -- ---- Answer
--- a refused Answer gives its front of the list back unchanged
+-- a refused Answer gives the lent list back unchanged
 refused_agrees : (b : Book) (l : List Float) (n : ℕ) (r : Refusal) → There b l → Agrees (record { reply = refused r; run = run_of b; list = take n l ++ drop n l }) (kept (refused r) b)
 refused_agrees b l n r f = record { reply = refl; run = refl; there = rw take-append-drop f }
 
@@ -447,7 +447,7 @@ pub outcome_agrees : (b : Book) (f : Finding) (rows : List Float) (flags : List 
 unfolding ans.outcome_for
 outcome_agrees b f rows flags w = simp (run-fields, w)
 
--- what Answer refuses where a seed waits: a short list, and then what the finding is refused for
+-- what Answer refuses: 12, 10, and then what is refused of the finding
 module _ (i : Inputs) (b : Book) (l : List Float) (n : ℕ) (f : Finding) (rows : List Float) (flags : List ℕ) (g : State i b l) where
   abbrev pub refused_for : Result ⊤ Refusal
   refused_for = ans.answer_refusal (run_of b) (length (take n l)) f rows flags

@@ -1,5 +1,5 @@
--- 02, E9: where the floor of a book's seeds left isn't below its best's score, none of them beats that best, so its round gains nothing, whatever calls follow.
--- Assumes nothing.
+-- Where the floor isn't below the score of the book's best, no seed left beats that best, so the round gains nothing,
+-- whatever calls follow. Assumes nothing.
 use Rattle.std.proofs.Common.{ℕ, zero, suc, ◌≤◌, ◌<◌, arith, ◌≡◌, refl, sym, ap, subst, ◌∙◌, ◌⊎◌, inl, inr, ⊎_elim, false, List, [], ◌∷◌, ◌++◌, append_assoc, append-nil, le-leb, leb, length, get_or, drop, length-append, Ok}
 use Rattle.std.specs.Float.Ieee.{lt}
 use mathlib.Core.List.{Memᴰ}
@@ -36,7 +36,7 @@ mem_left d (x ∷ xs) (suc k) zero h l = absurd (omega arith)
 mem_left d (x ∷ xs) (suc k) (suc j) h l = mem_left d xs k j (omega arith) (omega arith)
 
 module _ (i : Inputs) (b : Book) where
-  -- ---- what is entered after the book b: answers to its seeds left, while its round lasts
+  -- ---- what is entered after the book b while its round lasts: outcomes of the seeds left
   record FromLeft (e : Entry) : Type 0 where
     this_round : e.round ≡ b.round
     listed : Memᴰ e.seed (left_in b)
@@ -45,7 +45,7 @@ module _ (i : Inputs) (b : Book) where
   abbrev Newer : Entry → Type 0
   Newer e = (b.round < e.round) ⊎ FromLeft e
 
-  -- where a later book stands
+  -- a later book in the same round
   record Same (c : Book) : Type 0 where
     round_is : c.round ≡ b.round
     list_is : c.list ≡ b.list
@@ -124,7 +124,7 @@ module _ (i : Inputs) (b : Book) where
       after_by since_steps b ds
       (g, record { new = []; entries_are = sym (append-nil (entries b)); each = tt; stands = inr (record { round_is = refl; list_is = refl; further = omega arith }) })
 
-  -- ---- the entries up to this round's end: the old ones, and of the new ones those to the seeds left
+  -- ---- the entries up to this round's end: those of b, and new ones for the seeds left
   from_left : (es : List Entry) → All Newer es → All FromLeft (up_to b.round es)
   unfolding keep
   from_left [] h = tt
@@ -135,7 +135,7 @@ module _ (i : Inputs) (b : Book) where
       (λ f. let q = f.this_round in let l : e.round ≤ b.round = omega arith in simp (le-leb e.round b.round l) (f, r))
       h.0
 
-  -- ---- none of these beats a best whose score the floor isn't below
+  -- ---- none of the new ones beats w, if the floor isn't below w's score
   module _ (w : Candidate) (number : HasNumber w) (high : lt (floor_of (left_in b)) w.score ≡ false) where
     one_loses : (e : Entry) → FromLeft e → (m : Scoring) → e.outcome ≡ Ok m → beats (candidate_of e.number e.seed.sensor m) w ≡ false
     one_loses e f m q =

@@ -1,4 +1,4 @@
--- 02, E9: what the stop call's reply means in a run. Assumes nothing.
+-- What the reply of Stop means in a run. Assumes nothing.
 use Rattle.std.proofs.Common.{ℕ, zero, suc, ◌≤◌, ◌<◌, arith, ◌≡◌, refl, sym, ap, ◌∙◌, ◌↔◌, true, false, cond, true≢false, List, [], ◌∷◌, ◌++◌, ltb, length, take, drop, drop_of_length-le, Float}
 use Rattle.std.specs.Float.Ieee.{lt}
 use borrow.Author.Tests.{not-true}
@@ -25,7 +25,7 @@ use Rattle.book.proofs.Simulation.{stop_is}
 use Rattle.book.proofs.Walks.{walks}
 use Rattle.book.proofs.Stopping.{since, nothing_gained}
 
--- ---- calls in two parts
+-- ---- two lists of calls, one after the other
 pub after_append : (b : Book) (cs ds : List Call) → after b (cs ++ ds) ≡ after (after b cs) ds
 unfolding after
 after_append b [] ds = refl
@@ -49,7 +49,7 @@ no_gain_lem c [] h = absurd (true≢false (sym h))
 no_gain_lem nothing (s ∷ ss) h = absurd (true≢false (sym h))
 no_gain_lem (chosen w) (s ∷ ss) h = record { best = w; is_best = refl; high = not-true (lt (floor_of (s ∷ ss)) w.score) h }
 
--- nothing is left just where the run is over
+-- nothing is left exactly where the run is over
 floor_there : (b : Option Candidate) (ss : List CandidateSeed) → ((outlook_of b ss).floor ≡ None) ↔ (ss ≡ [])
 unfolding outlook_of
 floor_there b [] = ((λ h. refl), (λ h. refl))

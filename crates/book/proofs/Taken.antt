@@ -1,4 +1,5 @@
--- While the list is the run's own, 27 never comes: the waiting seed's tilts lie within the bound, which is at most 0.5. Assumes nothing.
+-- While the lent list is the run's own, Answer never refuses with 27: the waiting seed's tilts are within the bound,
+-- which is at most 0.5. Assumes nothing.
 use Rattle.std.proofs.Common.{ℕ, ◌≡◌, refl, sym, ◌∙◌, ◌⊎◌, ⊎_elim, true, false, ◌||◌, true≢false, List, [], ◌∷◌, ◌++◌, arith, Float, Ok}
 use Rattle.std.specs.Float.{nan, inf, fin}
 use Rattle.std.specs.Float.Ieee.{lt, le, eq, is_nan}
@@ -15,7 +16,7 @@ use Rattle.score_outcome.specs.declared.Finding.{Finding}
 use Rattle.score_outcome.specs.declared.Finding.TheVariants.{Failed, Solved}
 use Rattle.score_outcome.specs.Evaluation.{row_checks, solved_refusal, finding_refusal}
 
--- ---- what is within a bound of at most 0.5 isn't beyond 0.5
+-- ---- a tilt within a bound of at most 0.5 isn't beyond 0.5
 number : (t max : Float) → le (abs_of t) max ≡ true → is_nan t ≡ false
 unfolding le lt eq abs_of is_nan
 number nan max h = absurd (true≢false (sym h))
@@ -29,7 +30,7 @@ within_half max t h w =
     (λ e. absurd (true≢false (sym (lt_cotrans half₆₄ (abs_of t) max (le_number (abs_of t) max w) e (le_not_lt (abs_of t) max w)) ∙ h)))
     (λ e. rw (number t max w, e))
 
--- ---- so of a finding only its rows can be refused
+-- ---- so a finding can be refused for its rows alone
 none_refused : (ts us : List Check) → first_refusal ts ≡ Ok tt → first_refusal us ≡ Ok tt → first_refusal (ts ++ us) ≡ Ok tt
 none_refused [] us h k = k
 none_refused ((r when true) ∷ ts) us h k = h

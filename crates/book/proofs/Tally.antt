@@ -1,4 +1,4 @@
--- The counts of entries: each is of one of the five kinds, so together they count them all. Assumes nothing.
+-- The counts of entries: each entry is of one of the five kinds, so the counts add up to all entries. Assumes nothing.
 use Rattle.std.proofs.Common.{arith, ◌≡◌, refl, ap, ◌∙◌, List, [], ◌∷◌, ◌++◌, map, length}
 use mathlib.Core.List.{map-append}
 use Rattle.journal_line.specs.Counts.{kind_of, count_in, counts_in, with_count}
@@ -7,7 +7,7 @@ use Rattle.journal_line.specs.Outcome.{recorded_as}
 use Rattle.journal_line.specs.Report.{total}
 use Rattle.book.specs.Book.{Entry, line_of, tally}
 
--- ---- one more entry is one more of its kind
+-- ---- one more entry adds one to the count of its kind
 pub tally_snoc : (es : List Entry) (e : Entry) → tally (es ++ e ∷ []) ≡ with_count (tally es) (recorded_as e.outcome)
 unfolding tally
 tally_snoc es e = ap counts_in (map-append line_of es (e ∷ [])) ∙ counts_snoc (map line_of es) (line_of e)

@@ -58,7 +58,7 @@ result_over i b w g h =
     (λ v e. let k : ◌≡◌ {A = Result Candidate Refusal} (Ok v) (Ok w) = simp (result_def, run-fields, run-bests, t, o, e) at h in (o, cc)))
     (λ o. let k : ◌≡◌ {A = Result Candidate Refusal} (Err NotOver) (Ok w) = simp (result_def, run-fields, t, o) at h in cc)
 
--- so it is over, as it is where Result gives 11
+-- a run is over where Result gives a winner or 11
 is_over_lem : (i : Inputs) (b : Book) → Good i b → Over (run_of b) → b.over ≡ true
 unfolding result_def
 is_over_lem i b g =
@@ -68,7 +68,7 @@ is_over_lem i b g =
     let t = sound_run i b g in
     case b.over (λ o. o) (λ o. let k : ◌≡◌ {A = Result Candidate Refusal} (Err NotOver) (Err NothingScored) = simp (result_def, run-fields, t, o) at h in cc))
 
--- it has handed out every round
+-- what a book with no seed waiting has handed out
 over_handed : (b : Book) → b.waits ≡ false → handed_in b ≡ map handing_of (entries b)
 unfolding handed_in
 over_handed b w = simp w (append-nil (map handing_of (entries b)))
@@ -81,7 +81,7 @@ all_handed_lem i b w g o e =
     ∙ ap (λ (j : Inputs). handings j (outcomes_in (entries b)) (suc j.rounds)) g.inputs_are)
     (g.finished o)
 
--- ---- what was handed out, round by round
+-- ---- the seeds that were handed out, round by round
 waiting_all : (P : Handing → Type 0) (b : Book) → (b.waits ≡ true → P (handing_now b)) → All P (waiting_handing b)
 waiting_all P b f = case b.waits (λ w. rw w (f w, tt)) (λ w. rw w tt)
 
@@ -102,7 +102,7 @@ handed_few i b g k =
     case b.over (λ o. let f = g.full o in omega arith) (λ o. let r = g.room o in omega arith)))
     k)
 
--- each seed that was handed out is one of its round
+-- each handed-out seed belongs to its round
 abbrev HandedSeed : Inputs → Handing → Type 0
 HandedSeed i h = (s : CandidateSeed) × (h.part ≡ six s) × Seeded i h.round s
 
@@ -125,7 +125,7 @@ answer_open i b l s w f rows flags k =
     let z = not_refused b.inputs.max (current b).sensor f rows flags g.core.sized.small_bound (current_seeded b g.core (g.room (waits_going i b g q))).within k in
     simp (answer_refusal, sound_run i b g, run-fields, q, z, le-ltb (length l) (demand b.inputs) s.there.long)
 
--- ---- of any book between the calls, no seed waiting
+-- ---- any book between the calls with no seed waiting
 pub follows : (i : Inputs) (b : Book) (l : List Float) (cs : List Call) → b.waits ≡ false → State i b l → ByBook i b (entries b) (run_of b) l cs
 unfolding NoNan
 follows i b l cs q t =
@@ -162,7 +162,7 @@ follows i b l cs q t =
       stops = stops i b l cs t;
     }
 
--- ---- of the book that an accepted Start opens: nothing waits, and nothing was kept
+-- ---- the book that an accepted Start opens: no seed waits, and nothing was kept
 opened_empty : (i : Inputs) → ((opened i).waits ≡ false) × (entries (opened i) ≡ [])
 unfolding opened
 opened_empty i = (refl, refl)

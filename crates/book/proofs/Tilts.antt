@@ -1,4 +1,4 @@
--- A run that is over has tried every pair of typed tilts within the bound. Assumes nothing.
+-- A run that is over has tried every typed pair within the bound. Assumes nothing.
 use Rattle.std.proofs.Common.{ℕ, zero, suc, ◌≡◌, refl, sym, ap, ◌∙◌, ⊎_elim, true, List, [], ◌∷◌, map, Float}
 use Rattle.std.specs.Float.Ieee.{neg, le}
 use mathlib.Core.List.{Memᴰ}
@@ -28,13 +28,13 @@ listed_handed r n (t ∷ ss) {s} m =
     (λ k. let p = listed_handed r (suc n) ss k in (p.0, mathlib.Core.List.Memᴰ.tail p.1))
     (mathlib.Core.List.Memᴰ.cases_cons m)
 
--- round 0's handings come first
+-- round 0's seeds are handed out first
 first_handed : (i : Inputs) (os : ℕ → List Outcome) (r : ℕ) {h : Handing} → Memᴰ h (handings_of 0 0 (first_list i)) → Memᴰ h (handings i os (suc r))
 unfolding handings plan
 first_handed i os zero m = m
 first_handed i os (suc r) m = mathlib.Core.List.Memᴰ.append_left _ (first_handed i os r m)
 
--- ---- what was handed out was answered
+-- ---- each handed-out seed was answered
 six_seed : (s : CandidateSeed) → seed_at (six s) 0 ≡ s
 six_seed s = refl
 
@@ -52,7 +52,7 @@ handed_answered : (es : List Entry) (n : ℕ) (s : CandidateSeed) → Memᴰ (ha
     → (o : Outcome) × Memᴰ (record { number = n; round = 0; seed = s; outcome = o }) es
 handed_answered es n s m = let p = mathlib.Core.List.Memᴰ.of_map handing_of es m in (p.0.outcome, rw (same_entry p.0 n s p.2) at p.1)
 
--- ---- of a book that is over
+-- ---- a book that is over
 pub all_tried : (i : Inputs) (b : Book) → Good i b → b.over ≡ true → (x y : Float) → Memᴰ x i.xs → Memᴰ y i.ys
     → le (neg i.max) x ≡ true → le x i.max ≡ true → le (neg i.max) y ≡ true → le y i.max ≡ true
     → TiltTried i (map handing_of (entries b)) (entries b) (tilts x y)

@@ -1,4 +1,5 @@
--- A whole list of calls beside the book: the replies, what is answered and handed out, and the run and the list at the end. Assumes nothing.
+-- A whole list of calls beside the book: the same replies, answers and handed-out seeds, and at the end the run and the
+-- list that go with the book. Assumes nothing.
 use Rattle.std.proofs.Common.{◌≡◌, refl, sym, ap, ◌∙◌, List, [], ◌∷◌, ◌++◌, append_assoc, append-nil, Float}
 use Rattle.book.specs.Calls.{Call, Reply}
 use Rattle.book.specs.Book.{Inputs, Entry, Book, entries, book_call, replies, after}

@@ -1,4 +1,5 @@
--- The run's best is the earliest of the lowest scores, with the properties of a scored finding. Assumes nothing.
+-- The run's best is the earliest candidate with the lowest score, with the properties of a scored finding. Assumes
+-- nothing.
 use Rattle.std.proofs.Common.{ℕ, suc, ◌≤◌, ◌<◌, arith, ◌≡◌, refl, sym, ◌∙◌, ◌⊎◌, inl, inr, true, false, true≢false, List, [], ◌∷◌, ◌++◌, Float}
 use Rattle.std.specs.Float.Ieee.{neg, lt, le, eq}
 use mathlib.Core.List.Memᴰ
@@ -20,7 +21,7 @@ use Rattle.book.proofs.Cases.{case_result}
 use Rattle.book.proofs.Seeds.{best_among}
 use Rattle.book.proofs.Good.{Proper, ProperCandidate, scored_proper, Counted}
 
--- the scored ones of entries numbered from k on have numbers from k on, and they rise
+-- the candidates of entries that are numbered from k have numbers from k, in rising order
 abbrev Rising : List Candidate → Type 0
 Rising [] = Unit {0}
 Rising (w ∷ ws) = All (λ v. w.number < v.number) ws × Rising ws
@@ -44,7 +45,7 @@ rising_behind : (a : List Candidate) (w : Candidate) (b : List Candidate) → Ri
 rising_behind [] w b r = r.0
 rising_behind (v ∷ a) w b r = rising_behind a w b r.1
 
--- ---- by IEEE's comparisons
+-- ---- in terms of IEEE 754's comparisons
 all_both : {A : Type 0} (P Q R : A → Type 0) → ((x : A) → P x × Q x → R x) → (xs : List A) → All P xs → All Q xs → All R xs
 all_both P Q R f [] p q = tt
 all_both P Q R f (x ∷ xs) p q = (f x (p.0, q.0), all_both P Q R f xs p.1 q.1)
@@ -60,7 +61,7 @@ module _ (w : Candidate) where
   Later : Candidate → Type 0
   Later v = eq w.score v.score ≡ true → (v ≡ w) ⊎ (w.number < v.number)
 
-  -- where every score is a number
+  -- if every score is a number
   beaten_lower : (v : Candidate) → HasNumber v → beats w v ≡ true → lt w.score v.score ≡ true
   beaten_lower v n h = sym (lower_beats w v (beats_number w v h) n) ∙ h
 
@@ -106,7 +107,7 @@ module _ (w : Candidate) where
   leads_mem ws l = rw l.split (Memᴰ.append_right l.before (Memᴰ.head refl))
 
 -- ---- the properties of a scored finding
--- both sides of the bound
+-- a tilt within the bound lies between its two ends
 sides : (max t : Float) → within max t ≡ true → (le (neg max) t ≡ true) × (le t max ≡ true)
 sides max t h = both_true (le (neg max) t) (le t max) (rw within_order at h)
 

@@ -1,5 +1,6 @@
--- The plain book of 01: what can be written down of a search from Start's inputs, the order of the calls and what the host sends to Answer.
--- It goes by the rules of the seeds, the scores and the best, and knows nothing of the run's record or the lent list. Definitions only.
+-- The reference model of a search (docs/SPECIFICATION.md, chapter 7): what follows from Start's inputs, the order of
+-- the calls and what the host sends to Answer. It goes by the rules of the seeds, the scores and the best, and knows
+-- nothing of the run's record or the lent list. Definitions only.
 use Rattle.std.specs.Prelude.{ℕ, zero, suc, ◌+◌, ◌-◌, ◌*◌, ◌/◌, Bool, true, false, not, ◌&&◌, cond, List, [], ◌∷◌, ◌++◌, map, ltb, length, get_or, drop, Float, Result, Ok, Err, ⊤}
 use Rattle.std.proofs.Math.Option.{Option, none, some}
 use Rattle.std.specs.Float.Ieee.{lt}
@@ -39,7 +40,8 @@ pub record Inputs : Type 0 where
   pub base : FxFyCxCy
   pub center : Pt2
 
--- how many numbers the lent list must have: nine seeds, and six for each seed that round 0 can have
+-- how many numbers the lent list must have: six for each seed that round 0 can have, and at least 54, which is nine
+-- seeds
 unfoldable pub demand : Inputs → ℕ
 demand i = let n = 6 * (length i.decomposition / 6 + length i.xs * length i.ys) in cond (ltb n 54) 54 n
 
@@ -50,8 +52,8 @@ pub record Entry : Type 0 where
   pub seed : CandidateSeed
   pub outcome : Outcome
 
--- The book (01's term) holds the round, its list, the candidates answered in earlier rounds and in this one, whether the list's next seed was
--- handed out and waits for its answer, and whether the run is over.
+-- The reference model as a record: the round and its list, the entries of earlier rounds and of this one, whether a
+-- seed waits, and whether the run is over.
 pub record Book : Type 0 where
   pub inputs : Inputs
   pub round : ℕ
@@ -68,7 +70,7 @@ entries b = b.earlier ++ b.answered
 abbrev pub number : Book → ℕ
 number b = length (entries b)
 
--- no seed: it stands past the end of a list
+-- the seed of zeros that `current` gives where the list has no further seed
 abbrev pub no_seed : CandidateSeed
 no_seed = record { reference_k = record { fx = plus_zero; fy = plus_zero; cx = plus_zero; cy = plus_zero }; sensor = record { tilt_x = plus_zero; tilt_y = plus_zero } }
 
@@ -77,12 +79,12 @@ abbrev pub current : Book → CandidateSeed
 current b = get_or b.list (length b.answered) no_seed
 
 -- ---- the best
--- the scored ones of some entries
+-- the candidates of the entries that were scored
 unfoldable pub scored_of : List Entry → List Candidate
 scored_of [] = []
 scored_of (e ∷ es) = elim e.outcome [ Ok s ↦ candidate_of e.number e.seed.sensor s ∷ scored_of es | Err reason ↦ scored_of es ]
 
--- of the round's and of the run's scored candidates the earliest with the lowest score
+-- the earliest with the lowest score, of the round's scored candidates and of the run's
 unfoldable pub round_best_of : Book → Chosen
 round_best_of b = best_of (scored_of b.answered)
 
@@ -94,7 +96,8 @@ or_else nothing c = c
 or_else (chosen w) c = chosen w
 
 -- ---- the lists
--- the step that a round's list is made with: refine_step for round 1's, and half of the last one's for each that follows. Round 0's list has none.
+-- The step of a round: refine_step in round 1, and half of the step before in each later round. Round 0 has no step; it
+-- is +0 here.
 unfoldable pub step_of : ℕ → Float → Float
 step_of zero s = plus_zero
 step_of (suc zero) s = s
@@ -103,7 +106,8 @@ step_of (suc (suc n)) s = step_of (suc n) s *₆₄ half₆₄
 unfoldable pub first_list : Inputs → List CandidateSeed
 first_list i = initial_list (all_seeds i.decomposition) i.xs i.ys i.base i.max
 
--- the offsets of tilt_x and of tilt_y that round r's list is made with; in a one-axis run tilt_y has the offset 0 alone
+-- the offsets of tilt_x and of tilt_y by which the seeds of round r differ from the candidate that the round's list
+-- lies around; in a one-axis run tilt_y has the offset 0 alone
 abbrev pub offsets_x : Inputs → ℕ → List Float
 offsets_x i r = offsets (step_of r i.step)
 
@@ -119,14 +123,14 @@ abbrev pub is_empty : List CandidateSeed → Bool
 is_empty [] = true
 is_empty (s ∷ ss) = false
 
--- An accepted Start opens it at round 0 with round 0's list; an empty one ends the run.
+-- An accepted Start opens the book at round 0 with round 0's list. An empty list ends the run at once.
 unfoldable pub opened : Inputs → Book
 opened i = record { inputs = i; round = 0; list = first_list i; earlier = []; answered = []; waits = false; over = is_empty (first_list i) }
 
 unfoldable pub with_waiting : Book → Book
 with_waiting b = record { inputs = b.inputs; round = b.round; list = b.list; earlier = b.earlier; answered = b.answered; waits = true; over = b.over }
 
--- the waiting candidate is answered, with its outcome
+-- adds the entry of the waiting candidate with its outcome; no seed waits then
 unfoldable pub with_entry : Book → Outcome → Book
 with_entry b o = record {
   inputs = b.inputs;
@@ -149,8 +153,9 @@ abbrev pub open_round : Book → List CandidateSeed → Book → Book
 open_round b [] rest = rest
 open_round b (s ∷ ss) rest = with_round b (s ∷ ss)
 
--- The round has ended, and k further ones are asked for. The run is over if nothing is scored yet or no further round is asked for;
--- otherwise the next list follows, around the round's best or, if it has none, the run's. An empty list ends its round at once.
+-- The round has ended, and k further rounds are asked for. The run is over if no further round is asked for or nothing
+-- is scored yet. Otherwise the next list lies around the round's best or, if the round has none, around the run's. An
+-- empty list ends its round at once.
 unfoldable pub close_round : ℕ → Book → Book
 close_round zero b = with_end b
 close_round (suc k) b = elim (or_else (round_best_of b) (run_best_of b)) [
@@ -164,7 +169,7 @@ book_enter b o =
     let c = with_entry b o in
     cond (ltb (length c.answered) (length c.list)) c (close_round (c.inputs.rounds - c.round) c)
 
--- ---- what the book replies to a call, and what it holds after it
+-- ---- what the book replies to a call, and the book after it
 pub record Kept : Type 0 where
   pub reply : Reply
   pub book : Book
@@ -172,7 +177,7 @@ pub record Kept : Type 0 where
 abbrev pub kept : Reply → Book → Kept
 kept a b = record { reply = a; book = b }
 
--- a refusal enters nothing
+-- a refused call leaves the book as it was
 abbrev pub unless : Result ⊤ Refusal → Book → Kept → Kept
 unless (Ok nothing_refused) b k = k
 unless (Err refusal) b k = kept (refused refusal) b
@@ -181,7 +186,8 @@ abbrev pub is_nothing : Chosen → Bool
 is_nothing nothing = true
 is_nothing (chosen w) = false
 
--- Next: 9 a seed is waiting, 10 the list is too short, 11 the run ended with nothing scored; Over once it has a result
+-- Next: 9 where a seed waits, 10 where the list is too short, 11 where the run is over and nothing was scored, Over
+-- where it is over and has a result; else the next number
 unfoldable pub book_next : Book → ℕ → Kept
 book_next b n =
     unless
@@ -193,7 +199,7 @@ book_next b n =
     b
     (cond b.over (kept over b) (kept (candidate (number b)) (with_waiting b)))
 
--- the call beside it: the waiting seed's six numbers, or nothing
+-- the seed call: the waiting seed's six numbers; none where no seed waits or the list is too short
 unfoldable pub book_seed : Book → ℕ → Kept
 book_seed b n = kept (part (cond (b.waits && not (ltb n (demand b.inputs))) (six (current b)) [])) b
 
@@ -205,7 +211,8 @@ reply_to (Err reason) = skipped reason
 abbrev pub book_outcome : Book → Finding → List Float → List ℕ → Outcome
 book_outcome b f rows flags = outcome_of b.inputs.share f (current b).sensor b.inputs.center rows flags
 
--- Answer: 12 no seed is waiting, 10, and then what the finding itself is refused for, with the seed's own tilts
+-- Answer: 12 where no seed waits, 10 where the list is too short, and then what is refused of the finding with the
+-- waiting seed's tilts
 unfoldable pub book_answer : Book → ℕ → Finding → List Float → List ℕ → Kept
 book_answer b n f rows flags =
     let o = book_outcome b f rows flags in
@@ -214,7 +221,7 @@ book_answer b n f rows flags =
     b
     (unless (finding_refusal f (current b).sensor rows flags) b (kept (reply_to o) (book_enter b o)))
 
--- Result: 14 the run isn't over, 11 it ended with nothing scored, or the run's best
+-- Result: 14 where the run isn't over, 11 where it is over and nothing was scored; else the run's best
 abbrev pub best_reply : Chosen → Reply
 best_reply nothing = refused NothingScored
 best_reply (chosen w) = result w
@@ -222,16 +229,17 @@ best_reply (chosen w) = result w
 unfoldable pub book_result : Book → Kept
 book_result b = unless (first_refusal ((NotOver when not b.over) ∷ [])) b (kept (best_reply (run_best_of b)) b)
 
--- the progress call: the total is the length of this round's list
+-- Progress: `total` is the length of this round's list.
 unfoldable pub book_progress : Book → Kept
 book_progress b =
     kept (bar (record { round = b.round; rounds = b.inputs.rounds; answered = length b.answered; total = length b.list; in_run = number b })) b
 
--- the stop call: the seeds of this round's list not yet answered, the waiting one first
+-- what is left of a round: the seeds of its list that aren't answered, from the current one on
 abbrev pub left_in : Book → List CandidateSeed
 left_in b = drop (length b.answered) b.list
 
--- the round can gain nothing where the floor isn't below the best's score; with no best nothing is said of gain
+-- The round can gain nothing where the floor isn't below the score of the run's best. It isn't said where there is
+-- none.
 abbrev pub no_gain_of : Float → Chosen → Bool
 no_gain_of x nothing = false
 no_gain_of x (chosen w) = not (lt x w.score)
@@ -240,16 +248,16 @@ unfoldable pub rest_of : List CandidateSeed → Chosen → Rest
 rest_of [] best = nothing_left
 rest_of (s ∷ ss) best = floor (floor_of (s ∷ ss)) (no_gain_of (floor_of (s ∷ ss)) best)
 
--- beside the run's best
+-- what is left of the book's round, compared with the run's best
 abbrev pub rest_in : Book → Rest
 rest_in b = rest_of (left_in b) (run_best_of b)
 
--- 10 the list is too short; else the run's best, if any, and what is left
+-- Stop: 10 where the list is too short; else the run's best, if any, and what is left
 unfoldable pub book_stop : Book → ℕ → Kept
 book_stop b n = unless (first_refusal ((ShortList when ltb n (demand b.inputs)) ∷ [])) b (kept (stopped (run_best_of b) (rest_in b)) b)
 
--- 02, E2: the last answered candidate's line, or nothing before the first answer. The round is the one that it was handed out in, the camera the one that
--- was scored.
+-- the line of an entry (docs/SPECIFICATION.md, 6.9): its round is the one in which its seed was handed out, its camera
+-- the damped one that was scored
 abbrev pub line_of : Entry → Line
 line_of e = record { number = e.number; round = e.round; seed = e.seed; outcome = recorded_as e.outcome }
 
@@ -264,7 +272,7 @@ line_reply (some e) = line (line_of e)
 unfoldable pub book_last : Book → Kept
 book_last b = kept (line_reply (last_of (entries b))) b
 
--- 02, E6: how many of some entries were scored, and how many skipped for each reason, as their lines record it
+-- how many of the entries were scored, and how many were skipped for each reason (docs/SPECIFICATION.md, 6.10)
 unfoldable pub tally : List Entry → Counts
 tally es = counts_in (map line_of es)
 

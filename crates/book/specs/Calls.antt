@@ -8,7 +8,8 @@ use Rattle.score_best.specs.Best.{Chosen}
 use Rattle.journal_line.specs.declared.Counts.{Counts}
 use Rattle.journal_line.specs.declared.Line.{Line}
 
--- A call, with its arguments. n is how many numbers of the seed list the host lends, from its front, so that a list may be too short.
+-- A call, with its arguments. n is how many numbers of the lent list the host lends, from its front; it may lend too
+-- few.
 pub data Call : Type 0 where
   next : ℕ → Call
   seed : ℕ → Call
@@ -19,7 +20,8 @@ pub data Call : Type 0 where
   last : Call
   counts : Call
 
--- how far a run has come: its round, and the rounds asked for; of this round's list the answered seeds, and all; and the answered ones of the run
+-- how far a run has come: its round, the rounds asked for, how many seeds of this round are answered, how many it has,
+-- and how many are answered in the whole run
 pub record Progress : Type 0 where
   pub round : ℕ
   pub rounds : ℕ
@@ -27,12 +29,13 @@ pub record Progress : Type 0 where
   pub total : ℕ
   pub in_run : ℕ
 
--- what is left of a round: nothing, or the floor of its seeds that are left and whether the round can gain nothing
+-- what is left of a round: nothing, or the floor of the seeds left and whether the round can gain nothing
 pub data Rest : Type 0 where
   nothing_left : Rest
   floor : Float → Bool → Rest
 
--- Next's candidate and Over (01's terms), the seed call's part, Answer's Scored and Skipped, Result's winner, the replies of 02's calls, and a refusal
+-- the replies: of Next a candidate's number or Over, of the seed call its part of the lent list, of Answer Scored or
+-- Skipped, of Result the winner, of the other calls what they ask for; and of each call a refusal
 pub data Reply : Type 0 where
   candidate : ℕ → Reply
   over : Reply

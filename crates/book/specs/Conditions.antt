@@ -1,4 +1,5 @@
--- What 01 and 02 refuse Start for, in their order, as plain facts of the inputs. Definitions only.
+-- The conditions on which Start refuses, in their order, as plain facts of the inputs (docs/SPECIFICATION.md, 6.2).
+-- Definitions only.
 use Rattle.std.specs.Prelude.{ℕ, ◌/◌, ◌%◌, ◌<◌, ◌≡◌, ◌⊎◌, true, false, List, [], ◌∷◌, length, Float}
 use Rattle.std.specs.Float.Ieee.{neg, lt, le, eq}
 use Rattle.common.specs.declared.Refusal.{Refusal}
@@ -14,7 +15,7 @@ pub data Condition : Type 1 where
   ◌provided◌ : Refusal → Type 0 → Condition
 
 infix 5 ◌provided◌
--- r is the refusal of the first that holds; none holds
+-- r is the refusal of the first condition that holds; no condition holds
 abbrev pub FirstHolds : List Condition → Refusal → Type 0
 FirstHolds [] r = ⊥
 FirstHolds ((s provided C) ∷ cs) r = (C × (r ≡ s)) ⊎ ((C → ⊥) × FirstHolds cs r)
@@ -23,7 +24,7 @@ abbrev pub NoneHolds : List Condition → Type 0
 NoneHolds [] = Unit {0}
 NoneHolds ((s provided C) ∷ cs) = (C → ⊥) × NoneHolds cs
 
--- ---- words of the conditions
+-- ---- the facts that the conditions are made of
 abbrev pub Some : {A : Type 0} → (A → Type 0) → List A → Type 0
 Some P [] = ⊥
 Some P (x ∷ xs) = P x ⊎ Some P xs
@@ -34,7 +35,7 @@ NotFinite x = is_finite x ≡ false
 abbrev pub NotAboveZero : Float → Type 0
 NotAboveZero x = lt plus_zero x ≡ false
 
--- below −max or above max, or no number
+-- below −max, above max, or NaN
 abbrev pub Beyond : Float → Float → Type 0
 Beyond max t = (le (neg max) t ≡ false) ⊎ (le t max ≡ false)
 
@@ -49,25 +50,26 @@ BadSeed max s =
     (((((NotPositive k.fx ⊎ NotPositive k.fy) ⊎ NotFinite k.cx) ⊎ NotFinite k.cy) ⊎ NotFinite t.tilt_x) ⊎ NotFinite t.tilt_y)
     ⊎ (Beyond max t.tilt_x ⊎ Beyond max t.tilt_y)
 
--- more seeds or rounds than a run can have, or a decomposition that isn't in sixes
+-- more typed tilts, decomposition seeds or rounds than a run can have, or a decomposition that isn't in sixes
 abbrev pub TooMany : ℕ → ℕ → ℕ → ℕ → Type 0
 TooMany x y decomposition rounds = ((((16 < x) ⊎ (16 < y)) ⊎ (256 < decomposition / 6)) ⊎ (16 < rounds)) ⊎ (decomposition % 6 ≡ 0 → ⊥)
 
--- a bound above 0.5, and a share above 100 per cent
+-- a bound above 0.5; a share above 100 per cent
 abbrev pub AboveHalf : Float → Type 0
 AboveHalf max = lt half₆₄ max ≡ true
 
 abbrev pub AboveAll : ℕ → Type 0
 AboveAll share = 100 < share
 
--- a single value, a zero of either sign; and a tilt about y that is no zero
+-- a single value that is a zero of either sign; a seed whose tilt about y is no zero
 abbrev pub OnlyZero : List Float → Type 0
 OnlyZero ys = (y : Float) × (ys ≡ y ∷ []) × (eq y plus_zero ≡ true)
 
 abbrev pub TiltedY : CandidateSeed → Type 0
 TiltedY s = eq s.sensor.tilt_y plus_zero ≡ false
 
--- ---- 01, 'Start', where n numbers are lent, and then 02: a bound above 0.5 (E1); a one-axis run whose typed y tilts or decomposition say otherwise (E8); a share above 100 per cent (E11)
+-- ---- the conditions where n numbers are lent: 1 to 8, a bound above 0.5 (27), a one-axis run whose typed y tilts (31)
+-- or decomposition (32) have another tilt about y than 0, and a share above 100 per cent (33)
 abbrev pub conditions : Inputs → ℕ → List Condition
 conditions i n =
     (refusal.TooFewViews provided (i.views < 3))

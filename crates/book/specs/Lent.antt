@@ -1,4 +1,5 @@
--- Calls that are handed the run as the calls before left it, and any list at all. (The other calls return no run.) Definitions only.
+-- Calls that are given the run as the calls before left it, each with a lent list of its own. Only Next and Answer are
+-- among them, since the other calls return no run. Definitions only.
 use Rattle.std.specs.Prelude.{ℕ, ◌+◌, ◌-◌, ◌*◌, ◌≤◌, ◌≡◌, List, [], ◌∷◌, length, Float, Ok, Err}
 use Rattle.score_outcome.specs.declared.Finding.{Finding}
 use Rattle.score_outcome.specs.Evaluation.{finding_refusal}
@@ -16,7 +17,7 @@ unfoldable pub left : Run → Lent → Run
 left r (next_with l) = (next_def r l).run
 left r (answer_with l f rows flags) = (answer_def r f rows flags l).reply.run
 
--- the run after a list of them, and how many of them were accepted answers
+-- the run after such calls, and how many of them were accepted answers
 unfoldable pub through : Run → List Lent → Run
 through r [] = r
 through r (c ∷ cs) = through (left r c) cs
@@ -29,11 +30,11 @@ unfoldable pub accepted : Run → List Lent → ℕ
 accepted r [] = 0
 accepted r (c ∷ cs) = counted r c + accepted (left r c) cs
 
--- the seeds of its list that are not answered, and nine for each round that is still asked for
+-- the seeds of the round's list that aren't answered, and nine for each later round still asked for
 abbrev pub still_left : Run → ℕ
 still_left r = r.place.len - r.place.at + 9 * (r.options.refine_rounds - r.place.round)
 
--- ---- Next and an answer to it
+-- ---- Next, and an Answer after it
 pub record Turn : Type 0 where
   pub to_next : List Float
   pub to_answer : List Float
@@ -45,14 +46,14 @@ unfoldable pub turns : List Turn → List Lent
 turns [] = []
 turns (t ∷ ts) = next_with t.to_next ∷ answer_with t.to_answer t.finding t.rows t.flags ∷ turns ts
 
--- the answer isn't refused for a short list, nor for itself with the seed that then waits
+-- The lists are long enough, and the finding isn't refused with the tilts of the seed that waits after Next.
 abbrev pub Taken : Inputs → Run → Turn → Type 0
 Taken i r t =
     (demand i ≤ length t.to_next)
     × (demand i ≤ length t.to_answer)
     × (finding_refusal t.finding (next_def r t.to_next).run.waiting.seed.sensor t.rows t.flags ≡ Ok tt)
 
--- each of the answers, one turn after the other
+-- each Answer of these is accepted, one turn after the other
 unfoldable pub AllTaken : Inputs → Run → List Turn → Type 0
 AllTaken i r [] = Unit {0}
 AllTaken i r (t ∷ ts) = Taken i r t × AllTaken i (through r (turns (t ∷ []))) ts

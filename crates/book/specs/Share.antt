@@ -1,4 +1,5 @@
--- 02, E11: the answer that scored a candidate, and the share of its rows that the mean rests on. Definitions only.
+-- The answer that scored a candidate, and the share of its rows that the mean rests on (docs/SPECIFICATION.md, 5.11).
+-- Definitions only.
 use Rattle.std.specs.Prelude.{ℕ, ◌≡◌, ◌⊎◌, true, Float}
 use mathlib.Core.List.{List, [], ◌∷◌, ◌++◌, Memᴰ}
 use Rattle.score_camera.specs.declared.pinhole.PinholeCamera.{PinholeCamera}
@@ -12,8 +13,8 @@ use Rattle.book.specs.Book.{Entry, scored_of}
 use Rattle.book.specs.Walk.{run_call}
 use Rattle.book.specs.Trace.{run_after, list_after}
 
--- The calls cs, from the run r and the list l on, have w's own answer among them: w's seed waited under w's number, and the reply was w's score. Its
--- mean is that of the answer's rows, and of all of these at least the share is counted.
+-- Among the calls cs, from the run r and the list l on, is w's own answer: w's seed waited under w's number, and the
+-- reply was w's score. The mean is that of the answer's rows, of which at least the share counts.
 pub record AnsweredBy (share : ℕ) (r : Run) (l : List Float) (cs : List Call) (w : Candidate) : Type 0 where
   pub before : List Call
   pub behind : List Call
@@ -28,7 +29,8 @@ pub record AnsweredBy (share : ℕ) (r : Run) (l : List Float) (cs : List Call) 
   pub replied : (run_call (run_after r l before) (list_after r l before) (answer room (Solved camera) rows flags)).reply ≡ scored w.score
   pub rests_on : RestsOn share (solved_at camera w.sensor) rows flags w.mean_reproj_error
 
--- With nothing kept from before, w's own answer is among the calls. Of kept lines the share isn't asked: w is of one of them, or its own answer is among the calls.
+-- If nothing was kept, w's own answer is among the calls. Otherwise w may also be a kept line's candidate, of which the
+-- share isn't asked.
 abbrev pub Rests : ℕ → List Entry → Run → List Float → List Call → Candidate → Type 0
 Rests share [] r l cs w = AnsweredBy share r l cs w
 Rests share (e ∷ es) r l cs w = Memᴰ w (scored_of (e ∷ es)) ⊎ AnsweredBy share r l cs w

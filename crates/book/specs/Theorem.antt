@@ -56,11 +56,11 @@ started_list i l = start_list i.views (options_of i) i.xs i.ys i.decomposition i
 unfoldable pub NoNan : List Entry → Type 0
 NoNan es = All (λ w. is_nan w.score ≡ false) (scored_of es)
 
--- ---- w is the result that the accepted answers es call for
+-- ---- w is the winner of the accepted answers es
 pub record Wins (i : Inputs) (es : List Entry) (w : Candidate) : Type 0 where
-  -- it is a scored candidate: its number, camera, tilts, mean and score
+  -- it is a scored candidate of es
   pub is_scored : Memᴰ w (scored_of es)
-  -- every scored candidate has at least as high a score, and one with an equal score is itself or has a later number
+  -- every scored candidate has at least as high a score, and any other one with an equal score has a later number
   pub lowest : All (λ v. le w.score v.score ≡ true) (scored_of es)
   pub earliest : All (λ v. eq w.score v.score ≡ true → (v ≡ w) ⊎ (w.number < v.number)) (scored_of es)
   -- its tilts lie within ±max_abs_tilt
@@ -68,9 +68,9 @@ pub record Wins (i : Inputs) (es : List Entry) (w : Candidate) : Type 0 where
   pub tilt_x_most : le w.sensor.tilt_x i.max ≡ true
   pub tilt_y_least : le (neg i.max) w.sensor.tilt_y ≡ true
   pub tilt_y_most : le w.sensor.tilt_y i.max ≡ true
-  -- and in a one-axis run the one about y is a zero
+  -- and in a one-axis run its tilt about y is a zero
   pub tilt_y_zero : i.one_axis ≡ true → eq w.sensor.tilt_y plus_zero ≡ true
-  -- its focal lengths are finite and positive
+  -- its focal lengths are finite and above 0
   pub fx_finite : is_finite w.camera.k.fx ≡ true
   pub fy_finite : is_finite w.camera.k.fy ≡ true
   pub fx_positive : lt plus_zero w.camera.k.fx ≡ true
@@ -81,11 +81,11 @@ pub record Wins (i : Inputs) (es : List Entry) (w : Candidate) : Type 0 where
   pub k3_zero : w.camera.dist.k3 ≡ plus_zero
   pub p1_small : le (abs_of w.camera.dist.p1) tangential_bound ≡ true
   pub p2_small : le (abs_of w.camera.dist.p2) tangential_bound ≡ true
-  -- its mean error is finite and not negative
+  -- its mean is finite and not below 0
   pub mean_finite : is_finite w.mean_reproj_error ≡ true
   pub mean_not_negative : lt w.mean_reproj_error plus_zero ≡ false
 
--- ---- a pair of typed tilts was tried: the seed that round 0's list has for it was handed out in round 0 and answered
+-- ---- the pair t of typed tilts was tried: the seed that stands for it in round 0's list was handed out and answered
 pub record TiltTried (i : Inputs) (hs : List Handing) (es : List Entry) (t : ScheimpflugParams) : Type 0 where
   pub by : Tried (first_list i) (seed_grid i.xs i.ys i.max) i.base t
   pub number : ℕ
@@ -93,12 +93,13 @@ pub record TiltTried (i : Inputs) (hs : List Handing) (es : List Entry) (t : Sch
   pub handed_out : Memᴰ (record { round = 0; number = number; part = six by.seed }) hs
   pub answered : Memᴰ (record { number = number; round = 0; seed = by.seed; outcome = outcome }) es
 
--- the run is over, as 01's 14 means it: Result gives a result, or 11. (01's Over is Next's reply, where there is a result.)
+-- The run is over: Result gives the winner, or 11. (Over as a reply is Next's alone, of a run that has a winner.)
 abbrev pub Over : Run → Type 0
 Over r = ((w : Candidate) × (result_def r ≡ Ok w)) ⊎ (result_def r ≡ Err NothingScored)
 
--- ---- What holds of a run r and a list l as the plain book b has them, no seed waiting, for a list of calls. kept are the entries that b has before the calls: none where
--- Start opened the run, those of the kept lines where Resume did (02, E13). All that is handed out and answered is meant with them.
+-- ---- What holds of a run r and a list l that are those of the book b, no seed waiting, for every list cs of calls.
+-- kept are the entries that b has before the calls: none where Start opened the run, those of the kept lines where
+-- Resume did. They are among the answers and the seeds handed out.
 pub record ByBook (i : Inputs) (b : Book) (kept : List Entry) (r : Run) (l : List Float) (cs : List Call) : Type 0 where
   -- every reply is the book's
   pub same_replies : walk r l cs ≡ replies b cs
@@ -106,45 +107,50 @@ pub record ByBook (i : Inputs) (b : Book) (kept : List Entry) (r : Run) (l : Lis
   pub same_entries : all_answers kept r l cs ≡ entries (after b cs)
   -- whatever the host sent, none of their scores is NaN
   pub no_nan : NoNan (all_answers kept r l cs)
-  -- If Result then gives a result: each round handed out the seeds that the rules name from Start's inputs and the outcomes of the rounds
-  -- before, each once, in order, numbered on from 0; and the result is the earliest candidate with the lowest score, within 01's bounds.
+  -- If Result gives a winner: each round handed out the seeds that the rules name from Start's inputs and the outcomes
+  -- of the rounds before, each once, in order, numbered from 0; and the winner is the earliest with the lowest score,
+  -- with the properties of `Wins`.
   pub handed_out : (w : Candidate) → result_def (run_after r l cs) ≡ Ok w → all_handed kept r l cs ≡ handings i (outcomes_in (all_answers kept r l cs)) (suc i.rounds)
   pub wins : (w : Candidate) → result_def (run_after r l cs) ≡ Ok w → Wins i (all_answers kept r l cs) w
-  -- and its mean rests on the share of the rows of its own answer, in whole numbers, unless it is a kept line's
+  -- and at least the share of the rows of its own answer counts in its mean, unless it is a kept line's
   pub rests : (w : Candidate) → result_def (run_after r l cs) ≡ Ok w → Rests i.share kept r l cs w
-  -- If the run is over, with a result or with 11: every pair of typed tilts within ±max_abs_tilt was tried.
+  -- If the run is over, with a winner or with 11, every typed pair within the bound was tried.
   pub every_tilt : Over (run_after r l cs) → (x y : Float) → Memᴰ x i.xs → Memᴰ y i.ys
       → le (neg i.max) x ≡ true → le x i.max ≡ true → le (neg i.max) y ≡ true → le y i.max ≡ true
       → TiltTried i (all_handed kept r l cs) (all_answers kept r l cs) (tilts x y)
-  -- A later round hands out at most nine seeds, and at most three in a one-axis run; there the tilt about y is a zero, and +0 in later rounds.
+  -- A later round hands out at most nine seeds, in a one-axis run at most three. In a one-axis run the tilt about y of
+  -- each seed is a zero, and +0 in later rounds.
   pub few_later : (k : ℕ) → length (handed_in_round (suc k) (all_handed kept r l cs)) ≤ most_seeds i.one_axis
   pub untilted : i.one_axis ≡ true → All (λ h. eq (tilt_y_of h) plus_zero ≡ true) (all_handed kept r l cs)
   pub later_untilted : i.one_axis ≡ true → All PlusZeroLater (all_handed kept r l cs)
   -- at most 656 answers are accepted
   pub few_answers : length (all_answers kept r l cs) ≤ 656
-  -- where a seed waits Answer takes Failed, and Solved with rows that 13 doesn't refuse: 27 comes from a changed list alone
+  -- where a seed waits Answer accepts Failed, and Solved with rows that 13 doesn't refuse: 27 comes from a changed list
+  -- alone
   pub answer_accepted : (run_after r l cs).waiting.is_waiting ≡ true → (f : Finding) (rows : List Float) (flags : List ℕ)
       → (f ≡ Failed) ⊎ (first_refusal (row_checks rows flags) ≡ Ok tt) → answer_refusal (run_after r l cs) (length (list_after r l cs)) f rows flags ≡ Ok tt
-  -- after round 0 the lent list is the list around its centre, and the total of the progress bar, its length, is exactly what the rules for the tilts give
+  -- after round 0 the list around the round's candidate stands in front of the lent list, and Progress's total is
+  -- exactly its length
   pub later_round : 0 < (progress_def (run_after r l cs)).round
       → LaterRound i (all_answers kept r l cs) (progress_def (run_after r l cs)).round (progress_def (run_after r l cs)).total (list_after r l cs)
-  -- in a one-axis run every tilt about y that stands in the list is a zero, handed out or not
+  -- in a one-axis run the tilt about y of every seed in the list is a zero, whether the seed was handed out or not
   pub listed_untilted : i.one_axis ≡ true → All (λ s. eq s.sensor.tilt_y plus_zero ≡ true) (seeds_between (list_after r l cs) 0 (progress_def (run_after r l cs)).total)
-  -- the stop call, of which n numbers of the list are lent: what it says of this round is so, whatever calls follow
+  -- what Stop, lent n numbers of the list, says of this round holds whatever calls follow
   pub stops : (n : ℕ) (o : Outlook) → stop_def (run_after r l cs) (take n (list_after r l cs)) ≡ Ok o → Stops kept r l cs o
 
 -- of a run that Start opened, and of the list that Start wrote
 abbrev pub Follows : Inputs → Run → List Float → List Call → Type 0
 Follows i r l cs = ByBook i (opened i) [] r l cs
 
--- ---- the end of a run, whatever list each call is lent and whatever is answered: s is the run after the calls cs; before counts the answers
--- accepted before these calls, 0 where Start opened the run
+-- ---- How a run ends, whatever list each call is lent and whatever is answered. s is the run after the calls cs;
+-- before is how many answers were accepted before them, 0 where Start opened the run.
 pub record Ends (i : Inputs) (before : ℕ) (r : Run) (cs : List Lent) (s : Run) : Type 0 where
-  -- it is sound; its number counts the accepted answers; with the seeds left and nine for each round left that is at most 656
+  -- its record is sound, its number counts the accepted answers, and with what is still left they are at most 656
   pub is_sound : sound s ≡ true
   pub number_is : s.place.number ≡ before + accepted r cs
   pub few : before + accepted r cs + still_left s ≤ 656
-  -- until it is over Next hands out a seed where none waits, and Answer takes what isn't refused for itself where one does; Failed never is
+  -- Until the run is over, Next hands out a seed where none waits. Where one waits, Answer accepts each finding that
+  -- isn't refused for itself; Failed never is.
   pub next_accepted : s.place.over ≡ false → s.waiting.is_waiting ≡ false → (l : List Float) → demand i ≤ length l
       → (next_def s l).reply ≡ Ok (handed-as.Candidate s.place.number)
   pub answer_accepted : s.waiting.is_waiting ≡ true → (l : List Float) (f : Finding) (rows : List Float) (flags : List ℕ) → demand i ≤ length l
@@ -153,14 +159,15 @@ pub record Ends (i : Inputs) (before : ℕ) (r : Run) (cs : List Lent) (s : Run)
   -- a host whose answers are accepted reaches the end
   pub reaches_end : (ts : List Turn) → AllTaken i s ts → still_left s ≤ length ts → (through s (turns ts)).place.over ≡ true
 
--- ---- Start refuses just where one of 01's or 02's conditions holds, for the first one, and leaves the list as it was; it accepts all else
+-- ---- Start refuses exactly where one of the conditions holds, with the first that does, and leaves the list as it
+-- was; otherwise it accepts
 pub record Starts (i : Inputs) (l : List Float) : Type 0 where
   pub refuses_rightly : (r : Refusal) → start_of i l ≡ Err r → FirstHolds (conditions i (length l)) r
   pub refuses_all : (r : Refusal) → FirstHolds (conditions i (length l)) r → start_of i l ≡ Err r
   pub leaves_list : (r : Refusal) → start_of i l ≡ Err r → started_list i l ≡ l
   pub accepts_others : NoneHolds (conditions i (length l)) → (r : Run) × (start_of i l ≡ Ok r)
 
--- ---- the theorem: Start on any inputs and any list, and then any calls, in any order, whatever the host answers
+-- ---- the theorem: of Start on any inputs and any list, and then of any calls in any order, whatever the host answers
 pub record IsBook (i : Inputs) (l : List Float) : Type 0 where
   pub starts : Starts i l
   pub follows : (r : Run) → start_of i l ≡ Ok r → (cs : List Call) → Follows i r (started_list i l) cs

@@ -1,4 +1,5 @@
--- What a walk hands out and what it accepts, read off the entry points' definitions alone. Definitions only.
+-- What a list of calls hands out and what it accepts, read off the definitions of the entry points alone. Definitions
+-- only.
 use Rattle.std.specs.Prelude.{ℕ, ◌<◌, ◌≡◌, List, [], ◌∷◌, ◌++◌, map, eqb, length, get_or, take, Float, Result, Ok, Err}
 use Rattle.std.specs.Float.{nan}
 use Rattle.common.specs.declared.Refusal.{Refusal}
@@ -15,13 +16,13 @@ use Rattle.book.specs.Calls.{Call, next, seed, answer, ask, progress, stop, last
 use Rattle.book.specs.Book.{Entry}
 use Rattle.book.specs.Walk.{run_call}
 
--- ---- a candidate that Next handed out: the round, the number, and the part that a seed call made at that point returns
+-- ---- a candidate that Next handed out: its round, its number, and what the seed call then returns
 pub record Handing : Type 0 where
   pub round : ℕ
   pub number : ℕ
   pub part : List Float
 
--- the last of the seed's six numbers, and those that a round handed out
+-- its tilt about y
 abbrev pub tilt_y_of : Handing → Float
 tilt_y_of h = get_or h.part 5 nan
 
@@ -47,7 +48,7 @@ handed_by r l (stop n) = []
 handed_by r l last = []
 handed_by r l counts = []
 
--- ---- an answer that was accepted: the candidate's number and round, its seed as the run keeps it, and the rules' outcome
+-- ---- the entry of an accepted Answer: the number, the round, the waiting seed as the run keeps it, and the outcome
 unfoldable pub answered_by : Run → List Float → Call → List Entry
 answered_by r l (next n) = []
 answered_by r l (seed n) = []
@@ -62,7 +63,7 @@ answered_by r l (stop n) = []
 answered_by r l last = []
 answered_by r l counts = []
 
--- ---- of a whole list of calls
+-- ---- over a whole list of calls
 unfoldable pub handed : Run → List Float → List Call → List Handing
 handed r l [] = []
 handed r l (c ∷ cs) = let a = run_call r l c in handed_by r l c ++ handed a.run a.list cs
@@ -71,7 +72,8 @@ unfoldable pub answers : Run → List Float → List Call → List Entry
 answers r l [] = []
 answers r l (c ∷ cs) = let a = run_call r l c in answered_by r l c ++ answers a.run a.list cs
 
--- ---- the same with the entries that were kept from before the calls: none where Start opened the run, the kept lines' where Resume did
+-- ---- the same with the entries that were kept before the calls: none where Start opened the run, those of the kept
+-- lines where Resume did
 -- an entry as it was handed out
 abbrev pub handing_of : Entry → Handing
 handing_of e = record { round = e.round; number = e.number; part = six e.seed }
@@ -82,7 +84,7 @@ all_handed kept r l cs = map handing_of kept ++ handed r l cs
 abbrev pub all_answers : List Entry → Run → List Float → List Call → List Entry
 all_answers kept r l cs = kept ++ answers r l cs
 
--- ---- the run and the list after them
+-- ---- the run and the list after the calls
 unfoldable pub run_after : Run → List Float → List Call → Run
 run_after r l [] = r
 run_after r l (c ∷ cs) = let a = run_call r l c in run_after a.run a.list cs

@@ -1,5 +1,5 @@
--- The run beside the book: a list of calls, each given the run and the seed list as the calls before left them, by the very definitions
--- that the entry points' contracts name. Definitions only.
+-- A list of calls over the run's record, each given the run and the lent list as the calls before left them, by the
+-- same definitions that the contracts of the entry points name. Definitions only.
 use Rattle.std.specs.Prelude.{List, [], ◌∷◌, ◌++◌, take, drop, Float, Option, Some, None, Result, Ok, Err}
 use Rattle.common.specs.declared.Refusal.{Refusal}
 use Rattle.score_best.specs.declared.Candidate.{Candidate}
@@ -53,7 +53,7 @@ abbrev pub last_reply : Option Line → Reply
 last_reply (Some l) = line l
 last_reply None = no_line
 
--- ---- what a call replies, and the run and the whole seed list after it
+-- ---- what a call replies, and the run and the whole lent list after it
 pub record Step : Type 0 where
   pub reply : Reply
   pub run : Run

@@ -1,5 +1,5 @@
--- What replay replies. Whatever journal is accepted: its lines are all read, they are the book's entries, and the winner is of its S lines the earliest with the lowest score, with all
--- properties of a result. Assumes nothing.
+-- What replay replies. Whatever journal gives a winner: all its lines are read, they are the book's entries, and the
+-- winner is the earliest S line with the lowest score, with all that holds of Result's winner. Assumes nothing.
 use Rattle.std.proofs.Common.{ℕ, suc, ◌≡◌, refl, sym, ap, ◌∙◌, ◌⊎◌, inl, inr, ⊎_elim, List, length, Float, Result, Ok, Err}
 use Rattle.common.specs.declared.Refusal.{Refusal}
 use Rattle.common.specs.declared.Refusal.TheVariants as refusal
@@ -70,7 +70,7 @@ pub start_refuses : (i : Inputs) (l : List Float) (bs : List ℕ) → StartRefus
 unfolding replay_of
 start_refuses i l bs r h = rw (((start_refused_lem i (length l)).refuses r).1 h, replay_of)
 
--- ---- a line that can't be walked
+-- ---- a refused line
 at_same : (r s : Refusal) (k j : ℕ) → ◌≡◌ {A = Result Standing ReplayRefusal} (Err (At r k)) (Err (At s j)) → (r ≡ s) × (k ≡ j)
 at_same r s k j h = (cc, cc)
 
@@ -95,7 +95,7 @@ started_at i l bs r k h =
     (λ u e. (e, reply_at (walked i l bs) r k (rw (e, replay_of) at h)))
     (λ s e. let q : ◌≡◌ {A = Result Standing ReplayRefusal} (Err (Refused s)) (Err (At r k)) = rw (e, replay_of) at h in cc)
 
--- any other reply: none was
+-- any other reply: no line was refused
 else_read : (i : Inputs) (l : List Float) (bs : List ℕ) → SameAsReader i l bs → NoneHolds (conditions i (length l)) → ((r : Refusal) (k : ℕ) → (replay_of i l bs).reply ≡ Err (At r k) → ⊥)
     → (read_journal bs ≡ record { lines = lines_of (walked i l bs).book; ending = ended }) × ((replay_of i l bs).reply ≡ of_no_line (standing (walked i l bs).book))
 unfolding replay_of
@@ -143,7 +143,7 @@ reply_started i l bs n s h =
     (λ u e. (e, rw (e, replay_of) at h))
     (λ r e. let q : ◌≡◌ {A = Result Standing ReplayRefusal} (Err (Refused r)) (Ok (Winner n s)) = rw (e, replay_of) at h in cc)
 
--- ---- the book's best wins
+-- ---- the book's best is its winner
 book_wins : (i : Inputs) (b : Book) (w : Candidate) → Good i b → run_best_of b ≡ chosen w → Wins i (entries b) w
 unfolding run_best_of
 book_wins i b w g e = rw g.inputs_are at (best-wins b.inputs (entries b) w g.core.numbered g.core.proper e)

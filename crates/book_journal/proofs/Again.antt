@@ -1,4 +1,5 @@
--- The writer takes every line of a run, the reader gives them back, and walking them again leads to the run's book. Assumes nothing.
+-- The writer takes every line of a run, the reader gives the lines back, and walking them leads to the run's book
+-- again. Assumes nothing.
 use Rattle.std.proofs.Common.{ℕ, suc, ◌+◌, ◌≤◌, arith, ◌≡◌, refl, sym, ap, ◌∙◌, true, false, not, List, [], ◌∷◌, ◌++◌, map, append-nil, le-leb, length, length-append, Float, Ok, Err}
 use Rattle.journal_replay.specs.Replay.{of_no_line}
 use Rattle.common.specs.Each.{All}
@@ -44,7 +45,7 @@ unfolding recordable
 recordable_outcome i t (Ok g) s = ap not s.score_number
 recordable_outcome i t (Err reason) s = refl
 
--- ---- the lines of a trail are such as the writer takes
+-- ---- the writer takes the line of each entry of a trail
 pub entry_taken : (i : Inputs) (b : Book) (o : Outcome) → Good i b → b.over ≡ false → Stands b.inputs (current b).sensor o → Writable (line_of (entry b o))
 unfolding writable
 entry_taken i b o g v s = rw (le-leb (number b) 655 (number_most i b g v), le-leb b.round 16 (round_most i b g)) (recordable_outcome b.inputs (current b).sensor o s)
@@ -66,7 +67,7 @@ trail_fit i b c (e ∷ es) g h k t = (
   trail_fit i (book_enter b e.outcome) c es ((steps i).enters_by b e.outcome t.0 t.2 g) (enter_holds b e.outcome k.0 h) k.1 t.3,
 )
 
--- ---- a book of a run, whose numbers fit, from inputs that do
+-- ---- a book of a run whose numbers are those of binary64, from inputs that are
 pub record Sound (i : Inputs) (b : Book) : Type 0 where
   pub start : Good i (opened i)
   pub start_holds : Holds (opened i)
@@ -87,12 +88,12 @@ lines_right i b s =
     let fit = trail_fit i (opened i) (at_rest b) (entries b) s.start s.start_holds s.holds.held s.kept.trail in
     record { lines_fit = fit; read_back = whole_reading (lines_of b) fit (sound_taken i b s.start s.kept) }
 
--- ---- the buffer as entries leave it
+-- ---- the lent list as the entries leave it
 unfoldable pub list_along : Book → List Float → List Entry → List Float
 list_along b l [] = l
 list_along b l (e ∷ es) = let c = book_enter b e.outcome in list_along c (buffer_after b c l) es
 
--- ---- a trail's lines are walked to its end, and then what stands behind them
+-- ---- the lines of a trail are walked to its end, and then the lines behind them
 pub walk_trail : (b c : Book) (l : List Float) (n : ℕ) (es : List Entry) (ms : List Line) (x : Stop) → Trail b es c
     → walk_from b l n (map line_of es ++ ms) x ≡ walk_from c (list_along b l es) (n + length es) ms x
 unfolding list_along

@@ -1,5 +1,5 @@
--- What the walk says of a journal is what the reader says of it: all lines are read, or the reader refuses the next one with the same number, or the next one is
--- read and can't follow. Assumes nothing.
+-- The walk agrees with the reader: all lines are read; or the reader refuses the next one with the same line number; or
+-- the next one is read, but isn't the run's next answer. Assumes nothing.
 use Rattle.std.proofs.Common.{ℕ, suc, arith, ◌≡◌, refl, sym, ap, ◌∙◌, ◌⊎◌, inl, inr, ⊎_elim, true, false, List, [], ◌∷◌, ◌++◌, map, append_assoc, append-nil, length, length-append, Float}
 use mathlib.Core.List.{map-append}
 use lib.ListN.{length-map}
@@ -31,7 +31,7 @@ use Rattle.book_journal.proofs.Walk.{walk_end_lem, walk_on, walk_stop}
 use Rattle.book_journal.proofs.Kept.{Kept, kept_opened, kept_line, kept_walked}
 use Rattle.book_journal.proofs.Held.{Holds, current_fits, opened_holds, holds_line}
 
--- ---- one line more
+-- ---- one more line
 pub number_more : (b : Book) (o : Outcome) → number (book_enter b o) ≡ suc (number b)
 number_more b o = ap length (enter-place b o).0 ∙ length-append (entries b) (entry b o ∷ []) ∙ omega arith
 
@@ -42,7 +42,7 @@ lines_more i b m k h ok can t =
     ap (map line_of) (enter-place b o).0 ∙ map-append line_of (entries b) (entry b o ∷ [])
     ∙ ap (λ (x : Line). lines_of b ++ x ∷ []) (f.line_is (current_fits i b k.good f.going h))
 
--- ---- a walk from a book b over ms: all of them are entered, or one can't follow
+-- ---- a walk from a book b over the lines ms: all of them are entered, or one can't follow
 abbrev AllEntered : Book → List Line → Stop → Walked → Type 0
 AllEntered b ms x w = (w.stop ≡ x) × (lines_of w.book ≡ lines_of b ++ ms)
 
@@ -91,7 +91,7 @@ not_run_taken e = let z : ◌≡◌ {A = ℕ} 0 1 = cc in omega arith
 not_run_form : NotTheRun ≡ NotOfForm → ⊥
 not_run_form e = let z : ◌≡◌ {A = ℕ} 0 1 = cc in omega arith
 
--- ---- what an entry has, if it is scored
+-- ---- a scored entry has what holds of a scored finding
 scored_has : (i : Inputs) (e : Entry) → Proper i e → ScoredHold i e
 scored_has i e p g q = rw q at p.stands
 

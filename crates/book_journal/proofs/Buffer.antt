@@ -1,5 +1,5 @@
--- The seed buffer beside a book: the book's list stands in front, and what no list can reach stays as it was; and a journal's walk leaves the buffer as the run
--- left it, whose journal it is. Assumes nothing.
+-- The lent list beside a book: the book's list stands in front, and what no list can reach stays as it was. Walking a
+-- run's journal leaves the lent list as the run did. Assumes nothing.
 use Rattle.std.proofs.Common.{ℕ, ◌+◌, ◌-◌, ◌*◌, ◌≤◌, ◌<◌, arith, ◌≡◌, refl, sym, ap, ◌∙◌, ◌⊎◌, inl, inr, ⊎_elim, false, List, [], ◌∷◌, ◌++◌, eq-eqb, ne_eqb, length, drop, length-append, length-drop, take_at, drop-drop, Float}
 use lib.Seq.{drop-append-add}
 use Rattle.common.specs.Each.{All}
@@ -22,7 +22,7 @@ use Rattle.book_journal.proofs.Kept.{Trail, Kept, rest_enter, kept_opened, kept_
 use Rattle.book_journal.proofs.Again.{list_along, sound_at, walked_again, again_standing, again_list}
 use Rattle.journal_line.specs.Outcome.{outcome_in}
 
--- ---- an outcome is entered: the round stays, and then its list does, or another one opens
+-- ---- entering an outcome: the round and its list stay, or a later round opens
 abbrev Moved : Book → Book → Type 0
 Moved b c = ((b.round ≡ c.round) × (c.list ≡ b.list)) ⊎ (b.round < c.round)
 
@@ -48,7 +48,7 @@ pub await_same : (b : Book) → (b.round ≡ (with_waiting b).round) × ((with_w
 unfolding with_waiting
 await_same b = (refl, refl)
 
--- ---- a round that stays writes nothing, and one that opens writes its list
+-- ---- where the round stays nothing is written, and where one opens its list is
 pub after_same : (b c : Book) (l : List Float) → b.round ≡ c.round → buffer_after b c l ≡ l
 unfolding buffer_after
 after_same b c l e = simp (eq-eqb b.round c.round e)
@@ -57,7 +57,7 @@ after_opened : (b c : Book) (l : List Float) → b.round < c.round → buffer_af
 unfolding buffer_after
 after_opened b c l h = simp (ne_eqb b.round c.round (λ e. omega arith))
 
--- ---- a list that is written
+-- ---- writing a list
 drop_written : (d : ℕ) (ss : List CandidateSeed) (m : List Float) → 6 * length ss ≤ d → drop d (written ss m) ≡ drop d m
 drop_written d ss m h =
     let n = 6 * length ss in
@@ -128,7 +128,7 @@ called_buffer i h l a =
     let r = room_enough i (length l) a in
     (under_stocked i l r (opened_by i h.opening) (opened_list i l h.opening) h.calls (opened_stocked i l r a h.opening)).1
 
--- ---- the buffer is a function of the entries
+-- ---- the lent list is a function of the entries
 along_more : (b c : Book) (l : List Float) (es : List Entry) (e : Entry) → Trail b es c → list_along b l (es ++ e ∷ []) ≡ buffer_after c (book_enter c e.outcome) (list_along b l es)
 unfolding list_along
 along_more b c l [] e t = rw t
@@ -181,7 +181,7 @@ module _ (i : Inputs) (l : List Float) where
       under_along (opened_by i h.opening) (opened_list i l h.opening) h.calls
       (kept_opening i h.room h.opening h.accepted, opened_along h.room h.opening h.accepted)
 
--- ---- 02, E5: a run's journal again
+-- ---- a run's journal, run again
 pub run_again : (i : Inputs) (h : History i) → InputsFit i → All CallFits h.calls → (l : List Float) → NoneHolds (conditions i (length l)) → RunAgain i h l
 run_again i h f k l a =
     let b = book_at h in

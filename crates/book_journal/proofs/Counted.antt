@@ -1,5 +1,5 @@
--- The five counts are those of the replies and of the journal's lines; they add up to the answers, the seeds handed out are that sum and the waiting one, and a
--- refused call counts nowhere. Assumes nothing.
+-- The five counts are those of the replies and of the journal's lines. They add up to the answers; the seeds handed out
+-- are their sum and the waiting one; and a refused call is counted nowhere. Assumes nothing.
 use Rattle.std.proofs.Common.{ℕ, ◌+◌, ◌≤◌, arith, ◌≡◌, refl, sym, ap, ◌∙◌, true, false, cond, List, [], ◌∷◌, ◌++◌, map, ltb, length-append, Ok, Err}
 use Rattle.common.specs.declared.Refusal.{Refusal}
 use mathlib.Core.List.{map-append}
@@ -25,7 +25,7 @@ use Rattle.book_journal.proofs.Kept.{kept_at}
 use Rattle.book_journal.proofs.Again.{sound_at, lines_right}
 use Rattle.book_journal.proofs.Cut.{none_waits}
 
--- ---- what a call replies, beside what it does: nothing and no answer, Next's candidate, or an outcome's reply
+-- ---- what a call replies, beside what it does: a reply that counts nowhere, Next's candidate, or an outcome
 abbrev pub Quiet : Reply → Type 0
 Quiet r = ((k : Kind) → said k r ≡ 0) × (is_answer r ≡ 0) × (is_handing r ≡ 0)
 
@@ -60,7 +60,7 @@ says b (stop n) = case (ltb n (demand b.inputs)) (λ t. simp t (quiet refl no_an
 says b last = case_option (last_of (entries b)) (λ e. simp e (quiet refl no_answer)) (λ a e. simp e (quiet refl no_answer))
 says b counts = quiet refl no_answer
 
--- ---- an outcome's reply
+-- ---- the reply to an outcome
 reply_kind : (k : Kind) (o : Outcome) → said k (reply_to o) ≡ one k (kind_of (recorded_as o))
 reply_kind k (Ok s) = refl
 reply_kind k (Err reason) = refl
@@ -73,7 +73,7 @@ reply_answers (Err reason) = (refl, refl)
 pub lines_enter : (b : Book) (o : Outcome) → lines_of (book_enter b o) ≡ lines_of b ++ line_of (entry b o) ∷ []
 lines_enter b o = ap (map line_of) (enter_holds b o).0 ∙ map-append line_of (entries b) (entry b o ∷ [])
 
--- is one more of its kind, as the run's record keeps the counts
+-- which adds one to the count of its kind, as in the run's record
 count_enter : (k : Kind) (b : Book) (o : Outcome) → count_in k (lines_of (book_enter b o)) ≡ count_in k (lines_of b) + one k (kind_of (recorded_as o))
 count_enter k b o = ap (count_in k) (lines_enter b o) ∙ count_snoc k (lines_of b) (line_of (entry b o))
 

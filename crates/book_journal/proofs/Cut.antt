@@ -1,5 +1,5 @@
--- What Resume reports of any bytes; a run's journal, cut after any byte, loses only the line that the cut fell in, and the run goes on from the kept lines as if
--- it had not stopped. Assumes nothing.
+-- What Resume reports on any bytes. Where a run's journal is cut after any byte, only the line that the cut fell in is
+-- lost, and the run goes on from the kept lines as if it had not stopped. Assumes nothing.
 use Rattle.std.proofs.Common.{ℕ, zero, suc, ◌+◌, ◌≤◌, arith, ◌≡◌, refl, sym, ap, ◌∙◌, Bool, true, false, cond, true≢false, List, [], ◌∷◌, ◌++◌, map, append_assoc, append-nil, eqb-true, eq-eqb, length, take, drop, length-append, length-take, Float}
 use borrow.Author.Tests.{eqb-false}
 use lib.ListN.{length-map}
@@ -37,7 +37,7 @@ use Rattle.book_journal.proofs.Beside.{same_as_reader}
 use Rattle.book_journal.proofs.Front.{all_take, front_bytes, front_reads, front_alone}
 use Rattle.book_journal.proofs.Buffer.{walked_buffer}
 
--- ---- what ended it, by cases
+-- ---- what ended the kept lines, by cases
 newline_of : (x : Bool) (s : Stop) → cond x by.MissingNewline (by.Stopped s) ≡ by.MissingNewline → x ≡ true
 newline_of true s e = refl
 newline_of false s e = let z : ◌≡◌ {A = ℕ} 0 1 = cc in absurd (omega arith)
@@ -59,7 +59,7 @@ some_newline : (s : List ℕ) → (s ≡ [] → ⊥) → is_cut_line s ≡ false
 some_newline [] n e = absurd (n refl)
 some_newline (c ∷ cs) n e = let k = eqb-false (newlines (c ∷ cs)) 0 e in omega arith
 
--- where all of it ends with a newline, nothing without one is at its end
+-- if all bytes end with a newline, the part at their end that has none is empty
 behind_newline : (j part s : List ℕ) → j ++ part ≡ s ++ 10 ∷ [] → newlines part ≡ 0 → part ≡ []
 behind_newline [] part s e n = absurd (omega (arith, ap newlines e, newlines_append s (10 ∷ []), one_newline))
   where
@@ -69,7 +69,7 @@ behind_newline (c ∷ j) [] s e n = refl
 behind_newline (c ∷ j) (d ∷ part) [] e n = let q : j ++ d ∷ part ≡ [] = cc in absurd (omega (arith, ap length q, length-append j (d ∷ part)))
 behind_newline (c ∷ j) (d ∷ part) (t ∷ s) e n = let q : j ++ d ∷ part ≡ s ++ 10 ∷ [] = cc in behind_newline j (d ∷ part) s q n
 
--- ---- the report of any bytes
+-- ---- the report on any bytes
 pub opened_waits : (i : Inputs) → (opened i).waits ≡ false
 unfolding opened
 opened_waits i = refl
@@ -91,7 +91,7 @@ module _ (i : Inputs) (l : List Float) (bs : List ℕ) where
   none_waits = walked_keeps (λ b k. b.waits ≡ false) (λ b k m ok can h t. (enter_holds b _).1) i l bs (opened_waits i)
 
   module _ (a : NoneHolds (conditions i (length l))) (f : InputsFit i) where
-    -- all the lines that were taken are those of the book
+    -- the lines taken are those of the book
     taken_lines : take walk.taken (read_journal bs).lines ≡ lines_of walk.book
     taken_lines =
         let alone = front_alone i l bs in
@@ -104,7 +104,7 @@ module _ (i : Inputs) (l : List Float) (bs : List ℕ) where
     unfolding report_on
     kept_journal = ap (take (length (kept_of bs walk))) kept_and_rest ∙ take-append_seam (kept_of bs walk) (rest_of bs walk) ∙ ap journal_bytes taken_lines
 
-    -- what stands behind them
+    -- the bytes behind them
     rest_is : (x : List ℕ) → bs ≡ journal_bytes (lines_of walk.book) ++ x → rest_of bs walk ≡ x
     rest_is x e =
         ap (λ (z : List Line). drop (length (journal_bytes z)) bs) taken_lines
@@ -188,7 +188,7 @@ module _ (i : Inputs) (l : List Float) (bs : List ℕ) where
       let e = resumed_same w.book b w.list m (report_on bs w) r (sym (resume_accepts a) ∙ h) in
       rw (e.2, e.0, e.1) at (walked_back i l bs a f)
 
--- ---- the front of a trail, and its entries
+-- ---- the first entries of a trail lead to the book of as many entries
 trail_front : (b c : Book) (n : ℕ) (es : List Entry) → Trail b es c → Trail b (take n es) (entered_in b (take n es))
 unfolding entered_in
 trail_front b c zero es t = refl
@@ -213,7 +213,7 @@ take_twice zero ls = refl
 take_twice (suc n) [] = refl
 take_twice (suc n) (l ∷ ls) = ap (λ (z : List Line). l ∷ z) (take_twice n ls)
 
--- ---- the walk of a run's journal, cut
+-- ---- the walk of a run's journal that was cut
 module _ (i : Inputs) (b : Book) (s : Sound i b) (l : List Float) (at : ℕ) where
   abbrev front : List ℕ
   front = take at (journal_of b)
@@ -266,7 +266,7 @@ module _ (i : Inputs) (b : Book) (s : Sound i b) (l : List Float) (at : ℕ) whe
   cut_rest : rest_of front (walked i l front) ≡ cut.part
   cut_rest = ap (λ (z : List ℕ). drop (length z) front) cut_kept ∙ ap (drop (length (journal_bytes whole))) cut.cut_is ∙ drop-append_seam (journal_bytes whole) cut.part
 
-  -- its book has as many entries as it took lines
+  -- the walked book has as many entries as lines were taken
   pub cut_entries : entries (walked i l front).book ≡ kept
   cut_entries = ap entries cut_book ∙ entered_entries kept kept_trail
     where

@@ -1,4 +1,5 @@
--- What the walk keeps of a journal is walked alone, to the same book and buffer, and is the longest such front. Assumes nothing.
+-- What the walk keeps of a journal leads, walked alone, to the same book and the same lent list, and is the longest
+-- such prefix. Assumes nothing.
 use Rattle.std.proofs.Common.{ℕ, zero, suc, ◌+◌, ◌≤◌, arith, ◌≡◌, sym, ap, ◌∙◌, true, false, List, [], ◌∷◌, ◌++◌, append_assoc, length, take, drop, length-append, length-take, take-append-drop, Float}
 use lib.Seq.{take-append_seam}
 use Rattle.common.specs.Tests.{case}
@@ -30,7 +31,7 @@ record Fronts (b : Book) (l : List Float) (n : ℕ) (ms : List Line) (x : Stop) 
   taken_is : (walk_from b l n ms x).taken ≡ n + count
   alone : walk_from b l n (take count ms) AllTaken ≡ fully (walk_from b l n ms x)
   longest : (k : ℕ) → k ≤ length ms → (walk_from b l n (take k ms) AllTaken).stop ≡ AllTaken → k ≤ count
-  -- a walk that takes all ends as it is told to
+  -- a walk that takes all its lines stops for the reason that it is given
   taken_all : (walk_from b l n ms x).stop ≡ AllTaken → x ≡ AllTaken
 
 fronts_end : (b : Book) (l : List Float) (n : ℕ) (x : Stop) → Fronts b l n [] x
@@ -99,7 +100,7 @@ take_longer (suc k) (suc n) [] h = omega arith
 take_longer (suc k) (suc n) (l ∷ ls) h = omega (arith, length-append (line_bytes l) (journal_bytes (take k ls)), length-append (line_bytes l) (journal_bytes (take n ls)), take_longer k n ls (omega arith))
 
 -- ---- of a journal
--- the bytes of its first lines, and all that follows them
+-- the bytes of the first n lines, and all that follows them
 pub front_bytes : (bs : List ℕ) (n : ℕ) → (rest : List ℕ) × (bs ≡ journal_bytes (take n (read_journal bs).lines) ++ rest)
 front_bytes bs n =
     let w = whole_front bs in
@@ -113,7 +114,7 @@ front_reads bs n =
     let ls = (read_journal bs).lines in
     whole_reading (take n ls) (all_take _ n ls w.lines_fit) (all_take _ n ls w.can_be_written)
 
--- lines that are read of a front of it are read of all of it first
+-- the lines that are read of a prefix are the first ones that are read of the whole
 read_of_front : (bs : List ℕ) (at : ℕ) → (read_journal (take at bs)).ending ≡ ended
     → (take at bs ≡ journal_bytes (read_journal (take at bs)).lines) × (take (length (read_journal (take at bs)).lines) (read_journal bs).lines ≡ (read_journal (take at bs)).lines)
 read_of_front bs at e =

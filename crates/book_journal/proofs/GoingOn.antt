@@ -1,4 +1,5 @@
--- A run whose journal was cut goes on from the kept lines as if it had not stopped, and its lines come behind them. Assumes nothing.
+-- A run whose journal was cut goes on from the kept lines as if it had not stopped, and its later lines stand behind
+-- them. Assumes nothing.
 use Rattle.std.proofs.Common.{ℕ, suc, ◌≤◌, arith, ◌≡◌, refl, sym, ap, ◌∙◌, Bool, true, false, List, [], ◌∷◌, ◌++◌, map, le-ltb, eqb-true, eqb, length, take, drop, length-append, length-take, take-append-drop, take_at, drop_at}
 use mathlib.Core.List.{map-append}
 use borrow.Author.Tests.{eqb-false}
@@ -42,7 +43,7 @@ one_entered b c = go (book_call b c) (moves b c)
 number_grows : (b : Book) (c : Call) → number (book_call b c).book ≤ suc (number b)
 number_grows b c = let m = one_entered b c in omega (arith, ap length (grows b c), length-append (entries b) (entered_by b c))
 
--- so calls have a place for every number of answers between their first and their last
+-- so for every number of answers between the first and the last there is a place in the calls
 abbrev Place : Book → List Call → ℕ → Type 0
 Place b cs n = (xs : List Call) × (ys : List Call) × (cs ≡ xs ++ ys) × (number (after b xs) ≡ n)
 
@@ -65,7 +66,7 @@ entered_append b [] gs = refl
 entered_append b (e ∷ es) gs = entered_append (book_enter b e.outcome) es gs
 
 module _ (i : Inputs) (h : History i) where
-  -- from a book at rest, the seed that waited
+  -- from the book at rest, handing the waiting seed out again leads back to the book
   back_again : (at : ℕ) (b : Book) → Good i b → after (at_rest b) (again i h at b) ≡ b
   unfolding after
   back_again at b g =
@@ -103,14 +104,14 @@ module _ (i : Inputs) (h : History i) where
           same_buffer = λ l. history_along i l (going_on i h at cs ds) ∙ ap (along i l) end ∙ sym (history_along i l h);
         }
 
-    -- ---- such a place there always is
+    -- ---- there always is such a place
     pub goes_on_somewhere : number (opened_by i h.opening) ≤ number (cut_run i h at) → GoesOnSomewhere i h at
     goes_on_somewhere l =
         let few : number (cut_run i h at) ≤ number (book_at h) = let n = ap length (cut_entries i (book_at h) sound [] at) in omega (arith, length-take count (entries (book_at h))) in
         let p = place (opened_by i h.opening) h.calls (number (cut_run i h at)) l few in
         record { before = p.0; behind = p.1; split = p.2; goes_on = goes_on p.0 p.1 p.2 p.3 }
 
-    -- ---- and the lost answers, entered again, lead to the same book
+    -- ---- the lost answers, entered again, lead to the same book
     pub enters_on : EntersOn i h at
     enters_on =
         let o = opened i in
@@ -121,7 +122,7 @@ module _ (i : Inputs) (h : History i) where
         ∙ ap (entered_in o) (take-append-drop count (entries b))
         ∙ trail_entered o (at_rest b) (entries b) sound.kept.trail
 
-  -- ---- the lines that follow come behind those that are kept
+  -- ---- the later lines stand behind the kept ones
   pub journal_grows : JournalGrows h
   journal_grows =
       let b = opened_by i h.opening in

@@ -1,4 +1,5 @@
--- The numbers in a run's book fit binary64, its seeds' and its outcomes', where Start's inputs and the host's findings do. Assumes nothing.
+-- All numbers in a run's book are those of binary64, its seeds' and its outcomes', where those of Start's inputs and of
+-- the host's findings are. Assumes nothing.
 use Rattle.std.proofs.Common.{ℕ, zero, suc, ◌-◌, ◌/◌, arith, ◌≡◌, refl, ap, subst, ⊎_elim, false, not, ◌&&◌, cond, List, [], ◌∷◌, ◌++◌, append-nil, ltb, eqb, pos, length, get_or, drop, Float, Ok, Err}
 use Rattle.std.specs.Float.{nan, binary64}
 use Rattle.std.specs.Float.Ieee.{of_bits, lt, neg, of_int}
@@ -95,7 +96,7 @@ around_fits i r w h =
     next_all SeedFits _ _ w.sensor w.camera.k i.max
     (λ dx dy m n b. camera_fits w.camera.k (w.sensor.tilt_x +₆₄ dx) (w.sensor.tilt_y +₆₄ dy) h (add-fits binary64 w.sensor.tilt_x dx) (add-fits binary64 w.sensor.tilt_y dy))
 
--- ---- an outcome's numbers, as its line has them
+-- ---- the numbers of an outcome, as its line has them
 abbrev pub HeldOutcome : Outcome → Type 0
 HeldOutcome o = AllFit (recorded_numbers (recorded_as o))
 
@@ -156,7 +157,7 @@ unfolding outcome_of
 finding_held share Failed t center rows flags h = tt
 finding_held share (Solved c) t center rows flags h = evaluated_held c t center rows flags h share
 
--- what a call enters
+-- the entries that a call adds
 pub no_entry : (b : Book) (o : Outcome) → [] ≡ entry b o ∷ [] → ⊥
 no_entry b o e = let z : ◌≡◌ {A = ℕ} 0 1 = cc in omega arith
 
@@ -179,7 +180,7 @@ entered_held b (stop n) o k e = absurd (no_entry b o e)
 entered_held b last o k e = absurd (no_entry b o e)
 entered_held b counts o k e = absurd (no_entry b o e)
 
--- ---- a book's
+-- ---- the numbers of a book
 abbrev pub HeldEntry : Entry → Type 0
 HeldEntry e = HeldOutcome e.outcome
 
@@ -190,7 +191,7 @@ pub record Holds (b : Book) : Type 0 where
 pub current_fits : (i : Inputs) (b : Book) → Good i b → b.over ≡ false → Holds b → SeedFits (current b)
 current_fits i b g o h = all_at SeedFits no_seed b.list (length b.answered) h.seeds (g.room o)
 
--- the camera that a list lies around
+-- the camera that the next list lies around
 abbrev CameraFits : Candidate → Type 0
 CameraFits w = AllFit (four w.camera.k)
 

@@ -1,5 +1,6 @@
--- The invariant of every run's book, however it was opened and whatever the calls: beside the book's own one, that its entries, entered one after the other in
--- the book that Start opens, lead to it, each as it could be entered there. No number need fit binary64 for it. Assumes nothing.
+-- The invariant of every run's book, however the run was opened and whatever the calls: the invariant `Good`, and that
+-- the book's entries, entered one after the other in the book that Start opens, lead to it, each as it could be entered
+-- there. It doesn't need the numbers to be those of binary64. Assumes nothing.
 use Rattle.std.proofs.Common.{ℕ, ◌≡◌, refl, sym, ap, ◌∙◌, Bool, true, false, List, [], ◌∷◌, ◌++◌, append_assoc, append-nil, Float}
 use Rattle.score_outcome.specs.Reasons.{Outcome}
 use Rattle.journal_line.specs.declared.Line.{Line}
@@ -84,7 +85,7 @@ kept_opening i n (from bs) h = kept_walked i n h [] bs
 pub kept_at : (i : Inputs) (h : History i) → Kept i (book_at h)
 kept_at i h = after_by (kept_steps i) (opened_by i h.opening) h.calls (kept_opening i h.room h.opening h.accepted)
 
--- ---- entries only come behind the others
+-- ---- calls add entries behind the others
 pub grown : (b : Book) (cs : List Call) → (es : List Entry) × (entries (after b cs) ≡ entries b ++ es)
 unfolding after
 grown b [] = ([], sym (append-nil (entries b)))

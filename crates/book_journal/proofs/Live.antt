@@ -1,5 +1,5 @@
--- The buffer that a live run leaves is the plain one, call by call; and a run that goes with a walked journal's book answers every list of calls as that book.
--- Assumes nothing.
+-- The lent list that a live run leaves is the one of the reference model, call by call; and a run that goes with a
+-- walked journal's book answers every list of calls as that book does. Assumes nothing.
 use Rattle.std.proofs.Common.{ℕ, zero, suc, ◌-◌, ◌*◌, ◌≤◌, arith, ◌≡◌, refl, sym, ap, ◌∙◌, ◌⊎◌, inl, inr, ⊎_elim, true, false, cond, List, [], ◌∷◌, ◌++◌, append_assoc, ltb-false, ne_eqb, ltb, eqb, length, take, drop, length-take, take-append-drop, Float, Ok, Err}
 use borrow.Author.Tests.{eqb-false}
 use lib.Seq.{drop-append-le}
@@ -43,8 +43,8 @@ use Rattle.book_journal.proofs.Held.{no_entry}
 use Rattle.book_journal.proofs.Buffer.{await_same, after_same, walked_buffer, run_again}
 use Rattle.book_journal.proofs.Cut.{none_waits}
 
--- ---- a closing round: what stands in the buffer is the list of the round that it comes to, if that is another one
--- from the round r on, where the rounds since had no seed
+-- ---- the end of a round: where a later round opens, its list stands in front of the lent list
+-- a book at or after round r, where the rounds in between had no seeds
 abbrev Passed : ℕ → Book → Type 0
 Passed r b = (r ≡ b.round) ⊎ ((suc r ≤ b.round) × (b.list ≡ []))
 
@@ -116,7 +116,7 @@ enter_list b o l w =
     (λ t. simp (enter_run b o w, run-fields, t) (sym (after_is b c l ∙ list_unchanged b.round c l (inl s.1))))
     (λ t. simp (enter_run b o w, run-fields, t) (close_list (c.inputs.rounds - c.round) b.round c l s.0 (inl s.1) ∙ sym (after_is b (close_round (c.inputs.rounds - c.round) c) l)))
 
--- ---- a front of the buffer is lent and given back
+-- ---- a front of the lent list is lent and given back
 rest_of_front : (k n : ℕ) (l : List Float) → k ≤ n → k ≤ length l → drop k (take n l) ++ drop n l ≡ drop k l
 rest_of_front k n l h g =
     let e = length-take n l in
@@ -190,7 +190,7 @@ live_list i b l (c ∷ cs) g =
     let next_state : State i (book_call b c).book (run_call (run_of b) l c).list = record { good = call_by (steps i) b c g.good; there = a.there } in
     rw a.run (live_list i (book_call b c).book (run_call (run_of b) l c).list cs next_state ∙ ap (λ (z : List Float). list_under (book_call b c).book z cs) m)
 
--- ---- 02, E5: the journal of a run that Start opened leaves the list as that run did
+-- ---- the journal of a run that Start opened leaves the lent list as that run did
 pub start_accepts : (i : Inputs) (l : List Float) (r : Run) → start_of i l ≡ Ok r → NoneHolds (conditions i (length l))
 start_accepts i l r h = (start_refused_lem i (length l)).accepts.0 (unfold start_refused in (accepted i l r h).0)
 
@@ -203,7 +203,7 @@ live_buffer i l r cs f k h =
     (run_again i past f k l a).same_buffer
     ∙ sym (ap (λ (x : Run). trace.list_after x (started_list i l) cs) o.run_is ∙ live_list i (opened i) (started_list i l) cs o.state ∙ ap (λ (x : List Float). list_under (opened i) x cs) (list_is i l z))
 
--- ---- 02, E13: the run and the buffer that a walk leaves are such as the theorem about calls asks for
+-- ---- the run and the lent list that a walk leaves are such as the theorem about lists of calls asks for
 buffer_state : (i : Inputs) (l : List Float) (b : Book) (m : List Float) → demand i ≤ length l → Good i b → BufferOf i l b m → State i b m
 buffer_state i l b m room g h = record {
   good = g;

@@ -1,4 +1,4 @@
--- Start's own refusals, and what an accepted Start's book has. Assumes nothing.
+-- Start's own refusals, and what holds of the book that an accepted Start opens. Assumes nothing.
 use Rattle.std.proofs.Common.{ℕ, ◌≤◌, ◌≡◌, List, ltb-true, ltb-false, ltb, length, replicate, Ok}
 use lib.ListN.{length-replicate}
 use Rattle.common.specs.Tests.{case}
@@ -30,7 +30,7 @@ module _ (i : Inputs) (n : ℕ) where
     accepts = ((λ e. none_hold checks (conditions i n) (start_decided i n) e), none_refused);
   }
 
-  -- ---- the book that an accepted Start opens has the invariant
+  -- ---- the book that an accepted Start opens satisfies the invariant
   pub opened_good : NoneHolds (conditions i n) → Good i (opened i)
   opened_good h =
       let l = replicate n plus_zero in
@@ -38,6 +38,6 @@ module _ (i : Inputs) (n : ℕ) where
       let z : refusal i l ≡ Ok tt = rw k (none_returned checks (conditions i n) (start_decided i n) h) in
       (opened_state i l z).good
 
-  -- and the lent buffer is long enough
+  -- and the lent list is long enough
   pub room_enough : NoneHolds (conditions i n) → demand i ≤ n
   room_enough h = case (ltb n (demand i)) (λ e. absurd (h.1.1.1.1.1.1.1.0 (ltb-true n (demand i) e))) (λ e. ltb-false n (demand i) e)

@@ -1,5 +1,5 @@
--- The counts that the run's record keeps after any calls, and the report of them, are those of the lines in its journal, whether Start or Resume opened the run.
--- Assumes nothing.
+-- The counts that the run's record keeps after any calls, and the report of them, are those of the lines in the run's
+-- journal, whether Start or Resume opened the run. Assumes nothing.
 use Rattle.std.proofs.Common.{ℕ, ◌≤◌, arith, ◌≡◌, refl, sym, ap, ◌∙◌, false, List, [], ◌++◌, le-ltb, ltb, length, take, drop, Float, Ok}
 use lib.ListN.{length-replicate}
 use lib.Seq.{take-append_seam}
@@ -28,7 +28,7 @@ use Rattle.book_journal.proofs.Again.{Sound, sound_at, lines_right}
 use Rattle.book_journal.proofs.Walk.{any_buffer}
 use Rattle.book_journal.proofs.Live.{start_accepts, walked_state}
 
--- ---- the writer takes counts that add up to at most 656, and puts their report in front
+-- ---- the writer takes counts with a total of at most 656, and leaves their report in front of the buffer
 module _ (c : Counts) (h : total c ≤ 656) where
   not_refused : refuses_report c small_buffer ≡ false
   unfolding refuses_report

@@ -1,5 +1,5 @@
--- An outcome that may be entered can stand as a recorded line, and its line gives it back; a line that is read and follows a book is that of the entry which it
--- makes. Assumes nothing.
+-- An outcome that may be entered can stand as a line's, and its line gives it back; a line that is read and follows a
+-- book is that of the entry which it makes. Assumes nothing.
 use Rattle.std.proofs.Common.{◌≡◌, refl, sym, ap, ◌∙◌, true, false, not, ◌&&◌, true≢false, List, [], ◌∷◌, eqb-true, eq-eqb, eqb, leb, Float, Ok, Err}
 use Rattle.std.proofs.lemmas.Bool.{and_from}
 use Rattle.std.specs.Float.{binary64}
@@ -59,7 +59,7 @@ same_self (x ∷ xs) = and_from _ _ (real_same x x refl) (same_self xs)
 same_seed : (s t : CandidateSeed) → AllFit (six s) → AllFit (six t) → same_reals (six s) (six t) ≡ true → s ≡ t
 same_seed s t f g h = ap (λ (l : List Float). seed_at l 0) (same_reals_lem (six s) (six t) f g h)
 
--- ---- what may be entered: its line gives it back, and can stand
+-- ---- of an outcome that may be entered: its line gives it back, and can stand
 scoring_back : (s : Scoring) → s.camera.dist.k1 ≡ plus_zero → s.camera.dist.k2 ≡ plus_zero → s.camera.dist.k3 ≡ plus_zero → scoring_in (fields_of s) ≡ s
 scoring_back s e f g =
     let d = s.camera.dist in
@@ -126,13 +126,13 @@ pub recorded_back : (r : Recorded) → recorded_as (outcome_in r) ≡ r
 recorded_back (Ok m) = refl
 recorded_back (Err reason) = refl
 
--- ---- a line beside a book
+-- ---- a line, and the book that it may follow
 recordable_of : (l : Line) → Writable l → recordable l.outcome ≡ true
 unfolding writable
 recordable_of l h = (both_true (leb l.number 655 && leb l.round 16) (recordable l.outcome) h).1
 
 module _ (b : Book) where
-  -- the line of an entry can follow the book that it was entered in
+  -- the line of an entry follows the book in which it is entered
   pub entry_follows : (o : Outcome) → b.over ≡ false → Stands b.inputs (current b).sensor o → follows b (line_of (entry b o)) ≡ true
   unfolding follows
   entry_follows o g s =

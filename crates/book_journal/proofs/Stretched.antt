@@ -1,4 +1,5 @@
--- The winner of the stretches' winners is the run's, however its answers or its journal's lines are cut and grouped. Assumes nothing.
+-- The winner of the stretches' winners is the run's best, however its entries or its journal's lines are cut and
+-- grouped. Assumes nothing.
 use Rattle.std.proofs.Common.{◌≡◌, refl, sym, ap, ◌∙◌, List, [], ◌∷◌, ◌++◌, map, Ok, Err}
 use mathlib.Core.List.{flat_map}
 use Rattle.common.specs.Each.{All}
@@ -26,7 +27,7 @@ use Rattle.book_journal.proofs.Again.{sound_at, lines_right}
 pub groups : Groups
 groups = record { unit_left = law.none_first; unit_right = law.none_second; associative = law.associative; of_list = law.best_fold; of_any = law.winner_fold; as_records = law.held_winner }
 
--- ---- of any list whose elements in a row have their candidates in a row
+-- ---- any list whose elements, one after the other, have their candidates one after the other
 module _ {A : Type 0} (scored : List A → List Candidate) (none : scored [] ≡ []) (in_a_row : (xs ys : List A) → scored (xs ++ ys) ≡ scored xs ++ scored ys) where
   scored_joined : (ss : List (List A)) → joined (map scored ss) ≡ scored (joined ss)
   unfolding flat_map
@@ -47,7 +48,7 @@ module _ {A : Type 0} (scored : List A → List Candidate) (none : scored [] ≡
   group_anyhow : (gs : List (List (List A))) → winner_of (map (λ ss. winner_of (map (λ s. best_of (scored s)) ss)) gs) ≡ best_of (scored (joined (joined gs)))
   group_anyhow gs = ap winner_of (each_group gs) ∙ cut_anywhere (map joined gs) ∙ ap (λ (z : List A). best_of (scored z)) (law.joined_twice gs)
 
--- ---- a run's answers
+-- ---- a run's entries
 none_scored : scored_of [] ≡ []
 unfolding scored_of
 none_scored = refl
@@ -72,7 +73,7 @@ scored_in_append (l ∷ ls) ms = more l.outcome refl (scored_in_append ls ms)
     more (Err reason) e ih = unfold scored_in in simp (scored_in, e) ih
     more (Ok m) e ih = unfold scored_in in simp (scored_in, e) (ap (λ (z : List Candidate). candidate_of l.number l.seed.sensor (scoring_in m) ∷ z) ih)
 
--- those of a run have its candidates
+-- the lines of a run have the candidates of its entries
 scored_lines : (i : Inputs) (es : List Entry) → All (Proper i) es → scored_in (map line_of es) ≡ scored_of es
 unfolding scored_in scored_of
 scored_lines i [] p = refl

@@ -1,4 +1,4 @@
--- Journals over the plain book: all of `specs/Theorem.antt`. Assumes nothing.
+-- Journals over the reference model: all of `specs/Theorem.antt`. Assumes nothing.
 use Rattle.book_journal.specs.History.{book_at}
 use Rattle.book_journal.specs.Theorem.{JournalsRight}
 use Rattle.book_journal.proofs.Opening.{start_refused_lem}

@@ -1,4 +1,5 @@
--- The walk of a journal's lines, one at a time: where it goes on, what it keeps, and that the seed buffer decides nothing. Assumes nothing.
+-- The walk of a journal's lines, line by line: where it goes on, what it keeps, and that it doesn't depend on the lent
+-- list. Assumes nothing.
 use Rattle.std.proofs.Common.{ℕ, suc, ◌≡◌, refl, true, false, List, [], ◌∷◌, Float}
 use Rattle.common.specs.Tests.{case}
 use Rattle.common.specs.Each.{All}
@@ -33,7 +34,7 @@ module _ (b : Book) (l : List Float) (n : ℕ) (e : Stop) where
     unfolding walk_from
     walk_on f = simp (walk_from, f)
 
--- ---- What holds of a book and its buffer, and stays where a line that follows is entered, holds of the book and the buffer that a walk leaves.
+-- ---- A property of a book and its lent list that each line taken keeps holds where the walk stops.
 pub walk_keeps : (P : Book → List Float → Type 0)
     → ((b : Book) (l : List Float) (m : Line) → LineFits m → Writable m → P b l → follows b m ≡ true
     → P (book_enter b (outcome_in m.outcome)) (buffer_after b (book_enter b (outcome_in m.outcome)) l))
@@ -55,7 +56,7 @@ walked_keeps P f i l bs h =
     let w = whole_front bs in
     walk_keeps P f (opened i) (written (first_list i) l) 0 (read_journal bs).lines (stop_at (read_journal bs).ending) w.lines_fit w.can_be_written h
 
--- ---- the buffer decides nothing
+-- ---- the walk doesn't depend on the lent list
 abbrev SameWalk : Walked → Walked → Type 0
 SameWalk v w = (v.book ≡ w.book) × (v.taken ≡ w.taken) × (v.stop ≡ w.stop)
 

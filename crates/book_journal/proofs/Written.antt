@@ -1,4 +1,4 @@
--- The lines written along a walk are the journal of the book. Assumes nothing.
+-- The lines that a host writes after each accepted Answer are the journal of the book. Assumes nothing.
 use Rattle.std.proofs.Common.{ℕ, arith, ◌≡◌, sym, ap, subst, ◌∙◌, true, false, List, [], ◌∷◌, ◌++◌, append_assoc, append-nil, le-ltb, ltb, length, take, drop, Float, Ok}
 use mathlib.Core.Option.{some}
 use lib.ListN.{length-replicate}
@@ -29,7 +29,7 @@ one_line : (m : Line) → journal_bytes (m ∷ []) ≡ line_bytes m
 unfolding journal_bytes
 one_line m = append-nil (line_bytes m)
 
--- ---- the writer takes a line that can be written, and puts its bytes in front
+-- ---- the writer takes a line that can be written, and leaves its bytes in front of the buffer
 module _ (m : Line) (w : Writable m) where
   not_refused : refuses_line m buffer ≡ false
   unfolding refuses_line
@@ -46,7 +46,7 @@ module _ (m : Line) (w : Writable m) where
   writes : front m (write_reply m buffer) ≡ line_bytes m
   writes = ap (front m) replies_length ∙ ap (take (length (line_bytes m))) writes_front ∙ take-append_seam (line_bytes m) (drop (length (line_bytes m)) buffer)
 
--- ---- an answer's line is written, and no other call's
+-- ---- an answer's line is written, and no line after another call
 module _ (i : Inputs) (b : Book) (l : List Float) (o : Outcome) (t : State i b l) (w : b.waits ≡ true) (g : Good i (book_enter b o)) where
   last_entry : last_of (entries (book_enter b o)) ≡ some (entry b o)
   last_entry = ap last_of (enter_holds b o).0 ∙ last_snoc (entries b) (entry b o)

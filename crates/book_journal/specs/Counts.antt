@@ -1,5 +1,6 @@
--- 02, E6: how many candidates were scored and how many skipped for each reason, over the lines of the journal, over replies and as the counts call gives them, and
--- that these agree, as types. Definitions only.
+-- How many candidates were scored, and how many were skipped for each reason: counted over the lines of the journal,
+-- over the replies, and by the call Counts. That the three agree, as types (docs/SPECIFICATION.md, 6.10). Definitions
+-- only.
 use Rattle.std.specs.Prelude.{ℕ, ◌+◌, ◌≤◌, ◌≡◌, cond, List, [], ◌∷◌, Some, None}
 use Rattle.common.specs.declared.Refusal.{Refusal}
 use Rattle.journal_line.specs.Counts.{Kind, one, count_in, counts_in}
@@ -10,7 +11,7 @@ use Rattle.book.specs.Book.{Inputs, number, book_call, replies}
 use Rattle.book_journal.specs.Lines.{lines_of, journal_of}
 use Rattle.book_journal.specs.History.{opened_by, History, book_at}
 
--- ---- by the replies: how many of kind k were answered, how many in all, and how many seeds were handed out
+-- ---- counted over the replies: the answers of kind k, all answers, and the seeds handed out
 abbrev pub said : Kind → Reply → ℕ
 said k (candidate n) = 0
 said k over = 0
@@ -65,21 +66,21 @@ unfoldable pub handed_in : List Reply → ℕ
 handed_in [] = 0
 handed_in (r ∷ rs) = is_handing r + handed_in rs
 
--- ---- what holds of the counts of a history; those of a resumed one begin with the kept lines
+-- ---- the counts of a history; those of a resumed one begin with the kept lines
 pub record CountsAgree (i : Inputs) (h : History i) : Type 0 where
-  -- each count, by the replies
+  -- each count is that of the replies
   pub tallied : (k : Kind) → count_in k (lines_of (book_at h)) ≡ count_in k (lines_of (opened_by i h.opening)) + said_in k (replies (opened_by i h.opening) h.calls)
-  -- the counts call gives them
+  -- the call Counts replies with them
   pub replied : (book_call (book_at h) counts).reply ≡ counted (counts_in (lines_of (book_at h)))
-  -- together they count the answers
+  -- together they are the number of answers
   pub answers : total (counts_in (lines_of (book_at h))) ≡ number (opened_by i h.opening) + answers_in (replies (opened_by i h.opening) h.calls)
   -- Next handed out one seed for each of them, and one more where a seed waits
   pub handed_out : number (opened_by i h.opening) + handed_in (replies (opened_by i h.opening) h.calls) ≡ total (counts_in (lines_of (book_at h))) + cond (book_at h).waits 1 0
-  -- so that the report is never refused for it
+  -- so the report is never refused for its total
   pub few : total (counts_in (lines_of (book_at h))) ≤ 656
-  -- a call that is refused enters nothing
+  -- a refused call enters nothing
   pub refused_nowhere : (c : Call) (r : Refusal) → (book_call (book_at h) c).reply ≡ refused r → (book_call (book_at h) c).book ≡ book_at h
 
--- and they are those of the run's journal, line for line
+-- and each count is that of the lines that the reader gives of the run's journal
 abbrev pub InJournal : {i : Inputs} → History i → Type 0
 InJournal h = (k : Kind) → count_in k (lines_of (book_at h)) ≡ count_in k (read_journal (journal_of (book_at h))).lines

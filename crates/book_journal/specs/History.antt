@@ -1,4 +1,4 @@
--- How a run opens, by Start or by Resume (02, E13), and its histories: an opening and any calls after it. Definitions only.
+-- How a run opens, by Start or by Resume, and its histories: an opening and any calls after it. Definitions only.
 use Rattle.std.specs.Prelude.{ℕ, false, List, [], ◌∷◌, ◌++◌, Float}
 use Rattle.common.specs.Each.{All}
 use Rattle.camera_models.specs.declared.intrinsics.FxFyCxCy.{FxFyCxCy}
@@ -11,7 +11,8 @@ use Rattle.book.specs.Conditions.{NoneHolds, conditions}
 use Rattle.seed_rules.specs.Layout.{written}
 use Rattle.book_journal.specs.Replay.{buffer_after, walked}
 
--- ---- Start's book, or the one in which the lines that Resume keeps were entered. The seed buffer doesn't matter to it (`any_buffer`).
+-- ---- Start's book, or the book in which the kept lines' outcomes were entered; which list is lent makes no difference
+-- to it (`any_buffer`)
 pub data Opening : Type 0 where
   fresh : Opening
   from : List ℕ → Opening
@@ -30,7 +31,7 @@ pub record History (i : Inputs) : Type 0 where
 abbrev pub book_at : {i : Inputs} → History i → Book
 book_at {i} h = after (opened_by i h.opening) h.calls
 
--- ---- the numbers that the host sends are binary64's, as every f64 of a program is. A journal holds no others.
+-- ---- The numbers that the host sends are those of binary64, as every f64 of a program is. A journal holds no others.
 abbrev pub AllFit : List Float → Type 0
 AllFit xs = All Fits xs
 
@@ -54,7 +55,7 @@ CallFits (stop n) = Unit {0}
 CallFits last = Unit {0}
 CallFits counts = Unit {0}
 
--- ---- a book with no seed waiting, and outcomes entered in one after the other
+-- ---- a book with no seed waiting; and outcomes entered one after the other
 unfoldable pub at_rest : Book → Book
 at_rest b = record { inputs = b.inputs; round = b.round; list = b.list; earlier = b.earlier; answered = b.answered; waits = false; over = b.over }
 
@@ -62,7 +63,7 @@ unfoldable pub entered_in : Book → List Entry → Book
 entered_in b [] = b
 entered_in b (e ∷ es) = entered_in (book_enter b e.outcome) es
 
--- ---- the seed buffer that goes with them, where Start or Resume was lent l
+-- ---- the lent list that goes with them, where Start or Resume was lent l
 abbrev pub opened_list : Inputs → List Float → Opening → List Float
 opened_list i l fresh = written (first_list i) l
 opened_list i l (from bs) = (walked i l bs).list

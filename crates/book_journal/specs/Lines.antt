@@ -1,10 +1,10 @@
--- 02, E2: the journal of a run: the lines of a book, and their bytes. Definitions only.
+-- The journal of a run: the lines of a book, and their bytes (docs/SPECIFICATION.md, 8.4). Definitions only.
 use Rattle.std.specs.Prelude.{ℕ, List, map}
 use Rattle.journal_line.specs.declared.Line.{Line}
 use Rattle.journal_line.specs.Line.{journal_bytes}
 use Rattle.book.specs.Book.{Book, entries, line_of}
 
--- one line for each answered candidate, in their order
+-- one line for each entry, in order
 abbrev pub lines_of : Book → List Line
 lines_of b = map line_of (entries b)
 

@@ -1,5 +1,6 @@
--- 02, E5: running a journal again. Its lines are walked against the plain book, each recorded outcome entered as Answer's would be; what is replied, and the
--- seed buffer afterwards. Definitions only.
+-- Running a journal again (docs/SPECIFICATION.md, 8.6): its lines are walked over the reference model, and the outcome
+-- that each records is entered as Answer would enter it; then the reply, and the lent list afterwards. Definitions
+-- only.
 use Rattle.std.specs.Prelude.{ℕ, suc, Bool, true, false, not, ◌&&◌, cond, List, [], ◌∷◌, eqb, length, take, Float, Result, Ok, Err, ⊤}
 use Rattle.common.specs.declared.Refusal.{Refusal}
 use Rattle.common.specs.declared.Refusal.TheVariants.{NothingScored}
@@ -26,8 +27,9 @@ use Rattle.book.specs.Theorem.{options_of}
 unfoldable pub start_refused : Inputs → ℕ → Result ⊤ Refusal
 start_refused i n = start_refusal i.views (options_of i) i.xs i.ys i.decomposition n
 
--- ---- a line beside the book
--- The line can be the answer to the seed that the book hands out next: number, round and seed are its own. None can once the run is over.
+-- ---- a line, and the book that it may follow
+-- The line is the run's next answer: the run isn't over, number, round and seed are the book's, and what it records can
+-- stand (docs/SPECIFICATION.md, 8.7).
 unfoldable pub follows : Book → Line → Bool
 follows b l =
     not b.over
@@ -36,18 +38,18 @@ follows b l =
     && same_reals (six l.seed) (six (current b))
     && can_stand b.inputs.center (current b).sensor l.outcome
 
--- ---- the walk: the book and the seed buffer as the lines left them, how many lines it took, and what ended it
+-- ---- the walk: the book and the lent list as the lines left them, how many lines it took, and why it stopped
 pub record Walked : Type 0 where
   pub book : Book
   pub list : List Float
   pub taken : ℕ
   pub stop : Stop
 
--- a list that an answer opened is written to the buffer's front
+-- Where entering an outcome opened a round, the round's list is written to the front of the lent list.
 unfoldable pub buffer_after : Book → Book → List Float → List Float
 buffer_after b c l = cond (eqb b.round c.round) l (written c.list l)
 
--- The lines that the reader gives, one after the other; behind the last one the walk stops as the reader does.
+-- walks the lines that the reader gives, one after the other; behind the last one it stops for the reader's reason
 unfoldable pub walk_from : Book → List Float → ℕ → List Line → Stop → Walked
 walk_from b l n [] e = record { book = b; list = l; taken = n; stop = e }
 walk_from b l n (m ∷ ms) e = elim (follows b m) [
@@ -55,28 +57,28 @@ walk_from b l n (m ∷ ms) e = elim (follows b m) [
   | false ↦ record { book = b; list = l; taken = n; stop = NotTheRun }
 ]
 
--- An accepted Start has written round 0's list to the front of the lent buffer.
+-- Before the first line, an accepted Start has written round 0's list to the front of the lent list.
 unfoldable pub walked : Inputs → List Float → List ℕ → Walked
 walked i l bs = let r = read_journal bs in walk_from (opened i) (written (first_list i) l) 0 r.lines (stop_at r.ending)
 
--- the bytes of the lines that it took
+-- the bytes of the lines that the walk took
 abbrev pub kept_of : List ℕ → Walked → List ℕ
 kept_of bs w = journal_bytes (take w.taken (read_journal bs).lines)
 
--- ---- the reply: who won, and with which score; the seed that comes next in a run that hasn't ended; or what is refused: a run that ended without a winner, or
--- what Start refuses, or a line, with its number, from 1
+-- ---- The reply: the winner's number and score; the seed that comes next in a run that isn't over; 11 where nothing is
+-- scored; what Start refuses; or a refused line's number, counted from 1.
 abbrev pub winner_or_none : Chosen → Result Standing Refusal
 winner_or_none nothing = Err NothingScored
 winner_or_none (chosen w) = Ok (Winner w.number w.score)
 
--- where a run stands
+-- how a run stands: its winner, 11, or the seed that comes next
 unfoldable pub standing : Book → Result Standing Refusal
 standing b = cond b.over (winner_or_none (run_best_of b)) (Ok (Unfinished (current b)))
 
 abbrev pub reply_to : Walked → Result Standing ReplayRefusal
 reply_to w = reply_by w.stop w.taken (standing w.book)
 
--- the reply, and the seed buffer as the lines before it left it; after Start's own refusals as it was lent
+-- The lent list afterwards is as the lines taken left it. After Start's own refusals it is as it was.
 unfoldable pub replay_of : Inputs → List Float → List ℕ → ReplayLeft
 replay_of i l bs =
     let w = walked i l bs in

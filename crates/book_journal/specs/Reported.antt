@@ -1,5 +1,5 @@
--- 02, E6: the report that a host writes which asks for the counts after some calls and hands them to the report's writer, and that it is right, as types.
--- Definitions only.
+-- The report of a host that asks for the counts after some calls and hands them to the report's writer, and that it is
+-- right, as types (docs/SPECIFICATION.md, 8.5). Definitions only.
 use Rattle.std.specs.Prelude.{ℕ, ◌≡◌, List, [], length, take, replicate, Float, Result, Ok, Err}
 use Rattle.common.specs.declared.Refusal.{Refusal}
 use Rattle.journal_line.specs.declared.Counts.{Counts}
@@ -17,7 +17,7 @@ use Rattle.book.specs.RunOf.{run_of}
 use Rattle.book_journal.specs.Lines.{journal_of}
 use Rattle.book_journal.specs.Replay.{walked}
 
--- a buffer as the report needs it, and what it then has at its front
+-- a buffer as long as a report can get, and the report that the writer leaves in front of it
 abbrev pub small_buffer : List ℕ
 small_buffer = replicate 24 0
 
@@ -29,7 +29,7 @@ report_of c (Err refusal) = []
 abbrev pub reported : Run → List Float → List Call → List ℕ
 reported r l cs = let c = counts_def (run_after r l cs) in report_of c (report_reply c small_buffer)
 
--- each count is the number of such lines in the journal of the book b: as the record keeps it, and as it is written
+-- each count is the number of such lines in the journal of the book b, both in the record and in the written report
 pub record ReportRight (r : Run) (l : List Float) (cs : List Call) (b : Book) : Type 0 where
   pub kept : counts_def (run_after r l cs) ≡ counts_in (read_journal (journal_of b)).lines
   pub is_written : reported r l cs ≡ report_bytes (counts_in (read_journal (journal_of b)).lines)

@@ -1,4 +1,5 @@
--- 02, E14: winners of stretches of a run's answers, and of a journal's lines, as types. Definitions only.
+-- Winners of stretches of a run's entries and of a journal's lines (docs/SPECIFICATION.md, chapter 10), as types.
+-- Definitions only.
 use Rattle.std.specs.Prelude.{◌≡◌, Ok, Err}
 use mathlib.Core.List.{List, [], ◌∷◌, map, foldr}
 use Rattle.common.specs.Each.{All}
@@ -12,11 +13,11 @@ use Rattle.journal_line.specs.Outcome.{scoring_in}
 use Rattle.book.specs.Book.{Entry, Book, entries, scored_of, run_best_of}
 use Rattle.book_journal.specs.Lines.{journal_of}
 
--- ---- the winner of a stretch of answered candidates: the earliest with the lowest score; none where none of them was scored
+-- ---- the winner of a stretch of entries: the earliest with the lowest score, or none where none is scored
 abbrev pub stretch_winner : List Entry → Chosen
 stretch_winner es = best_of (scored_of es)
 
--- and of a stretch of lines
+-- the scored candidates of a stretch of lines, and the winner of the stretch
 unfoldable pub scored_in : List Line → List Candidate
 scored_in [] = []
 scored_in (l ∷ ls) = elim l.outcome [ Ok m ↦ candidate_of l.number l.seed.sensor (scoring_in m) ∷ scored_in ls | Err reason ↦ scored_in ls ]
@@ -24,8 +25,9 @@ scored_in (l ∷ ls) = elim l.outcome [ Ok m ↦ candidate_of l.number l.seed.se
 abbrev pub line_winner : List Line → Chosen
 line_winner ls = best_of (scored_in ls)
 
--- ---- with none as its unit the winner of two is associative; the best of a list is its fold over the candidates, and the winner of any number of winners its
--- fold over them; records hold it as it is
+-- ---- The winner of two is associative, with none as its unit. The best of a list is the winner of its candidates,
+-- taken two at a time, and so is the winner of any number of bests whose scores are numbers. Records of two bests have
+-- the same winner.
 pub record Groups : Type 0 where
   pub unit_left : (c : Chosen) → winner_of_two nothing c ≡ c
   pub unit_right : (c : Chosen) → winner_of_two c nothing ≡ c
@@ -34,13 +36,14 @@ pub record Groups : Type 0 where
   pub of_any : (cs : List Chosen) → All IsNumber cs → winner_of cs ≡ foldr winner_of_two nothing cs
   pub as_records : (a b : Chosen) → winner_of_bests (held a) (held b) ≡ held (winner_of_two a b)
 
--- ---- Wherever the answers are cut into stretches, and however these are put into groups, the winner of the winners, in their order, is the run's. So it is of any
--- book: however it was opened, whatever its inputs, and whether or not its run is over.
+-- ---- Wherever the entries are cut into stretches, and however these are grouped, the winner of their winners, in
+-- order, is the run's best. This holds for every book: however it was opened, whatever its inputs, whether its run is
+-- over or not.
 pub record StretchesRight (b : Book) : Type 0 where
   pub any_cutting : (ss : List (List Entry)) → joined ss ≡ entries b → winner_of (map stretch_winner ss) ≡ run_best_of b
   pub any_grouping : (gs : List (List (List Entry))) → joined (joined gs) ≡ entries b → winner_of (map (λ ss. winner_of (map stretch_winner ss)) gs) ≡ run_best_of b
 
--- the same of the lines that the reader gives of its journal
+-- the same of the lines that the reader gives of the book's journal
 pub record LineStretchesRight (b : Book) : Type 0 where
   pub any_cutting : (ss : List (List Line)) → joined ss ≡ (read_journal (journal_of b)).lines → winner_of (map line_winner ss) ≡ run_best_of b
   pub any_grouping : (gs : List (List (List Line))) → joined (joined gs) ≡ (read_journal (journal_of b)).lines → winner_of (map (λ ss. winner_of (map line_winner ss)) gs) ≡ run_best_of b

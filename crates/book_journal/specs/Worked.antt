@@ -1,4 +1,5 @@
--- A run of two candidates and its journal, worked out: what replay and Resume say of it, whole, damaged and cut. `proofs/Worked.antt` proves it, by computing. Definitions only.
+-- A run of two candidates and its journal, worked out: what replay and resume say of the journal whole, damaged and
+-- cut. `proofs/Worked.antt` proves it by computing. Definitions only.
 use Rattle.std.specs.Prelude.{ℕ, ◌≡◌, false, List, [], ◌∷◌, ◌++◌, take, replicate, Float, Ok, Err}
 use Rattle.std.specs.Float.{binary64}
 use Rattle.std.specs.Float.Ieee.{of_bits, neg}
@@ -50,7 +51,7 @@ given = inputs_with 0
 abbrev buffer : List Float
 buffer = replicate 54 f1
 
--- the first candidate was skipped for reason 1; the second has a mean of 1, and so a score of 1.015625
+-- the first candidate was skipped for reason 1; the second has the mean 1, and so the score 1.015625
 abbrev first : Line
 first = record { number = 0; round = 0; seed = seed_of f0; outcome = Err HostFailed }
 
@@ -63,11 +64,11 @@ second_with n r s mean value = record { number = n; round = r; seed = s; outcome
 abbrev second : Line
 second = second_with 1 0 (seed_of quarter) f1 score
 
--- its camera differs
+-- the seed of the second line with another camera
 abbrev other_seed : CandidateSeed
 other_seed = record { reference_k = record { fx = f1; fy = f1; cx = f0; cy = f1 }; sensor = record { tilt_x = quarter; tilt_y = f0 } }
 
--- the score that a mean of −1 gives: −0.984375
+-- the score that a mean of −1 gives, −0.984375
 abbrev below : Float
 below = bits 0xbfef_8000_0000_0000
 
@@ -79,7 +80,7 @@ pub record Replays : Type 0 where
   pub its_winner : (replay_of given buffer whole).reply ≡ Ok (Winner 1 score)
   pub unfinished_run : (replay_of given buffer (journal_bytes (first ∷ []))).reply ≡ Ok (Unfinished (seed_of quarter))
   pub none_scored : (replay_of given buffer (journal_bytes (first ∷ record { number = 1; round = 0; seed = seed_of quarter; outcome = Err NoNumber } ∷ []))).reply ≡ Err (Refused NothingScored)
-  -- 30 on the second line: another number, another round, another camera of the seed, another score, a mean below 0
+  -- 30 on the second line: another number, another round, another camera in the seed, another score, a mean below 0
   pub other_number : (replay_of given buffer (journal_bytes (first ∷ second_with 2 0 (seed_of quarter) f1 score ∷ []))).reply ≡ Err (At NotTheRun 2)
   pub other_round : (replay_of given buffer (journal_bytes (first ∷ second_with 1 1 (seed_of quarter) f1 score ∷ []))).reply ≡ Err (At NotTheRun 2)
   pub other_camera : (replay_of given buffer (journal_bytes (first ∷ second_with 1 0 other_seed f1 score ∷ []))).reply ≡ Err (At NotTheRun 2)
@@ -88,26 +89,27 @@ pub record Replays : Type 0 where
   -- behind the end: a line is 30, other bytes are 29
   pub line_behind : (replay_of given buffer (journal_bytes (first ∷ second ∷ second ∷ []))).reply ≡ Err (At NotTheRun 3)
   pub bytes_behind : (replay_of given buffer (whole ++ 120 ∷ 10 ∷ [])).reply ≡ Err (At NotOfForm 3)
-  -- with a round to follow: around the winner the seeds of the next list within the bound are six; the first comes next, and they stand in the buffer
+  -- with a round to follow: the first seed of the list around the winner comes next, and its first two seeds stand in
+  -- front of the lent list
   pub next_seed : (replay_of (inputs_with 1) buffer whole).reply ≡ Ok (Unfinished (record { reference_k = camera; sensor = record { tilt_x = f0; tilt_y = neg quarter } }))
   pub next_list_lem : take 12 (replay_of (inputs_with 1) buffer whole).list ≡ f1 ∷ f1 ∷ f0 ∷ f0 ∷ f0 ∷ neg quarter ∷ f1 ∷ f1 ∷ f0 ∷ f0 ∷ f0 ∷ f0 ∷ []
-  -- after a 30 on the first line the buffer holds round 0's list, and what stood behind it
+  -- after a 30 on the first line round 0's list stands in the lent list, and behind it what stood there before
   pub first_list_lem : take 14 (replay_of given buffer (journal_bytes (second ∷ []))).list ≡ six (seed_of f0) ++ six (seed_of quarter) ++ (f1 ∷ f1 ∷ [])
-  -- Start's own refusal comes before all, and leaves the buffer
+  -- Start's own refusal comes first, and leaves the lent list
   pub too_short : replay_of given [] (120 ∷ []) ≡ record { reply = Err (Refused SmallBuffer); list = [] }
 
--- what Resume reports of these bytes
+-- what Resume reports on these bytes
 abbrev report_of : List ℕ → Report
 report_of bs = report_on bs (walked given buffer bs)
 
 pub record Reports : Type 0 where
-  -- the journal as it is, and cut behind its first line, of 124 bytes
+  -- the journal whole, and cut behind its first line, which has 124 bytes
   pub all_kept : report_of whole ≡ record { lines = 2; kept = 368; dropped = 0; ended_by = by.Stopped stop.AllTaken }
   pub after_newline : report_of (take 124 whole) ≡ record { lines = 1; kept = 124; dropped = 0; ended_by = by.Stopped stop.AllTaken }
-  -- without its last byte, and without the last but one as well
+  -- without its last byte, and without its last two
   pub cut_line : report_of (take 367 whole) ≡ record { lines = 1; kept = 124; dropped = 243; ended_by = by.MissingNewline }
   pub cut_line_again : report_of (take 366 whole) ≡ record { lines = 1; kept = 124; dropped = 242; ended_by = by.MissingNewline }
-  -- behind the end: a part of a line, a line, other bytes with a newline
+  -- behind the end a part of a line, and a line; and, in place of the journal, bytes that don't begin with a line
   pub part_behind : report_of (whole ++ 48 ∷ []) ≡ record { lines = 2; kept = 368; dropped = 1; ended_by = by.MissingNewline }
   pub line_behind : report_of (journal_bytes (first ∷ second ∷ first ∷ [])) ≡ record { lines = 2; kept = 368; dropped = 124; ended_by = by.Stopped stop.NotTheRun }
   pub bytes_behind : report_of (120 ∷ 10 ∷ 48 ∷ 44 ∷ 48 ∷ []) ≡ record { lines = 0; kept = 0; dropped = 5; ended_by = by.Stopped stop.NotOfForm }

@@ -1,4 +1,5 @@
--- 02, E2: the bytes that a host writes which asks for the last line after each accepted Answer and hands it to the writer, along a walk. Definitions only.
+-- The journal of a host that asks for the last line after each accepted Answer and hands it to the writer
+-- (docs/SPECIFICATION.md, 8.4). Definitions only.
 use Rattle.std.specs.Prelude.{ℕ, ◌≡◌, cond, List, [], ◌∷◌, ◌++◌, eqb, take, replicate, Float, Option, Some, None, Result, Ok, Err}
 use Rattle.common.specs.declared.Refusal.{Refusal}
 use Rattle.journal_line.specs.declared.Line.{Line}
@@ -12,7 +13,7 @@ use Rattle.book.specs.Theorem.{start_of, started_list}
 use Rattle.book_journal.specs.Lines.{journal_of}
 use Rattle.book_journal.specs.Counts.{is_answer}
 
--- a buffer as the writer needs it, and what it then has at its front
+-- a buffer as long as the writer asks for, and the line that the writer leaves in front of it
 abbrev pub buffer : List ℕ
 buffer = replicate 256 0
 
@@ -24,7 +25,7 @@ abbrev pub bytes_of : Option Line → List ℕ
 bytes_of (Some m) = front m (write_reply m buffer)
 bytes_of None = []
 
--- after a call: the last line's bytes if its reply is an answer's
+-- after a call: the last line's bytes if the reply is an answer's, else nothing
 abbrev pub written_after : Step → List ℕ
 written_after a = cond (eqb (is_answer a.reply) 1) (bytes_of (last_def a.run)) []
 
@@ -32,6 +33,6 @@ unfoldable pub written_along : Run → List Float → List Call → List ℕ
 written_along r l [] = []
 written_along r l (c ∷ cs) = let a = run_call r l c in written_after a ++ written_along a.run a.list cs
 
--- they are the journal of the run
+-- what the host has written is the journal of the run
 abbrev pub WrittenIsJournal : Inputs → List Float → Run → List Call → Type 0
 WrittenIsJournal i l r cs = start_of i l ≡ Ok r → written_along r (started_list i l) cs ≡ journal_of (after (opened i) cs)

@@ -1,18 +1,20 @@
-// The theory of journals over the plain book: the journal of a run, running it again, going on from one that was cut off, how many of each outcome it has,
-// and the winners of its stretches. There is no code here: see specs/ for the definitions and the statements, and proofs/ for their proofs.
+// What holds of journals, over the reference model: the journal of a run, running it again, going on from one that was
+// cut off, how many outcomes of each kind it has, and the winners of its stretches. There is no code here: specs/ has
+// the definitions and the statements, proofs/ the proofs.
 
 #![tactic(auto)]
 
 ghost use Rattle.book_journal.specs.Theorem.{JournalsRight};
 ghost use Rattle.book_journal.specs.Worked.{WorkedRight};
 
-/// A run's journal, run again, gives its winner; one that is cut anywhere goes on to the same end; the counts and the winners of stretches are the run's.
+/// A run's journal, run again, gives the run's winner. One that is cut anywhere goes on to the same end. The counts and
+/// the winners of stretches are the run's.
 #[tactic(auto, using(crate::proofs::Theorem::journals_right))]
 pub fn journals_law()
     ensures { JournalsRight }
 {}
 
-/// A run of two candidates and its journal, whole, damaged and cut.
+/// What replay and resume reply to the journal of a run of two candidates, whole, damaged and cut.
 #[tactic(auto, using(crate::proofs::Worked::worked_right))]
 pub fn worked_journal_law()
     ensures { WorkedRight }

@@ -1,4 +1,4 @@
--- Replay and Resume of any inputs, list and bytes are the plain book's. Assumes nothing.
+-- What Replay and Resume reply to any inputs, list and bytes is what the reference model says. Assumes nothing.
 use Rattle.std.proofs.Common.{ℕ, ◌+◌, arith, ◌≡◌, ap, ◌∙◌, List, length, take, Float, Ok, Err}
 use Rattle.common.specs.declared.Refusal.{Refusal}
 use Rattle.journal_line.specs.Line.{journal_bytes}

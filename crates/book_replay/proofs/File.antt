@@ -1,5 +1,5 @@
--- A run that Start or Resume opened, any calls after it, and its file: Replay says of the file how the run stands, and Resume gives the run back from it, whole or
--- cut. Assumes nothing.
+-- A run that Start or Resume opened, any calls after it, and its file: Replay says of the file how the run stands, and
+-- Resume gives the run back from it, whole or cut. Assumes nothing.
 use Rattle.std.proofs.Common.{ℕ, ◌≤◌, ◌≡◌, refl, sym, ap, ◌∙◌, true, false, List, [], ◌++◌, append_assoc, append-nil, length, take, drop, take-append-drop, take_at, drop_at, Float, Result, Ok, Err}
 use Rattle.common.specs.declared.Refusal.{Refusal}
 use Rattle.common.specs.declared.Refusal.TheVariants.{NothingScored, NotOver}
@@ -61,7 +61,7 @@ module _ (i : Inputs) (l : List Float) (bs : List ℕ) where
   walked_back : InputsFit i → NoneHolds (conditions i (length l)) → GivesBack i l bs (walked i l bs).book (walked i l bs).list (report_on bs (walked i l bs))
   walked_back f a = gives_back i l bs f (walked i l bs).book (walked i l bs).list (report_on bs (walked i l bs)) (resume_accepts i l bs a)
 
-  -- whatever is given back is the walk's
+  -- whatever is given back is what the walk leads to
   record ComesFrom (r : Run) (q : Report) (m : List Float) : Type 0 where
     started : NoneHolds (conditions i (length l))
     run_is : r ≡ run_of (walked i l bs).book
@@ -117,13 +117,13 @@ resumed_record i h f k l a =
     let s = sound_at i h f k in
     given_back i l (journal_of b) a ∙ rw (walked_again i b l s, report_all i b s l, history_along i l h)
 
--- and cut after any byte
+-- the journal cut after any byte
 pub cut_record : (i : Inputs) (h : History i) (at : ℕ) (l : List Float) → NoneHolds (conditions i (length l)) → CutRecord i h at l
 cut_record i h at l a =
     let j = cut_journal i h at in
     given_back i l j a ∙ ap (λ (b : Book). record { reply = Ok (record { run = run_of b; report = report i h at l }); list = (walked i l j).list }) (any_buffer i l [] j).0
 
--- whichever list is lent: the walk is the same but for its list
+-- whichever list is lent: the walk is the same except for its list
 same_report : (bs : List ℕ) (v w : Walked) → v.taken ≡ w.taken → v.stop ≡ w.stop → report_on bs v ≡ report_on bs w
 unfolding report_on
 same_report bs v w e d = rw (e, d)
@@ -185,17 +185,17 @@ stands_as i b l f =
           rw (next_going i b l f v o, run_number b) (refl, simp (o, await_seed b));
     }
 
--- ---- a record at rest
+-- ---- a record with no seed waiting
 rest_run : (b : Book) → run_of (at_rest b) ≡ none_waiting (run_of b)
 unfolding run_of at_rest round_best_of run_best_of
 rest_run b = refl
 
--- of the kept lines it has the counts, the last one and the best of the run
+-- its counts, its last line and its run's best are those of the kept lines
 rest_answers : (b : Book) → ((run_of (at_rest b)).counts ≡ (none_waiting (run_of b)).counts) × ((run_of (at_rest b)).last ≡ (none_waiting (run_of b)).last) × ((run_of (at_rest b)).run_best ≡ (none_waiting (run_of b)).run_best)
 unfolding run_of at_rest round_best_of run_best_of
 rest_answers b = (refl, refl, refl)
 
--- ---- what Start or Resume opened, over the plain book
+-- ---- what Start or Resume opened, beside its book
 record From (i : Inputs) (l : List Float) (r : Run) (m : List Float) (held : List ℕ) : Type 0 where
   started : NoneHolds (conditions i (length l))
   opening : Opening
@@ -277,7 +277,7 @@ module _ (i : Inputs) (l : List Float) (a : NoneHolds (conditions i (length l)))
         (trace.list_after first list cs)
     file_gives = rw (file_now cs, run_now cs, list_now cs, run_number now, ← rest_run now) (resumed_record i (past cs) f k l a)
 
-    -- ---- cut after any byte
+    -- ---- the file cut after any byte
     module _ (at : ℕ) where
       abbrev cut : List ℕ
       cut = cut_journal i (past cs) at

@@ -1,4 +1,5 @@
--- One line, and then any lines, walked against the run's record that goes with a book: the walk is the book's. Assumes nothing.
+-- The walk of a journal's lines over the run's record that goes with a book is the walk over the book: one line, and
+-- then any lines. Assumes nothing.
 use Rattle.std.proofs.Common.{ℕ, suc, ◌+◌, arith, ◌≡◌, refl, sym, ap, ◌∙◌, Bool, true, false, ◌&&◌, true≢false, List, [], ◌∷◌, le-ltb, eqb, length, take, length-append, Float, Some, None, Ok, Err}
 use Rattle.common.specs.declared.Refusal.TheVariants.{NothingScored}
 use Rattle.common.specs.Tests.{case}
@@ -46,7 +47,7 @@ module _ (i : Inputs) (b : Book) (l : List Float) (f : State i b l) (w : b.waits
   unfolding next_def
   next_over v o e = simp (next_def, run-fields, run-bests, sound_run i b f.good, w, o, e, le-ltb (length l) (demand b.inputs) f.there.long)
 
--- ---- a line beside the record is the line beside the book
+-- ---- a line is the next answer of the record exactly where it is that of the book
 abbrev is_next : Book → Line → Bool
 is_next b m = eqb m.number (number b) && eqb m.round b.round && same_reals (six m.seed) (six (current b)) && can_stand b.inputs.center (current b).sensor m.outcome
 
@@ -62,7 +63,7 @@ follows_over : (b : Book) (m : Line) → b.over ≡ true → follows b m ≡ fal
 unfolding follows
 follows_over b m o = simp o
 
--- ---- an outcome is entered, and whether its seed waits before it makes no difference
+-- ---- entering an outcome; whether the seed waits before it makes no difference
 module _ (b : Book) where
   await_inputs : (with_waiting b).inputs ≡ b.inputs
   unfolding with_waiting
@@ -93,7 +94,7 @@ module _ (i : Inputs) (b : Book) (l : List Float) (f : State i b l) (o : Outcome
       enter_list (with_waiting b) o l (await_holds b).1 ∙ ap (λ (c : Book). buffer_after (with_waiting b) c l) (await_enter b o) ∙ await_list b (book_enter b o) l in
       ap (λ (x : Run). left x entered.list) enter_ends.run ∙ ap (left (run_of (book_enter b o))) m
 
--- ---- one line: it is taken just where it follows
+-- ---- one line is taken exactly where it follows
 module _ (i : Inputs) (b : Book) (l : List Float) (f : State i b l) (w : b.waits ≡ false) (m : Line) where
   abbrev next : Book
   next = book_enter b (outcome_in m.outcome)
@@ -131,7 +132,7 @@ walk_some : (r : Run) (l : List Float) (n k : ℕ) (m : Line) (ms : List Line) (
 unfolding walk_lines
 walk_some r l n k m ms e x t = simp (walk_lines, t)
 
--- the walk over the record, where the book's is w, and the lines that it took have k bytes
+-- the walk over the record, where w is the book's walk and the lines taken have k bytes
 abbrev pub record_walk : Walked → ℕ → RunWalk
 record_walk w k = record { run = run_of w.book; list = w.list; lines = w.taken; bytes = k; stop = w.stop }
 

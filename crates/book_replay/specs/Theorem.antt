@@ -1,5 +1,6 @@
--- 02, E5 and E13: what the code does with a journal is what the plain book says; and what follows for a run and its own file, over the code's definitions alone. As
--- types: `proofs/Theorem.antt` proves them. Definitions only.
+-- What the code does with a journal is what the reference model says, and what follows for a run and its own file, over
+-- the definitions of the code alone (docs/SPECIFICATION.md, 8.6 to 8.10). As types: `proofs/Theorem.antt` proves them.
+-- Definitions only.
 use Rattle.std.specs.Prelude.{ℕ, ◌≤◌, ◌≡◌, true, false, cond, List, [], ◌∷◌, ◌++◌, length, take, Float, Result, Ok, Err}
 use Rattle.common.specs.declared.Refusal.TheVariants.{NothingScored, NotOver}
 use Rattle.common.specs.Each.{All}
@@ -35,11 +36,11 @@ use Rattle.book_journal.specs.Written.{written_along}
 use Rattle.book_journal.specs.Theorem.{Fitting}
 
 -- ---- for all inputs, lent lists and bytes
--- E5: the reply and the list
+-- Replay: the reply and the lent list
 abbrev pub ReplayIsBook : Inputs → List Float → List ℕ → Type 0
 ReplayIsBook i l bs = replay_from (start_of i l) (started_list i l) bs ≡ replay_of i l bs
 
--- E13: the run given back is the record that goes with the book, field by field
+-- Resume: the run given back is the record of the book, field by field
 abbrev pub with_record : Resumed → ResumeLeft
 with_record (resumed b m q) = record { reply = Ok (record { run = run_of b; report = q }); list = m }
 with_record (not_resumed r m) = record { reply = Err r; list = m }
@@ -51,35 +52,38 @@ ResumeIsBook i l bs = resume_from (start_of i l) (started_list i l) bs ≡ with_
 abbrev pub GivesRun : Inputs → List Float → List ℕ → Run → Report → List Float → Type 0
 GivesRun i l bs r q m = resume_from (start_of i l) (started_list i l) bs ≡ record { reply = Ok (record { run = r; report = q }); list = m }
 
--- whichever list k is lent: this run and this report
+-- the same run and the same report, whichever list k is lent
 abbrev pub WithAnyList : Inputs → List ℕ → Run → Report → Type 0
 WithAnyList i bs r q = (k : List Float) → NoneHolds (conditions i (length k)) → (resume_from (start_of i k) (started_list i k) bs).reply ≡ Ok (record { run = r; report = q })
 
--- Whatever it gives back is the record of a plain book, no seed waiting, with all that E13 says of it; and demand 3 holds of the calls that follow.
+-- Any run that Resume gives back is the record of a book with no seed waiting, with all that `GivesBack` says; and the
+-- calls that follow have all that `Continues` says.
 pub record ResumedRun (i : Inputs) (l : List Float) (bs : List ℕ) (r : Run) (q : Report) (m : List Float) : Type 0 where
   pub book : Book
   pub run_is : r ≡ run_of book
   pub gives_back : GivesBack i l bs book m q
   pub continues : (cs : List Call) → Continues i book r m cs
 
--- all is kept: n lines, which are the bytes j
+-- the report where all is kept: n lines, whose bytes are j
 abbrev pub all_kept : ℕ → List ℕ → Report
 all_kept n j = record { lines = n; kept = length j; dropped = 0; ended_by = by.Stopped AllTaken }
 
--- ---- a history of the plain book, however it was opened and whatever the calls: its journal gives back the record of the run, no seed waiting; cut after any byte,
--- the record that goes with the book of the kept lines (`CutAt.book_is`, `GoesOn.stands_there`)
+-- ---- A history of the reference model, however it was opened and whatever the calls: its journal gives back the
+-- record of the run with no seed waiting; the journal cut after any byte gives back the record of the book of the kept
+-- lines (`CutAt.book_is`, `GoesOn.stands_there`).
 abbrev pub ResumedRecord : (i : Inputs) → History i → List Float → Type 0
 ResumedRecord i h l = GivesRun i l (journal_of (book_at h)) (run_of (at_rest (book_at h))) (all_kept (number (book_at h)) (journal_of (book_at h))) (list_at h l)
 
 abbrev pub CutRecord : (i : Inputs) → History i → ℕ → List Float → Type 0
 CutRecord i h at l = GivesRun i l (cut_journal i h at) (run_of (cut_run i h at)) (report i h at l) (walked i l (cut_journal i h at)).list
 
--- ---- The same over the code's definitions alone. A run that Start or Resume opened, where l was lent: its record, its list, and the bytes of its file
+-- ---- The same over the definitions of the code alone: a run that Start or Resume opened, where l was lent, with its
+-- record, its list and the bytes of its file.
 pub data OpenedAs (i : Inputs) (l : List Float) : Run → List Float → List ℕ → Type 0 where
   by_start : (r : Run) → start_of i l ≡ Ok r → OpenedAs i l r (started_list i l) []
   by_resume : (bs : List ℕ) (r : Run) (q : Report) (m : List Float) → GivesRun i l bs r q m → OpenedAs i l r m (take q.kept bs)
 
--- a record with no seed waiting, and all else as it is
+-- the record with no seed waiting, and everything else as it is
 abbrev pub none_waiting : Run → Run
 none_waiting r = record {
   options = r.options;
@@ -92,7 +96,8 @@ none_waiting r = record {
   counts = r.counts;
 }
 
--- the reply a says how the run s, with its list n, stands: who won, that nobody did, or the seed that waits or that Next hands out
+-- The reply a says how the run s with its list n stands: its winner, 11, or the seed that waits or that Next would hand
+-- out.
 pub record StandsAs (s : Run) (n : List Float) (a : Result Standing ReplayRefusal) : Type 0 where
   pub won : (w : Candidate) → result_def s ≡ Ok w → a ≡ Ok (Winner w.number w.score)
   pub none_won : result_def s ≡ Err NothingScored → a ≡ Err (Refused NothingScored)
@@ -100,26 +105,26 @@ pub record StandsAs (s : Run) (n : List Float) (a : Result Standing ReplayRefusa
   pub comes_next : result_def s ≡ Err NotOver → s.waiting.is_waiting ≡ false
       → ((next_def s n).reply ≡ Ok (handed.Candidate s.place.number)) × (a ≡ Ok (Unfinished (next_def s n).run.waiting.seed))
 
--- the seed that waited is handed out again
+-- Next, if a seed waits, so that it is handed out again
 abbrev pub again : Run → List Call
 again s = cond s.waiting.is_waiting (next s.place.demand ∷ []) []
 
--- the run r, its list m and its file as they were opened, and the calls cs after that
+-- the run r, its list m and its file `held` as they were opened, and the calls cs after that
 module _ (i : Inputs) (l : List Float) (r : Run) (m : List Float) (held : List ℕ) (cs : List Call) where
-  -- the bytes written after each accepted Answer come behind
+  -- the bytes written after each accepted Answer come behind `held`
   abbrev pub file : List ℕ
   file = held ++ written_along r m cs
 
-  -- going on with the run s and a list o, with the rest `behind` of the calls, and kept bytes j: the replies, the run and so the winner, and the file are the uncut run's,
-  -- whose calls before were `before`
+  -- Where the run s with a list o and the kept bytes j goes on with the calls `behind`, its replies, its run, so its
+  -- winner, and its file are those of the uncut run, whose calls before were `before`.
   pub record GoesOnAs (j : List ℕ) (s : Run) (o : List Float) (before behind : List Call) : Type 0 where
     pub same_replies : let u = run_after r m before in walk (run_after s o (again u)) (list_after s o (again u)) behind ≡ walk u (list_after r m before) behind
     pub same_run : run_after s o (again (run_after r m before) ++ behind) ≡ run_after r m cs
     pub same_winner : result_def (run_after s o (again (run_after r m before) ++ behind)) ≡ result_def (run_after r m cs)
     pub same_file : j ++ written_along s o (again (run_after r m before) ++ behind) ≡ file
 
-  -- a run s and a list n given back, for the file cut at a place, with the report q, are those of the uncut run after as many answers, no seed waiting; with the rest of
-  -- the calls they come to the same end
+  -- The run s and the list n that are given back for the file cut at a place, with the report q, are those of the uncut
+  -- run after as many answers, except that no seed waits. With the rest of the calls they come to the same end.
   pub record GoesBack (at : ℕ) (q : Report) (s : Run) (n : List Float) : Type 0 where
     pub before : List Call
     pub behind : List Call
@@ -128,7 +133,7 @@ module _ (i : Inputs) (l : List Float) (r : Run) (m : List Float) (held : List �
     pub list_is : n ≡ list_after r m before
     pub same_end : run_after s n (again (run_after r m before) ++ behind) ≡ run_after r m cs
     pub same_list : list_after s n (again (run_after r m before) ++ behind) ≡ list_after r m cs
-    -- and so they do with every list k that Resume accepts, whatever stands in it: o is what Resume makes of it
+    -- and so they do with every list k that Resume accepts, whatever stands in it; o is the list that Resume leaves
     pub with_any_list : (k : List Float) → NoneHolds (conditions i (length k)) → (o : List Float) × GivesRun i k (take at file) s q o × GoesOnAs (take q.kept (take at file)) s o before behind
 
   -- what Resume gives back of the file cut after any byte
@@ -137,10 +142,10 @@ module _ (i : Inputs) (l : List Float) (r : Run) (m : List Float) (held : List �
     pub says : Report
     pub list : List Float
     pub gives_run : GivesRun i l (take at file) run says list
-    -- and whichever list is lent: the same run, the same report
+    -- and the same run and the same report, whichever list is lent
     pub any_list : WithAnyList i (take at file) run says
     pub lines_are : says.lines ≡ run.place.number
-    -- only a part of the line that the cut fell in is lost, and nothing where it fell behind a newline
+    -- only a part of the line that the cut fell in is lost, and nothing where the cut fell behind a newline
     pub part : List ℕ
     pub cut_is : take at file ≡ take says.kept file ++ part
     pub no_newline : newlines part ≡ 0
@@ -148,14 +153,15 @@ module _ (i : Inputs) (l : List Float) (r : Run) (m : List Float) (held : List �
     pub dropped_part : says.dropped ≡ length part
     pub by_nothing : part ≡ [] → says.ended_by ≡ by.Stopped AllTaken
     pub by_newline : (part ≡ [] → ⊥) → says.ended_by ≡ by.MissingNewline
-    -- and the run is what it was there, if the cut fell behind the lines that it was opened with
+    -- and where the cut fell behind the lines that the run was opened with, the run is the one that it was there
     pub goes_back : r.place.number ≤ run.place.number → GoesBack at says run list
 
   pub record OfRun : Type 0 where
-    -- E5: the file says how the run stands, whichever list k is lent; the list that was lent to the run is left as the run left it
+    -- Replay: the file says how the run stands, whichever list k is lent; the list that was lent to the run is left as
+    -- the run left it.
     pub stands : (k : List Float) → NoneHolds (conditions i (length k)) → StandsAs (run_after r m cs) (list_after r m cs) (replay_from (start_of i k) (started_list i k) file).reply
     pub same_list : (replay_from (start_of i l) (started_list i l) file).list ≡ list_after r m cs
-    -- E13: the run, but for the seed that waits, and its list come back from it, whole and cut
+    -- Resume: the run, except for the waiting seed, and its list come back from the file, whole and cut.
     pub gives_run : GivesRun i l file (none_waiting (run_after r m cs)) (all_kept (run_after r m cs).place.number file) (list_after r m cs)
     pub cut_anywhere : (at : ℕ) → CutBack at
 

@@ -1,4 +1,4 @@
--- The theorems on specs/NoDistortion.antt: what the distortion does where all five coefficients are 0. Assumes nothing.
+-- What the distortion does where all five coefficients are 0: the proof of specs/Theorem.antt. Assumes nothing.
 use Rattle.std.specs.Prelude.{◌≡◌, refl, Bool, true, false, not, cond, ◌&&◌, zero, suc, ◌*◌, T, pos, Float}
 use Rattle.std.proofs.Common.{sym, ap, ◌∙◌, arith}
 use Rattle.std.specs.Bool.{beq}
@@ -41,7 +41,7 @@ radial_nan : (b : BrownConrady5) (p : Pt2) → AllZero b → is_finite (sixth_po
 unfolding radial_factor
 radial_nan b p z f = rw (zero_times_other b.k3 (sixth_power p) z.1.1.0 f) (add_nan binary64 _)
 
--- ---- what the tangential parts multiply by 0 is a number that is not negative
+-- ---- the tangential parts multiply p1 and p2, which are 0, by numbers that are not negative
 norm_signed : (p : Pt2) → sign_bit (squared_norm p) ≡ false
 norm_signed p = sign_add binary64 (p.x *₆₄ p.x) (p.y *₆₄ p.y) (sign_square binary64 p.x) (sign_square binary64 p.y)
 
@@ -63,7 +63,7 @@ overflow = (refl, refl)
 r4_reaches : (p : Pt2) (a b : Float) → Reaches p.x a → Reaches p.y b → let n = a *₆₄ a +₆₄ b *₆₄ b in Reaches (squared_norm p *₆₄ squared_norm p) (n *₆₄ n)
 r4_reaches p a b h k = let r = squares_reach binary64 p.x p.y a b h k in mul_reaches binary64 (squared_norm p) (squared_norm p) _ _ r r
 
--- and of smaller ones what the tangential parts have doesn't overflow
+-- for coordinates of at most 2 ^ 256 the terms of the tangential parts don't overflow
 no_overflow :
     let n = large *₆₄ large +₆₄ large *₆₄ large in
     (is_finite (large *₆₄ large) ≡ true) × ((is_finite n ≡ true) × ((is_finite (two₆₄ *₆₄ large) ≡ true) × ((is_finite (two₆₄ *₆₄ large *₆₄ large) ≡ true) × (is_finite (n +₆₄ two₆₄ *₆₄ large *₆₄ large) ≡ true))))
@@ -129,7 +129,7 @@ unfolding of_bits
 either_zero true = refl
 either_zero false = refl
 
--- which zero is added matters to −0 only
+-- the sign of an added zero matters only where x is −0
 same_zero : (x : Float) → T (fits binary64 x) → (c d : Bool) → (sign_bit x ≡ true → c ≡ d) → plus_zero_unless c x ≡ plus_zero_unless d x
 unfolding sign_bit eq of_bits
 same_zero nan h c d e = refl

@@ -1,4 +1,5 @@
--- Brown's and Conrady's lens distortion, each operation rounded, in the order in which the formulas read. Definitions only.
+-- Brown's and Conrady's lens distortion, each operation rounded, in the order in which the formulas read.
+-- Definitions only.
 use Rattle.std.specs.Prelude.{Float}
 use Rattle.float.specs.Binary64.{◌+₆₄◌, ◌*₆₄◌}
 use Rattle.float.specs.Literals.{one₆₄, two₆₄, three₆₄, six₆₄}
@@ -27,7 +28,7 @@ tangential_x b p = two₆₄ *₆₄ b.p1 *₆₄ p.x *₆₄ p.y +₆₄ b.p2 *
 unfoldable pub tangential_y : BrownConrady5 → Pt2 → Float
 tangential_y b p = b.p1 *₆₄ (squared_norm p +₆₄ two₆₄ *₆₄ p.y *₆₄ p.y) +₆₄ two₆₄ *₆₄ b.p2 *₆₄ p.x *₆₄ p.y
 
--- the three together, as the code hands them on
+-- the three together, as the code passes them on
 abbrev pub terms : BrownConrady5 → Pt2 → Terms
 terms b p = record { radial = radial_factor b p; x_tan = tangential_x b p; y_tan = tangential_y b p }
 
@@ -53,7 +54,8 @@ radial_derivative b p =
     let r4 = r2 *₆₄ r2 in
     b.k1 +₆₄ two₆₄ *₆₄ b.k2 *₆₄ r2 +₆₄ three₆₄ *₆₄ b.k3 *₆₄ r4
 
--- of x by x, of either coordinate by the other, and of y by y, from the radial factor r and its derivative d
+-- the derivatives of x by x, of either coordinate by the other, and of y by y, from the radial factor r and its
+-- derivative d
 abbrev pub derivatives : BrownConrady5 → Pt2 → Float → Float → Jacobian
 derivatives b p r d =
     let x = p.x in

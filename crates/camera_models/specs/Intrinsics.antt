@@ -1,4 +1,5 @@
--- The pinhole's intrinsics: from a pixel to the sensor's coordinates and back, each operation rounded. Definitions only.
+-- The pinhole's intrinsics: from a pixel to the sensor's coordinates and back, each operation rounded.
+-- Definitions only.
 use Rattle.float.specs.Binary64.{◌+₆₄◌, ◌-₆₄◌, ◌*₆₄◌, ◌/₆₄◌}
 use Rattle.camera_models.specs.declared.math.Pt2.{Pt2}
 use Rattle.camera_models.specs.declared.intrinsics.FxFyCxCy.{FxFyCxCy}

@@ -19,11 +19,13 @@ AllZero b = (eq b.k1 plus_zero ≡ true) × ((eq b.k2 plus_zero ≡ true) × ((e
 abbrev pub sixth_power : Pt2 → Float
 sixth_power p = squared_norm p *₆₄ squared_norm p *₆₄ squared_norm p
 
--- Whether a coordinate of −0 stays −0: its own tangential coefficient, p2 of x and p1 of y, is −0, and the other coefficient has the other coordinate's sign.
+-- Whether a coordinate of −0 stays −0: its own tangential coefficient, p2 for x and p1 for y, is −0, and the other
+-- coefficient has the other coordinate's sign.
 abbrev pub keeps_minus : (own other otherCoordinate : Float) → Bool
 keeps_minus own other w = sign_bit own && beq (sign_bit other) (sign_bit w)
 
--- While r6 is finite, the point itself, but a coordinate of −0 becomes +0 unless it stays. Where r6 overflows or a coordinate is no number, both are NaN.
+-- Where r6 is finite, the point itself, but a coordinate of −0 becomes +0 unless `keeps_minus` says that it stays.
+-- Where r6 isn't finite, so where it overflows or a coordinate isn't finite, both coordinates are NaN.
 abbrev pub without_distortion : BrownConrady5 → Pt2 → Pt2
 without_distortion b p =
     cond (is_finite (sixth_power p))

@@ -1,4 +1,5 @@
--- What the distortion does where all five coefficients are 0, as a type. `proofs/NoDistortion.antt` proves it. Definitions only.
+-- What the distortion does where all five coefficients are 0, as a type. `proofs/NoDistortion.antt` proves it.
+-- Definitions only.
 use Rattle.std.specs.Prelude.{◌≡◌, T}
 use Rattle.std.specs.Float.Ieee.{binary64, fits}
 use Rattle.camera_models.specs.Distortion.{distorted}

@@ -42,8 +42,7 @@ struct Terms {
     y_tan: f64,
 }
 
-// Kept: functions and no methods, here and below: the published Rust has functions by the names `brown_conrady_terms` and
-// `radial_tangential_jacobian`, and a method only moves the lens: `b.distort(p)` for `distort(b, p)`, which goes with `pixel_to_sensor(k, p)`.
+// A function and no method, here and below, since the published Rust has functions of these names.
 #[tactic(auto, unfolding(crate::specs::Distortion::radial_factor, crate::specs::Distortion::tangential_x, crate::specs::Distortion::tangential_y))]
 fn brown_conrady_terms(b: BrownConrady5, p: Pt2) -> Terms
     ensures { result ≡ terms b p }

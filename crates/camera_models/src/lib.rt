@@ -1,4 +1,4 @@
-// A point of the plane, the camera without lens and tilt, and the lens distortion.
+// A point of the plane, the intrinsics, and the lens distortion.
 
 #![tactic(auto)]
 

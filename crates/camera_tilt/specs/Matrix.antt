@@ -1,5 +1,5 @@
--- Matrices of three rows of three numbers: product, determinant and cofactor inverse, each operation rounded. Definitions only.
--- Each is given by its entry at row i and column j.
+-- Matrices of three rows of three numbers: product, determinant and cofactor inverse. Products and inverses are given
+-- by their element at row i and column j. Each operation is rounded. Definitions only.
 use Rattle.std.specs.Prelude.{ℕ, ◌+◌, ◌%◌, cond, List, [], ◌∷◌, map, eqb, get_or, Float}
 use Rattle.std.specs.Float.{nan}
 use Rattle.std.specs.Float.Ieee.{neg}
@@ -8,11 +8,11 @@ use Rattle.float.specs.Binary64.{◌+₆₄◌, ◌-₆₄◌, ◌*₆₄◌, �
 abbrev pub Matrix : Type 0
 Matrix = List (List Float)
 
--- the entry at row i and column j
+-- the element at row i and column j
 abbrev pub at : Matrix → ℕ → ℕ → Float
 at m i j = get_or (get_or m i []) j nan
 
--- the row of f's three values, and the matrix whose entry at i and j is f i j
+-- the row of f's three values, and the matrix whose element at i and j is f i j
 abbrev pub row_of : (ℕ → Float) → List Float
 row_of f = map f (0 ∷ 1 ∷ 2 ∷ [])
 
@@ -41,11 +41,11 @@ second_other i = cond (eqb i 2) 1 2
 abbrev pub determinant2_of : Matrix → ℕ → ℕ → ℕ → ℕ → Float
 determinant2_of m r0 r1 c0 c1 = at m r0 c0 *₆₄ at m r1 c1 -₆₄ at m r0 c1 *₆₄ at m r1 c0
 
--- what is left without row i and column j
+-- the determinant of what is left without row i and column j
 unfoldable pub minor_of : Matrix → ℕ → ℕ → Float
 minor_of m i j = determinant2_of m (first_other i) (second_other i) (first_other j) (second_other j)
 
--- the minor, negated at odd places
+-- the minor, negated where i + j is odd
 unfoldable pub cofactor_of : Matrix → ℕ → ℕ → Float
 cofactor_of m i j = cond (eqb ((i + j) % 2) 0) (minor_of m i j) (neg (minor_of m i j))
 

@@ -1,4 +1,5 @@
--- The tilted sensor: OpenCV's homography of two tilts, its verdict, and a point under a homography and under an inverse. Definitions only.
+-- The tilted sensor: OpenCV's homography of two tilts, its verdict, and a point under a homography and under an
+-- inverse. Definitions only.
 use Rattle.std.specs.Prelude.{ℕ, Bool, cond, List, [], ◌∷◌, get_or, Float, Result, Ok, Err, ⊤}
 use Rattle.std.specs.Float.{nan}
 use Rattle.std.specs.Float.Ieee.{neg, lt, eq}
@@ -34,7 +35,7 @@ is_singular h = eq (determinant_of h) plus_zero
 abbrev pub tilt_verdict : Matrix → Result ⊤ Refusal
 tilt_verdict h = first_refusal ((SingularTilt when is_singular h) ∷ [])
 
--- the inverse, of a matrix that the verdict lets pass
+-- the inverse of a matrix, unless the verdict refuses it
 abbrev pub checked_inverse : Matrix → Result Matrix Refusal
 checked_inverse h = elim (tilt_verdict h) [ Ok _ ↦ Ok (inverse_of h) | Err r ↦ Err r ]
 
@@ -45,7 +46,7 @@ row_at row p = get_or row 0 nan *₆₄ p.x +₆₄ get_or row 1 nan *₆₄ p.y
 abbrev pub homogeneous : Matrix → Pt2 → ℕ → Float
 homogeneous h p i = row_at (get_or h i []) p
 
--- what the first two coordinates are divided by: forward z only above 1e-12, and for the inverse z whose magnitude is above it
+-- what the first two coordinates are divided by: z where z, or for an inverse its magnitude, is above 1e-12, else 1e-12
 unfoldable pub forward_depth : Float → Float
 forward_depth z = cond (lt tiny z) z tiny
 

@@ -1,4 +1,5 @@
--- The verdict's number: 15 where the determinant equals 0, and otherwise none. Assumes nothing.
+-- The number of the verdict on a tilt: 15 where the determinant equals 0, and otherwise 0, for no refusal.
+-- Assumes nothing.
 use Rattle.std.specs.Prelude.{◌≡◌, refl, ℕ, Bool, true, false, cond, [], ◌∷◌, Result, Ok, Err, ⊤}
 use Rattle.common.specs.Checks.{◌when◌, first_refusal}
 use Rattle.common.specs.Number.{number_of}

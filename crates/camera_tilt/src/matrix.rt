@@ -1,14 +1,13 @@
-// Matrices of three rows and columns: product, determinant, cofactor inverse.
-// Each function equals its formula, rounded operation by operation, for every input.
-// Kept: the three entries of a row, and the inverse's three rows, are written out: in `[0, 1, 2].map(|i| inverse_row(m, i))` the closure would have
-// to say again, by a `requires`, that i is below 3, and a proof would follow that `map` calls it with such an i alone. Three calls need neither.
-// Kept: the index of a column or a cofactor is a plain number below 3: as a type of its own it would be made from a literal at each call, and taken apart at each read.
+// Matrices of three rows and columns: product, determinant, cofactor inverse. Each function equals its formula, rounded
+// operation by operation, for every input. The three elements of a row and the inverse's three rows are written out,
+// since a closure for `map` would need its own proof that the index is below 3. An index is a plain number below 3,
+// since a type of its own would be made of a literal at each call and taken apart at each read.
 
 ghost use Rattle.std.specs.Prelude.{◌≡◌, ◌<◌};
 ghost use Rattle.float.specs.Binary64.{◌*₆₄◌};
 ghost use Rattle.camera_tilt.specs.Matrix.{at, row_product, product_of, first_other, second_other, determinant2_of, minor_of, cofactor_of, determinant_of, inverse_entry, inverse_of, row_of};
 
-// The entry at row i and column j.
+// The element at row i and column j.
 pub fn entry(m: [[f64; 3]; 3], i: usize, j: usize) -> f64
     requires { (i < 3) × (j < 3) }
     ensures { result ≡ at m i j }
@@ -34,8 +33,7 @@ fn product_row(row: [f64; 3], b: [[f64; 3]; 3]) -> [f64; 3]
     ]
 }
 
-// Kept: the three rows are written out: `map` over them was tried, and the proof didn't close: what its closure ensures holds of rows of
-// length 3, and no lemma says that the array's rows have it.
+// The three rows are written out, since a proof with `map` would need that each row of the array has length 3.
 #[tactic(auto, unfolding(crate::specs::Matrix::product_of))]
 pub fn product(a: [[f64; 3]; 3], b: [[f64; 3]; 3]) -> [[f64; 3]; 3]
     ensures { result ≡ product_of a b }
@@ -92,7 +90,7 @@ fn cofactor(m: [[f64; 3]; 3], i: usize, j: usize) -> f64
     if (i + j) % 2 == 0 { value } else { -value }
 }
 
-// The entry of the first row in column j, times its minor.
+// The element of the first row in column j, times its minor.
 fn expansion_term(m: [[f64; 3]; 3], j: usize) -> f64
     requires { j < 3 }
     ensures { result ≡ at m 0 j *₆₄ minor_of m 0 j }

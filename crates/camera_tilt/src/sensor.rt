@@ -1,4 +1,4 @@
-// The tilted (Scheimpflug) sensor: its homography, whether it has an inverse, and a point under each.
+// The tilted (Scheimpflug) sensor: its homography, whether that has an inverse, and a point under each of the two.
 // Each function equals its formula, rounded operation by operation, for every input.
 
 ghost use Rattle.std.specs.Prelude.{◌≡◌, Float};

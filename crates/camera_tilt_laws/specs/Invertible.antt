@@ -1,5 +1,5 @@
--- With our own sine and cosine of two tilts, each at most 0.5 in size, the determinant of the tilted sensor's matrix is above 0.5: no such tilt is refused.
--- Assumes nothing.
+-- With the sines and cosines of `float_series` for two tilts of at most 0.5 in size, the determinant of the tilted
+-- sensor's matrix is above 0.5, so no such tilt is refused. Assumes nothing.
 use Rattle.std.specs.Prelude.{◌≡◌, refl, Bool, true, false, ℕ, ◌+◌, ◌*◌, ◌^◌, ◌≤◌, ◌<◌, ℤ, Float, Ok}
 use Rattle.std.proofs.Common.{◌∙◌, sym, true≢false, zero-mul, mul-zero, mul-le-mul, mul-le-mul_right, mul-pos, lt_of_mul-lt-mul_right, arith, ltb-true, lt-ltb, ne_eqb}
 use Rattle.std.specs.Float.{nan, inf, fin}
@@ -32,7 +32,7 @@ times {k} {l} {i} {j} {x} {y} g h = record {
   large = rw (g.plain, zero-mul y.minus) (let m = mul-le-mul g.large h.large in simp flat (simp flat at m));
 }
 
--- ---- the diagonal's first two entries: a cosine times the sum of the other tilt's squares
+-- ---- the diagonal's first two elements: a cosine times the sum of the other tilt's squares
 module _ (a u b v c w : ℕ) (o : 0 < u) (p : 0 < v) (q : 0 < w) (l : 111 * w ≤ 128 * c) (t : Turned b v a u) where
   large_of : 3441 * (w * (u * v * (u * v)) * w) ≤ 4096 * (c * (a * v * (a * v) + b * u * (b * u)) * w)
   large_of = let m = mul-le-mul_right w (mul-le-mul l t.squares) in simp flat (omega (arith, simp flat at m))
@@ -54,7 +54,7 @@ diagonal r s a u b v c w d x o p q i t k =
     let g = times (first_entry a u b v c w o p q k.cosine_large t s) (times (second_entry c w d x a u q i o t.cosine_large k r) (times (cosine o t.cosine_large) (cosine q k.cosine_large))) in
     record { some = g.some; plain = g.plain; large = omega (arith, g.large) }
 
--- ---- a number near to it is above 0.5
+-- ---- a number near to that product is above 0.5
 above : (v c P D : ℕ) → 0 < c → 0 < D → 33 * D ≤ 64 * P → 2 ^ 53 * (P * c) ≤ 2 ^ 53 * (v * D) + 10000 * (D * c) → c < 2 * v
 above v c P D o p h n =
     lt_of_mul-lt-mul_right D (simp ring (linear (P * c) (c * D) (v * D) (simp ring (simp ring at (mul-le-mul_right c h))) (simp ring (simp ring at n)) (mul-pos o p)))
@@ -77,7 +77,7 @@ above_half_of (within {s = s} {m = m} {e = e} {y = X} n) l = go s n
         let k : down e < 2 * 0 = above 0 (down e) X.plus X.den (down_pos e) l.some l.large (omega (arith, n.low, z)) in
         absurd (omega arith)
 
--- what is above 0.5 is not 0
+-- a number above 0.5 is not 0
 not_zero : (x : Float) → lt half₆₄ x ≡ true → eq x plus_zero ≡ false
 unfolding lt eq of_bits
 not_zero nan h = absurd (true≢false (sym h))

@@ -1,5 +1,5 @@
--- The tilted sensor's matrix from numbers that are known up to a small error: its entries, and its determinant. Assumes nothing.
--- The exact numbers: A and B are the cosines about the two axes, P and Q the sines.
+-- The tilted sensor's matrix from numbers that are known up to a small error: its elements, and its determinant.
+-- Assumes nothing. The exact numbers: A and B are the cosines about the two axes, P and Q the sines.
 use Rattle.std.specs.Prelude.{◌≡◌, false, [], ◌∷◌, ℕ, ◌+◌, ◌*◌, ◌^◌, T, Float}
 use Rattle.std.proofs.Common.{sym, ap, ◌∙◌, subst, add_assoc, add_comm, add-zero, zero-add, add-mul, mul_assoc, mul_comm, mul_left_comm, mul-one, zero-mul, arith}
 use Rattle.std.proofs.Math.Nat.{add_left_comm}

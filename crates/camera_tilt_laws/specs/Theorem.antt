@@ -1,4 +1,4 @@
--- Taken tilts have an inverse, as a type. `specs/Invertible.antt` proves it. Definitions only.
+-- Tilts of at most 0.5 have an inverse, as a type. `specs/Invertible.antt` proves it. Definitions only.
 use Rattle.std.specs.Prelude.{◌≡◌, true, false, Float, Ok}
 use Rattle.std.specs.Float.Ieee.{lt}
 use Rattle.float.specs.Literals.{half₆₄}
@@ -7,7 +7,7 @@ use Rattle.camera_tilt.specs.Sensor.{tilt_projection_matrix, tilt_verdict}
 use Rattle.float_series.specs.Series.{sines, cosines, series_of}
 use Rattle.float_series.specs.Answer.{beyond_half}
 
--- the matrix of two tilts, with our own sines and cosines
+-- the matrix of two tilts, with the sines and cosines of `float_series`
 abbrev pub tilted : Float → Float → Matrix
 tilted x y = tilt_projection_matrix (record { sin_x = series_of sines x; cos_x = series_of cosines x; sin_y = series_of sines y; cos_y = series_of cosines y })
 

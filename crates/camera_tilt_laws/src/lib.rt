@@ -1,4 +1,5 @@
-// The matrix of a tilted sensor, made of our own sines and cosines, is never singular. There is no code here: see specs/.
+// The matrix of a sensor tilted by at most 0.5, made of the sines and cosines of `float_series`, is never singular.
+// There is no code here: see specs/.
 
 #![tactic(auto)]
 

@@ -1,5 +1,6 @@
--- The squared length of `distorted b p - target` falls strictly along the points that undistortion accepts, from the target on; the reply is the last Newton step
--- from the last of them. Of that step itself nothing is claimed: no trial looks at it. Assumes nothing.
+-- The squared length of `distorted b p - target` falls strictly along the points that undistortion accepts, from the
+-- target on; the reply is the last Newton step from the last of them. Nothing is claimed of that step itself, since no
+-- trial checks it. Assumes nothing.
 use Rattle.std.specs.Prelude.{◌≡◌, Bool, true, false, cond, List, Option, Some, None}
 use Rattle.std.proofs.Math.Path.{refl}
 use Rattle.std.proofs.Common.{sym, ap, subst}
@@ -64,7 +65,7 @@ module _ (b : BrownConrady5) (target : Pt2) where
       or_ended (eq (squared_residual e) plus_zero) p _
       (or_ended (singular e.jacobian) p _ (after p _ (found 30 p (newton_step e))))
 
-  -- ---- so they fall, whatever the number of turns
+  -- ---- so the squared lengths fall, for any number of turns
   following : (p : Pt2) (t : Turn) (more : Estimate → List Pt2) → Taken p t → ((q : Pt2) → Falling b target q (more (estimate_at b target q))) → Falling b target p (follow t more)
   following p Ended more h f = tt
   following p (Last next) more h f = (h.1, tt)
@@ -75,7 +76,7 @@ module _ (b : BrownConrady5) (target : Pt2) where
   falls zero p = tt
   falls (suc n) p = following p (newton_turn b target (estimate_at b target p)) (accepted_from n b target) (taken p) (falls n)
 
-  -- ---- and the method ends at the last of them
+  -- ---- and the turns end at the last accepted point
   ends_at : (p : Pt2) (t : Turn) (more : Estimate → Estimate) (rest : Estimate → List Pt2) → Taken p t
       → ((q : Pt2) → more (estimate_at b target q) ≡ estimate_at b target (last_of q (rest (estimate_at b target q))))
       → then_by (estimate_at b target p) t more ≡ estimate_at b target (last_of p (follow t rest))

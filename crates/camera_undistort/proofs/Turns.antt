@@ -1,4 +1,4 @@
--- What one trial and one turn find, and what they leave to the others. Assumes nothing.
+-- How the trials and the turns go on after one of them, and how they end. Assumes nothing.
 use Rattle.std.proofs.Common.{◌≡◌, refl, sym, true, false, ℕ, zero, suc, Some, None}
 use Rattle.camera_models.specs.Math.{minus_point}
 use Rattle.camera_undistort.specs.Undistortion.{estimate_at, halved, improves, trials, newton_turn, newton}

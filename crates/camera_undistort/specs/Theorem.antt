@@ -1,5 +1,6 @@
--- What undistortion does, as a type: the squared length of `distorted b p - target` falls strictly along the points that it accepts, from the target on, and the reply is
--- the last Newton step from the last of them. `proofs/Descent.antt` proves it. Definitions only.
+-- What undistortion does, as a type: the squared length of `distorted b p - target` falls strictly along the points
+-- that it accepts, from the target on, and the reply is the last Newton step from the last of them.
+-- `proofs/Descent.antt` proves it. Definitions only.
 use Rattle.std.specs.Prelude.{◌≡◌, true, cond, List, [], ◌∷◌, eqb, Float}
 use Prim.Native.Nat.{ℕ, zero, suc}
 use Rattle.std.specs.Float.Ieee.{lt}

@@ -71,7 +71,7 @@ newton_turn b target e =
     (cond (singular e.jacobian) Ended
     (after_trials (trials 30 b target e (newton_step e))))
 
--- where the method stands after a turn from e, and after more of them
+-- the present estimate after a turn from e, and then after more turns
 abbrev pub then_by : Estimate → Turn → (Estimate → Estimate) → Estimate
 then_by e Ended more = e
 then_by e (Last next) more = next

@@ -40,7 +40,7 @@ impl Estimate {
         float::is_finite(lower) && lower < e.error.squared_norm()
     }
 
-    // One Newton step more, which the turns' tests do not see.
+    // One Newton step more, which no trial checks.
     #[tactic(auto, unfolding(crate::specs::Undistortion::last_step))]
     fn last_step(self) -> Pt2
         ensures { result ≡ last_step self }
@@ -59,9 +59,8 @@ pub struct Trial {
     pub step: Pt2,
 }
 
-// What a turn of Newton's method accepts: nothing, the last estimate, or one that another turn follows.
-// Kept: the three by name. A ControlFlow has two cases: its Break would hold the last estimate, which after a turn that accepts nothing is
-// the caller's own, so `after_trials`, which needs no estimate but the trial's, would take that one along and return it.
+// What a turn of Newton's method accepts: nothing, the last estimate, or one that another turn follows. It is no
+// `ControlFlow`, since after a turn that accepts nothing there is no new estimate for its `Break` to hold.
 #[derive(Clone, Copy)]
 pub enum Turn {
     Ended,
@@ -69,7 +68,7 @@ pub enum Turn {
     Further(Estimate),
 }
 
-// The point is sought whose distortion by the lens is the target.
+// The search for the point whose distortion by the lens is the target.
 #[derive(Clone, Copy)]
 pub struct Inversion {
     pub lens: BrownConrady5,
@@ -189,10 +188,8 @@ fn after_trials(found: Option<Trial>) -> Turn
     }
 }
 
-// The same with its numbers one by one. These travel in registers; structs would be stored here and read there at once in other
-// pieces, for which the processor waits.
-// Kept: as structs these miss the bar, which is the old form's own time: the benchmark's undistort, on one machine and with the forms in turns,
-// takes 336 ns with the numbers, as it did before, and 351 ns with structs.
+// `undistort` with each number as an argument of its own. Such arguments are passed in registers; structs would be
+// stored by the caller and read at once in other pieces, for which the processor waits (docs/SPEED.md).
 fn undistort_numbers(
     k1: f64,
     k2: f64,
@@ -218,8 +215,7 @@ pub fn undistort(b: BrownConrady5, iters: u32, n_dist: Pt2) -> Pt2
     ensures { result ≡ undistorted b iters n_dist }
 {
     let Pt2 { x, y } = n_dist;
-    // Kept: two calls. With one alone the compiler would put the numbers' function in here, and callers would hand over structs after all:
-    // 351 ns, measured as above.
+    // Two calls, since the compiler would inline a single one, and callers would pass structs after all.
     if iters == 0 {
         return undistort_numbers(b.k1, b.k2, b.k3, b.p1, b.p2, x, y, 20);
     }

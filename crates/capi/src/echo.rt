@@ -1,5 +1,5 @@
-// Each struct as it came: a caller in another language tests with these that both sides lay a struct out alike.
-// Kept: C has no generic functions, and the header names each of these: one function for each struct.
+// Each function returns its struct as it came. With these a caller in another language tests that both sides lay the
+// struct out alike. C has no generic functions, so there is one for each struct.
 ghost use Rattle.std.specs.Prelude.{◌≡◌};
 
 use camera_models::distortion::{BrownConrady5, DistortedPoint, Jacobian};

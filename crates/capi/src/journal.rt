@@ -1,4 +1,4 @@
-// The journal: a line written to a lent buffer, and read from a place; and the report of a run's counts.
+// The journal: a line written to a lent buffer, a line read at a place, and the report of a run's counts.
 ghost use Rattle.std.specs.Prelude.{◌≡◌};
 ghost use Rattle.journal_line.specs.Reading.{read_line};
 ghost use Rattle.journal_line.specs.Report.{report_reply, report_into};
@@ -9,7 +9,7 @@ use common::Refusal;
 use journal_bytes::{report, writing};
 use journal_line::{Counts, Line};
 
-// The line of a record, written; a record that is no line is refused before anything is.
+// Writes the line of a record. A record that is no line is refused before anything is written.
 fn write_record(flat: LineRecord, to: &mut [u8]) -> Result<usize, Refusal>
     ensures reply { result ≡ record_reply flat to.old }
     ensures written { to.new ≡ record_into flat to.old }
@@ -18,7 +18,7 @@ fn write_record(flat: LineRecord, to: &mut [u8]) -> Result<usize, Refusal>
     writing::write_line(line, to)
 }
 
-// The line's bytes at the front of `to`; 0 and how many, or 28.
+// Writes the line's bytes to the front of `to`: 0 and how many they are, or 28.
 #[unsafe(no_mangle)]
 pub extern "C" fn jc_write_line(line: LineRecord, to: &mut [u8]) -> WriteReply
     ensures reply { result ≡ flat_written (record_reply line to.old) }
@@ -27,7 +27,7 @@ pub extern "C" fn jc_write_line(line: LineRecord, to: &mut [u8]) -> WriteReply
     write_record(line, to).into()
 }
 
-// The line at a place of a journal; or its end; or 29.
+// Reads the line at a place of a journal: the line, or the end, or 29.
 #[unsafe(no_mangle)]
 pub extern "C" fn jc_read_line(bytes: &[u8], at: usize) -> ReadReply
     ensures { result ≡ flat_read (read_line bytes.now at) at }
@@ -35,7 +35,7 @@ pub extern "C" fn jc_read_line(bytes: &[u8], at: usize) -> ReadReply
     read_reply(journal_reader::read_at(bytes, at), at)
 }
 
-// The report's bytes at the front of `to`; 0 and how many, or 28.
+// Writes the report's bytes to the front of `to`: 0 and how many they are, or 28.
 #[unsafe(no_mangle)]
 pub extern "C" fn jc_write_report(counts: Counts, to: &mut [u8]) -> WriteReply
     ensures reply { result ≡ flat_written (report_reply counts to.old) }

@@ -1,6 +1,7 @@
-// The functions that other languages call, under C's names and types: every operation and entry point, with numbers, structs of numbers
-// and slices (a pointer and a length). Each contract is an equation with the definition that it exports; an enum becomes 01's or 02's numbers, and a
-// value that a refusal leaves out is 0. A flag is a byte, 0 or not 0. include/jinnychair.h declares them.
+// The functions that other languages call, under C's names and types: every operation and entry point, with numbers,
+// structs of numbers and slices (a pointer and a length). Each contract is an equation with the definition that is
+// exported. An enum becomes a number, a value that a refusal leaves out is 0, and a flag is a byte, 0 or not 0.
+// include/jinnychair.h declares the functions.
 
 #![tactic(auto)]
 

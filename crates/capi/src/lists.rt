@@ -16,8 +16,7 @@ use point_homography::Pairs;
 use point_maps::{centre, maps};
 use score_camera::pinhole::PinholeCamera;
 
-// The pixels of a sensor that is not tilted, at the front of `to`; 0, or 17, 18 or 15.
-// Kept: the header's type: a refusal is handed to C as its number.
+// Writes the pixels of a sensor that isn't tilted to the front of `to`: 0, or 17, 18 or 15.
 #[unsafe(no_mangle)]
 pub extern "C" fn jc_untilt_points(
     k: FxFyCxCy,
@@ -31,8 +30,7 @@ pub extern "C" fn jc_untilt_points(
     refusal_number(maps::untilt_points(k, trig, points, to))
 }
 
-// The pixels of a camera with neither tilt nor distortion, at the front of `to`; 0, or 17, 18 or 15.
-// Kept: the header's type: a refusal is handed to C as its number.
+// Writes the pixels of a camera with neither tilt nor distortion to the front of `to`: 0, or 17, 18 or 15.
 #[unsafe(no_mangle)]
 pub extern "C" fn jc_ideal_points(
     camera: PinholeCamera,
@@ -47,7 +45,7 @@ pub extern "C" fn jc_ideal_points(
     refusal_number(maps::ideal_points(camera.k, camera.dist, iters, trig, points, to))
 }
 
-// The normalised points at the front of `to`, and the transform.
+// Writes the normalised points to the front of `to`, and returns the transform.
 #[unsafe(no_mangle)]
 pub extern "C" fn jc_normalize_points_2d(points: &[f64], to: &mut [f64]) -> NormalizeReply
     ensures reply { result ≡ flat_normalized (normalize_reply points.now (length to.old)) }
@@ -63,8 +61,7 @@ pub extern "C" fn jc_points_are_collinear(points: &[f64]) -> LineReply
     point_homography::points_are_collinear(points).into()
 }
 
-// The design rows at the front of `to`, 18 numbers a point; 0, or 17, 18 or 20 to 25.
-// Kept: the header's type: a refusal is handed to C as its number.
+// Writes the design rows to the front of `to`, 18 numbers a point: 0, or 17, 18 or 20 to 25.
 #[unsafe(no_mangle)]
 pub extern "C" fn jc_design_rows(source: &[f64], destination: &[f64], to: &mut [f64]) -> u8
     ensures number { result ≡ refusal_number (rows_reply source.now destination.now (length to.old)) }

@@ -1,4 +1,5 @@
-// A journal run again without a host, and a run that goes on from a journal: both take what Start takes, and the journal's bytes.
+// A journal run again without a host, and a run that goes on from a journal: both take what Start takes, and the bytes
+// of the journal. C lends each list by itself, so each function has nine parameters.
 ghost use Rattle.std.specs.Prelude.{◌≡◌};
 ghost use Rattle.journal_replay.specs.Replay.{replay_def};
 ghost use Rattle.journal_replay.specs.Resume.{resume_def};
@@ -13,8 +14,7 @@ use journal_replay::replay::replay;
 use journal_replay::resume::resume;
 use search_start::Inputs;
 
-// Replay: who won, or what comes next, and the list as the lines leave it.
-// Kept: C lends each list apart, the journal's bytes too, and the header has these nine parameters.
+// Replay: the winner or the seed that comes next, and the lent list as the lines leave it.
 #[unsafe(no_mangle)]
 pub extern "C" fn jc_replay(
     views: usize,
@@ -42,8 +42,7 @@ pub extern "C" fn jc_replay(
     replay(inputs, bytes, list).into()
 }
 
-// Resume: the run and the list as the kept lines leave them, and what was kept.
-// Kept: C lends each list apart, the journal's bytes too, and the header has these nine parameters.
+// Resume: the run and the lent list as the kept lines leave them, and what was kept.
 #[unsafe(no_mangle)]
 pub extern "C" fn jc_resume(
     views: usize,

@@ -1,4 +1,5 @@
-// The search: Start, Next, the seed call, Answer, Result, the progress call, the stop call, the last line and the counts over the run's record; and the winner of two stretches. The caller keeps the record that a call returns and hands it to the next.
+// The search: Start and the calls over the run's record, and the winner of two stretches. The caller keeps the record
+// that a call returns, and hands it to the next call.
 ghost use Rattle.std.specs.Prelude.{◌≡◌};
 ghost use Rattle.search_start.specs.Start.{start_reply, start_list};
 ghost use Rattle.search_calls.specs.Next.{next_def, seed_part};
@@ -23,8 +24,7 @@ use score_camera::pinhole::PinholeCamera;
 use search_calls::progress::ProgressReply;
 use search_start::{Inputs, start};
 
-// Start: round 0's list is written to the front of `list`.
-// Kept: C lends each list apart, and the header has these eight parameters.
+// Start: writes round 0's list to the front of `list`. C lends each list by itself, so there are eight parameters.
 #[unsafe(no_mangle)]
 pub extern "C" fn jc_start(
     views: usize,
@@ -59,7 +59,8 @@ pub extern "C" fn jc_next(run: RunRecord, list: &[f64]) -> NextFlat
     search_calls::next::next(run.into(), list).into()
 }
 
-// The seed call: the waiting seed's six numbers are copied to the front of `to`. How many were copied: 6, or 0 where none waits, or the list or `to` is too short.
+// The seed call: copies the waiting seed's six numbers to the front of `to`. Returns how many were copied: 6, or 0
+// where no seed waits, or where the list or `to` is too short.
 #[unsafe(no_mangle)]
 pub extern "C" fn jc_seed(run: RunRecord, list: &[f64], to: &mut [f64]) -> usize
     ensures count { result ≡ copy_count (seed_part (run_from run) list.now) to.old }
@@ -68,8 +69,8 @@ pub extern "C" fn jc_seed(run: RunRecord, list: &[f64], to: &mut [f64]) -> usize
     copy_part(search_calls::next::seed(run.into(), list), to)
 }
 
-// Answer: Failed where `is_solved` is 0, else Solved. A round's last one writes the next list to the front of `list`.
-// Kept: the flag is the header's type: C hands a finding over as a byte and a camera.
+// Answer: the finding is Failed where `is_solved` is 0, else Solved, since C has no value for Failed alone. The answer
+// to a round's last seed writes the next list to the front of `list`.
 #[unsafe(no_mangle)]
 pub extern "C" fn jc_answer(
     run: RunRecord,
@@ -85,7 +86,7 @@ pub extern "C" fn jc_answer(
     search_answer::answer(run.into(), finding_of(is_solved, solved), rows, flags, list).into()
 }
 
-// Result: the run's best, once it is over.
+// Result: the run's best, once the run is over.
 #[unsafe(no_mangle)]
 pub extern "C" fn jc_result(run: RunRecord) -> ResultFlat
     ensures { result ≡ flat_result (result_def (run_from run)) }
@@ -93,7 +94,7 @@ pub extern "C" fn jc_result(run: RunRecord) -> ResultFlat
     search_calls::result::result(run.into()).into()
 }
 
-// The progress call: how far the run has come.
+// Progress: how far the run has come.
 #[unsafe(no_mangle)]
 pub extern "C" fn jc_progress(run: RunRecord) -> ProgressReply
     ensures { result ≡ progress_def (run_from run) }
@@ -101,7 +102,7 @@ pub extern "C" fn jc_progress(run: RunRecord) -> ProgressReply
     search_calls::progress::progress(run.into())
 }
 
-// The stop call: the best so far, and how much this round could still gain.
+// Stop: the best so far, and whether this round could gain anything.
 #[unsafe(no_mangle)]
 pub extern "C" fn jc_stop(run: RunRecord, list: &[f64]) -> StopFlat
     ensures { result ≡ flat_stopped (stop_def (run_from run) list.now) }
@@ -109,7 +110,7 @@ pub extern "C" fn jc_stop(run: RunRecord, list: &[f64]) -> StopFlat
     search_calls::stop::stop(run.into(), list).into()
 }
 
-// The last answered candidate's line, or nothing before the first answer.
+// The last entry's line, or nothing before the first answer.
 #[unsafe(no_mangle)]
 pub extern "C" fn jc_last_line(run: RunRecord) -> LastRecord
     ensures { result ≡ flat_last_line (last_def (run_from run)) }
@@ -125,7 +126,7 @@ pub extern "C" fn jc_counts(run: RunRecord) -> Counts
     search_calls::counts::counts(run.into())
 }
 
-// 02, E14: the winner of two stretches of candidates, the earlier one first.
+// The winner of two stretches of a run's entries, the earlier stretch first.
 #[unsafe(no_mangle)]
 pub extern "C" fn jc_winner(first: BestRecord, second: BestRecord) -> BestRecord
     ensures { result ≡ flat_best (winner_of_bests (best_from first) (best_from second)) }

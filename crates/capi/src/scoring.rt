@@ -1,4 +1,4 @@
-// What a candidate's score is made of.
+// The parts of a candidate's score.
 ghost use Rattle.std.specs.Prelude.{◌≡◌};
 ghost use Rattle.camera_tilt.specs.Sensor.{tilt_projection_matrix};
 ghost use Rattle.score_camera.specs.Camera.{damped};
@@ -43,7 +43,8 @@ pub extern "C" fn jc_principal_point_complexity(k: FxFyCxCy, center: Pt2) -> f64
     penalties::principal_point_complexity(k, center)
 }
 
-// The mean error of the counted rows with the camera as given; infinity where none is counted. Numbers that make no whole row with its flag are not read.
+// The mean error of the rows that count, with the camera as given; infinity where none counts. Numbers behind the last
+// whole row with its flag are not read.
 #[unsafe(no_mangle)]
 pub extern "C" fn jc_mean_reproj_error(
     camera: PinholeCamera,
@@ -56,7 +57,8 @@ pub extern "C" fn jc_mean_reproj_error(
     score_rows::mean_of_rows(camera, trig, rows, flags)
 }
 
-// What the mean of an answer rests on: sum and count of its errors, with the solved camera damped and the seed's own sines and cosines.
+// What the mean of an answer rests on: sum and count of its errors, with the solved camera damped and the sines and
+// cosines of the seed's tilts.
 #[unsafe(no_mangle)]
 pub extern "C" fn jc_count_errors(
     solved: PinholeCamera,

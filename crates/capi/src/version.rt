@@ -1,4 +1,5 @@
-// Which version of the boundary a library has: a caller compares it with the one that it was written for, before it calls anything else.
+// The version of the C boundary. A caller compares it with the version that it was written for, before it calls
+// anything else.
 ghost use Rattle.std.specs.Prelude.{◌≡◌};
 ghost use Rattle.capi.specs.Version.{version};
 

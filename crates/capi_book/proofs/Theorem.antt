@@ -1,4 +1,4 @@
--- The exported calls are the walk's, and so the book's. Assumes nothing.
+-- The exported calls reply as the entry points do, and so as the reference model. Assumes nothing.
 use Rattle.std.proofs.Common.{ℕ, suc, ◌≤◌, arith, ◌≡◌, refl, ap, ◌∙◌, Bool, List, [], ◌∷◌, ◌++◌, le-leb, ltb-false, ne_eqb, length, take, drop, length-take, Float, sym, Option, Some, None, Result, Ok, Err}
 use Rattle.std.proofs.Math.Seq.{take-append_seam}
 use Rattle.common.specs.declared.Refusal.{Refusal}
@@ -78,7 +78,7 @@ answer_run (Ok (answered.Scored s)) r = refl
 answer_run (Ok (answered.Skipped reason)) r = refl
 answer_run (Err refusal) r = refl
 
--- ---- what is read off a reply: each refusal has a number of its own, which isn't 0, and so has each reason
+-- ---- what is read off a reply: each refusal has a number of its own that isn't 0, and so has each reason
 refusal_read : (r : Refusal) → refusal_with (number_of r) ≡ Some r
 refusal_read TooFewViews = refl
 refusal_read NoTilts = refl
@@ -145,7 +145,7 @@ answer_read (Ok (answered.Scored s)) r = refl
 answer_read (Ok (answered.Skipped reason)) r = rw (reason_numbered_back reason)
 answer_read (Err e) r = rw (refusal_read e)
 
--- the seed in a destination with room for it
+-- the waiting seed in a destination with room for it
 seed_short : (r : Run) (l : List Float) → length (seed_part r l) ≤ 6
 unfolding seed_part
 seed_short r l = case (seed_lent r (length l)) (λ h. simp (h, length-take) (omega arith)) (λ h. simp h (omega arith))
@@ -155,13 +155,14 @@ seed_read r l to room =
     let w = seed_part r l in
     simp (le-leb (length w) (length to) (let s = seed_short r l in omega arith)) (take-append_seam w (drop (length w) to))
 
--- ---- a call reads as the walk's, and leaves the flat record of its run and the same list
+-- ---- what is read off an exported call is the reply of the entry point, and it leaves the flat record of the same run
+-- and the same list
 record Same (a : FlatStep) (b : Step) : Type 0 where
   reply : a.reply ≡ b.reply ∷ []
   run : a.run ≡ flat_run b.run
   list : a.list ≡ b.list
 
--- or asks nothing, and leaves both
+-- or the call makes none of the model's, and leaves both as they were
 data Reads (r : Run) (l : List Float) (c : Exported) (a : FlatStep) : Type 0 where
   asks : (d : Call) → calls_of c ≡ d ∷ [] → Same a (run_call r l d) → Reads r l c a
   silent : calls_of c ≡ [] → a.reply ≡ [] → a.run ≡ flat_run r → a.list ≡ l → Reads r l c a
@@ -215,7 +216,7 @@ report_read_lem : (c : Counts) (w : Result ℕ Refusal) → bytes_in (flat_writt
 report_read_lem c (Ok n) = refl
 report_read_lem c (Err e) = rw (ne_eqb (number_of e) 0 (no_zero e))
 
--- ---- any calls: the replies, the record and the file are the walk's
+-- ---- any calls: the replies, the record and the file are those of the walk
 record Along (r : Run) (l : List Float) (cs : List Exported) : Type 0 where
   replies : flat_walk (flat_run r) l cs ≡ walk r l (all_calls cs)
   run : flat_after (flat_run r) l cs ≡ flat_run (run_after r l (all_calls cs))
@@ -243,7 +244,7 @@ along r l (c ∷ cs) = along_more r l c cs (call_same r l c) (λ s k. along s k 
 pub exported_is_walk : ExportedIsWalk
 exported_is_walk r l cs = (along r l cs).replies
 
--- ---- after Start: its reply has the number 0 only where it is accepted
+-- ---- after Start, whose reply has the number 0 only if it is accepted
 accepted : (i : Inputs) (l : List Float) → (flat_started (start_of i l)).number ≡ 0 → (r : Run) × (start_of i l ≡ Ok r)
 accepted i l h = case_result (start_of i l) (λ r e. (r, e)) (λ refusal e. absurd (no_zero refusal (rw e at h)))
 
@@ -259,7 +260,7 @@ exported_is_book i o l e h cs =
     let a = accepted i l (rw e at h) in
     rw (e, a.1) (exported_is_walk a.0 (started_list i l) cs ∙ ((search_is_book i l).follows a.0 a.1 (all_calls cs)).same_replies)
 
--- ---- a journal run again: no refusal has the number 0, and neither has a line
+-- ---- a journal run again: no refusal has the number 0, and no line has
 standing_read : (s : Result Standing Refusal) → read_replay (flat_replayed (of_no_line s)) ≡ of_no_line s
 standing_read (Ok (Winner n s)) = refl
 standing_read (Ok (Unfinished s)) = refl
@@ -304,7 +305,7 @@ pub exported_gives_back : ExportedGivesBack
 exported_gives_back i o l bs e =
     resumed_as (resume_from (start_with i o l) (flat_start_list i o l) bs) (with_record (resume_of i l bs)) (rw e (replay_right.resume_is_book i l bs)) (resume_read (resume_of i l bs))
 
--- ---- after Resume: its reply has the number 0 only where Start refuses nothing
+-- ---- after Resume, whose reply has the number 0 only if Start refuses nothing
 resume_walk : (i : Inputs) (l : List Float) (bs : List ℕ) (cs : List Exported) → (flat_resumed (with_record (resume_of i l bs)).reply).number ≡ 0
     → flat_walk (flat_resumed (with_record (resume_of i l bs)).reply).run (with_record (resume_of i l bs)).list cs ≡ replies (walked i l bs).book (all_calls cs)
 resume_walk i l bs cs h =

@@ -1,5 +1,6 @@
--- The exported calls, what a host reads off their flat replies, and a list of such calls, each given the flat record and the seed list as the
--- calls before left them, by the very definitions that the exported functions' contracts name. Definitions only.
+-- The exported calls, what a host reads off their flat replies, and a list of such calls, each given the flat record
+-- and the lent list as the calls before left them, by the same definitions that the contracts of the exported functions
+-- name. Definitions only.
 use Rattle.std.specs.Prelude.{ℕ, Bool, false, cond, ltb, List, [], ◌∷◌, ◌++◌, eqb, length, take, drop, Float, Option, Some, None, Result, Ok, Err}
 use Rattle.common.specs.declared.Refusal.{Refusal}
 use Rattle.common.specs.declared.Refusal.TheVariants.{TooFewViews, NoTilts, BadBound, BadStep, TooMany, BadSeed, TiltNotFinite, SmallBuffer, SeedWaits, ShortList, NothingScored, NoSeedWaits, BadRows, NotOver, SingularTilt, DegenerateViews, BadLength, NoRoom, NoSpread, SourceNotFinite, DestinationNotFinite, TooFewPoints, CountsDiffer, SourceCollinear, DestinationCollinear, BeyondHalf, NotWritable, NotOfForm, NotTheRun, TwoAxes, TiltedSeed, ShareAboveAll, NoPlate}
@@ -45,8 +46,8 @@ use Rattle.book_journal.specs.Counts.{is_answer}
 use Rattle.book_journal.specs.Written.{buffer}
 use Rattle.book_journal.specs.Reported.{small_buffer}
 
--- An exported call with its arguments, but for the run's record and the seed list. n is how many numbers of the list are lent; jc_seed also
--- gets a destination.
+-- An exported call with its arguments, without the run's record and the lent list. n is how many numbers of the list
+-- are lent. jc_seed also has a destination.
 pub data Exported : Type 0 where
   jc_next_lem : ℕ → Exported
   jc_seed_lem : ℕ → List Float → Exported
@@ -57,11 +58,11 @@ pub data Exported : Type 0 where
   jc_last_line_lem : Exported
   jc_counts_lem : Exported
 
--- a destination without room for a seed, of which jc_seed says nothing but 0
+-- a destination without room for a seed; all that jc_seed then says is 0
 abbrev pub no_room : List Float → Bool
 no_room to = ltb (length to) 6
 
--- the call of the book that it makes, or none: a seed call whose destination has no room for a seed asks nothing
+-- The call of the reference model that it makes. A seed call whose destination has no room for a seed makes none.
 abbrev pub calls_of : Exported → List Call
 calls_of (jc_next_lem n) = book.next n ∷ []
 calls_of (jc_seed_lem n to) = cond (no_room to) [] (book.seed n ∷ [])
@@ -76,7 +77,7 @@ unfoldable pub all_calls : List Exported → List Call
 all_calls [] = []
 all_calls (c ∷ cs) = calls_of c ++ all_calls cs
 
--- ---- what a host reads off a reply: whether its number is a refusal's, and then the flags say which field counts
+-- ---- what a host reads off a reply: a refusal by its number, and otherwise the fields that the flags name
 abbrev pub refusals : List Refusal
 refusals = TooFewViews ∷ NoTilts ∷ BadBound ∷ BadStep ∷ TooMany ∷ BadSeed ∷ TiltNotFinite ∷ SmallBuffer ∷ SeedWaits ∷ ShortList ∷ NothingScored ∷ NoSeedWaits ∷ BadRows ∷ NotOver ∷ SingularTilt ∷ DegenerateViews ∷ BadLength ∷ NoRoom ∷ NoSpread ∷ SourceNotFinite ∷ DestinationNotFinite ∷ TooFewPoints ∷ CountsDiffer ∷ SourceCollinear ∷ DestinationCollinear ∷ BeyondHalf ∷ NotWritable ∷ NotOfForm ∷ NotTheRun ∷ TwoAxes ∷ TiltedSeed ∷ ShareAboveAll ∷ NoPlate ∷ []
 
@@ -84,7 +85,7 @@ abbrev pub first_with : ℕ → List Refusal → Option Refusal
 first_with n [] = None
 first_with n (r ∷ rs) = cond (eqb n (number_of r)) (Some r) (first_with n rs)
 
--- the refusal that has a number; 0 is none's
+-- the refusal with a number; no refusal has 0
 abbrev pub refusal_with : ℕ → Option Refusal
 refusal_with n = first_with n refusals
 
@@ -125,7 +126,7 @@ line_or_none (Err none) = no_line
 abbrev pub read_last : LastRecord → Reply
 read_last f = cond (eqb f.found 0) no_line (line_or_none (line_from f.line))
 
--- of jc_replay's record (02, E5): with a refusal also the line's number, if there is one
+-- off jc_replay's reply: with a refusal also the line's number, if there is one
 abbrev pub replay_unless : Option Refusal → ReplayFlat → Result Standing ReplayRefusal
 replay_unless (Some r) f = Err (cond (eqb f.line_number 0) (Refused r) (At r f.line_number))
 replay_unless None f = Ok (cond (eqb f.is_over 0) (Unfinished f.next) (Winner f.candidate f.score))
@@ -133,7 +134,7 @@ replay_unless None f = Ok (cond (eqb f.is_over 0) (Unfinished f.next) (Winner f.
 abbrev pub read_replay : ReplayFlat → Result Standing ReplayRefusal
 read_replay f = replay_unless (refusal_with f.number) f
 
--- of jc_resume's (02, E13): the run and the report
+-- off jc_resume's reply: the run and the report
 abbrev pub read_ended : ℕ → EndedBy
 read_ended n = cond (eqb n 1) by.MissingNewline (by.Stopped (cond (eqb n 0) stop.AllTaken (cond (eqb n 29) stop.NotOfForm stop.NotTheRun)))
 
@@ -147,7 +148,7 @@ resumed_unless None f = Ok (record { run = run_from f.run; report = read_report 
 abbrev pub read_resume : ResumeFlat → Result Resumed Refusal
 read_resume f = resumed_unless (refusal_with f.number) f
 
--- ---- what is read of a call, one reply or none, and the record and the whole seed list after it
+-- ---- what is read off a call, one reply or none, and the record and the whole lent list after it
 pub record FlatStep : Type 0 where
   pub reply : List Reply
   pub run : RunRecord
@@ -177,7 +178,7 @@ unfoldable pub flat_after : RunRecord → List Float → List Exported → RunRe
 flat_after r l [] = r
 flat_after r l (c ∷ cs) = let a = flat_call r l c in flat_after a.run a.list cs
 
--- ---- the bytes that a writer put in the front of its buffer, by its reply w; none where it refused
+-- ---- the bytes that a writer left in front of its buffer, by its reply w; none where it refused
 abbrev pub bytes_in : WriteReply → List ℕ → List ℕ
 bytes_in w after = cond (eqb w.number 0) (take w.len after) []
 
@@ -185,7 +186,7 @@ bytes_in w after = cond (eqb w.number 0) (take w.len after) []
 abbrev pub flat_line_bytes : LastRecord → List ℕ
 flat_line_bytes f = cond (eqb f.found 0) [] (bytes_in (flat_written (record_reply f.line buffer)) (record_into f.line buffer))
 
--- A host that asks for the last line after each accepted answer, and writes it behind the others.
+-- The file of a host that asks for the last line after each accepted Answer, and writes it behind the others.
 abbrev pub is_accepted : List Reply → Bool
 is_accepted [] = false
 is_accepted (a ∷ none) = eqb (is_answer a) 1

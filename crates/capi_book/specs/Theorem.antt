@@ -30,7 +30,7 @@ use Rattle.book_journal.specs.Resume.{resume_of}
 use Rattle.book_replay.specs.Theorem.{with_record}
 use Rattle.capi_book.specs.Exported.{Exported, all_calls, read_replay, read_report, read_resume, flat_walk, flat_after, flat_file, flat_report}
 
--- Start's reply with the options that the record reads as
+-- Start's reply, with the options that the record o is read as
 abbrev pub start_with : Inputs → OptionsRecord → List Float → Result Run Refusal
 start_with i o l = start_reply i.views (options_from o) i.xs i.ys i.decomposition i.base i.center l
 
@@ -41,23 +41,23 @@ flat_start i o l = flat_started (start_with i o l)
 abbrev pub flat_start_list : Inputs → OptionsRecord → List Float → List Float
 flat_start_list i o l = start_list i.views (options_from o) i.xs i.ys i.decomposition i.base i.center l
 
--- It refuses with the number of the first condition that holds, and leaves the list; where none holds it refuses nothing. With any options record that reads as the
--- book's options.
+-- jc_start refuses with the number of the first condition that holds, and leaves the list; where none holds it refuses
+-- nothing. This holds for every options record that is read as the options of the inputs.
 abbrev pub ExportedStarts : Type 0
 ExportedStarts = (i : Inputs) (o : OptionsRecord) (l : List Float) → options_from o ≡ options_of i
     → ((r : Refusal) → FirstHolds (conditions i (length l)) r → ((flat_start i o l).number ≡ number_of r) × (flat_start_list i o l ≡ l))
     × (NoneHolds (conditions i (length l)) → (flat_start i o l).number ≡ 0)
 
--- From any run on, the exported calls are the walk's.
+-- From any run on, the exported calls reply as the entry points do.
 abbrev pub ExportedIsWalk : Type 0
 ExportedIsWalk = (r : Run) (l : List Float) (cs : List Exported) → flat_walk (flat_run r) l cs ≡ walk r l (all_calls cs)
 
--- After a jc_start that refuses nothing, every reply of every list of exported calls is the book's.
+-- After a jc_start that refuses nothing, every list of exported calls gets the replies of the reference model.
 abbrev pub ExportedIsBook : Type 0
 ExportedIsBook = (i : Inputs) (o : OptionsRecord) (l : List Float) → options_from o ≡ options_of i → (flat_start i o l).number ≡ 0
     → (cs : List Exported) → flat_walk (flat_start i o l).run (flat_start_list i o l) cs ≡ replies (opened i) (all_calls cs)
 
--- ---- 02, E5 and E13: from the journal's bytes bs, jc_replay's and jc_resume's replies, and the lists after them
+-- ---- the replies of jc_replay and jc_resume to the bytes bs of a journal, and the lent lists after them
 abbrev pub flat_replay : Inputs → OptionsRecord → List Float → List ℕ → ReplayFlat
 flat_replay i o l bs = flat_replayed (replay_from (start_with i o l) (flat_start_list i o l) bs).reply
 
@@ -77,21 +77,22 @@ replay_left i o l bs = record { reply = read_replay (flat_replay i o l bs); list
 abbrev pub resume_left : Inputs → OptionsRecord → List Float → List ℕ → ResumeLeft
 resume_left i o l bs = record { reply = read_resume (flat_resume i o l bs); list = flat_resume_list i o l bs }
 
--- jc_replay's reply and list are the book's.
+-- The reply and the list of jc_replay are those of the reference model.
 abbrev pub ExportedReplays : Type 0
 ExportedReplays = (i : Inputs) (o : OptionsRecord) (l : List Float) (bs : List ℕ) → options_from o ≡ options_of i → replay_left i o l bs ≡ replay_of i l bs
 
--- So are jc_resume's: the run, as the record that goes with the book, and the report.
+-- The reply of jc_resume is the record of the model's run and its report, and its list is the model's.
 abbrev pub ExportedGivesBack : Type 0
 ExportedGivesBack = (i : Inputs) (o : OptionsRecord) (l : List Float) (bs : List ℕ) → options_from o ≡ options_of i → resume_left i o l bs ≡ with_record (resume_of i l bs)
 
--- After a jc_resume that refuses nothing, every reply of every list of exported calls is that of the book which the kept lines lead to.
+-- After a jc_resume that refuses nothing, every list of exported calls gets the replies of the book that the kept lines
+-- lead to.
 abbrev pub ExportedResumes : Type 0
 ExportedResumes = (i : Inputs) (o : OptionsRecord) (l : List Float) (bs : List ℕ) → options_from o ≡ options_of i → (flat_resume i o l bs).number ≡ 0
     → (cs : List Exported) → flat_walk (flat_resume i o l bs).run (resume_left i o l bs).list cs ≡ replies (walked i l bs).book (all_calls cs)
 
--- ---- 02, E2 and E6: the bytes that a host gets of jc_last_line and jc_write_line after each accepted answer are the run's journal. Of a run that jc_resume gave back they
--- come behind the kept bytes.
+-- ---- The bytes that a host gets by jc_last_line and jc_write_line after each accepted Answer are the run's journal.
+-- Of a run that jc_resume gave back they come behind the kept bytes.
 abbrev pub ExportedJournal : Type 0
 ExportedJournal = (i : Inputs) (o : OptionsRecord) (l : List Float) → options_from o ≡ options_of i → (flat_start i o l).number ≡ 0
     → (cs : List Exported) → flat_file (flat_start i o l).run (flat_start_list i o l) cs ≡ journal_of (after (opened i) (all_calls cs))
@@ -101,7 +102,8 @@ ExportedJournalGrows = (i : Inputs) (o : OptionsRecord) (l : List Float) (bs : L
     → (cs : List Exported)
     → take (read_report (flat_resume i o l bs)).kept bs ++ flat_file (flat_resume i o l bs).run (resume_left i o l bs).list cs ≡ journal_of (after (walked i l bs).book (all_calls cs))
 
--- After any calls jc_counts' reply is the counts of the lines in the run's journal, and jc_write_report makes the report of them.
+-- After any calls jc_counts replies with the counts of the lines in the run's journal, and jc_write_report writes their
+-- report.
 pub record FlatReportRight (r : RunRecord) (l : List Float) (cs : List Exported) (b : Book) : Type 0 where
   pub counts_are : counts_def (run_from (flat_after r l cs)) ≡ counts_in (read_journal (journal_of b)).lines
   pub is_written : flat_report (flat_after r l cs) ≡ report_bytes (counts_in (read_journal (journal_of b)).lines)

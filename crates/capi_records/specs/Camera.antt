@@ -1,4 +1,5 @@
--- Sine and cosine, matrices and a camera as flat records: a refusal's number, and zeros for what it leaves out. Definitions only.
+-- A sine, a cosine, matrices and a camera as flat records: a refusal's number, and zeros for what the refusal leaves
+-- out. Definitions only.
 use Rattle.std.specs.Prelude.{[], ◌∷◌, Float, Result, Ok, Err}
 use Rattle.common.specs.declared.Refusal.{Refusal}
 use Rattle.common.specs.Number.{number_of}
@@ -10,7 +11,7 @@ use Rattle.capi_records.specs.declared.camera.Matrix3.{Matrix3}
 use Rattle.capi_records.specs.declared.camera.InverseReply.{InverseReply}
 use Rattle.capi_records.specs.declared.camera.CameraReply.{CameraReply}
 
--- 02, E1: the sine or the cosine, or 27
+-- the sine or the cosine, or 27
 abbrev pub flat_sum : Result Float Refusal → SumReply
 flat_sum (Ok x) = record { number = 0; value = x }
 flat_sum (Err r) = record { number = number_of r; value = plus_zero }
@@ -46,12 +47,12 @@ no_matrix = record {
   m22 = plus_zero;
 }
 
--- 01, 'Tilt': the inverse, or 15
+-- the inverse, or 15
 abbrev pub flat_inverse : Result Matrix Refusal → InverseReply
 flat_inverse (Ok h) = record { number = 0; inverse = flat_matrix h }
 flat_inverse (Err r) = record { number = number_of r; inverse = no_matrix }
 
--- 01, 'Conic to camera': the camera, or 16
+-- the camera, or 16
 abbrev pub flat_estimate : Result FxFyCxCy Refusal → CameraReply
 flat_estimate (Ok k) = record { number = 0; camera = k }
 flat_estimate (Err r) = record { number = number_of r; camera = record { fx = plus_zero; fy = plus_zero; cx = plus_zero; cy = plus_zero } }

@@ -1,5 +1,5 @@
--- A line of the journal as a flat record, the way back, and the replies of its writer and its reader. What a skipped line or a refusal leaves out is 0.
--- Definitions only.
+-- A line of the journal as a flat record, the way back, and the replies of its writer and its reader. What a skipped
+-- line or a refusal leaves out is 0. Definitions only.
 use Rattle.std.specs.Prelude.{ℕ, List, Result, Ok, Err}
 use Rattle.common.specs.declared.Refusal.{Refusal}
 use Rattle.common.specs.declared.Refusal.TheVariants as refusal
@@ -18,7 +18,8 @@ use Rattle.capi_records.specs.declared.journal.LineRecord.{LineRecord}
 use Rattle.capi_records.specs.declared.journal.WriteReply.{WriteReply}
 use Rattle.capi_records.specs.declared.journal.ReadReply.{ReadReply}
 
--- ---- a line: skipped is 0 for S, and else the reason; with a number that is no reason's it is a line that can't be written
+-- ---- a line: `skipped` is 0 for a scored one, and else the reason's number; with any other number it is a line that
+-- can't be written
 abbrev pub fields_in : LineRecord → ScoredFields
 fields_in l = record { score = l.score; mean = l.mean; k = l.k; p1 = l.p1; p2 = l.p2 }
 
@@ -54,7 +55,7 @@ no_line = record {
   p2 = plus_zero;
 }
 
--- a scored line's fields, and 0 for the others
+-- the fields of a scored line, with 0 in the others
 abbrev pub flat_scored : ScoredFields → LineRecord
 flat_scored f = record { number = 0; round = 0; seed = no_line.seed; skipped = 0; score = f.score; mean = f.mean; k = f.k; p1 = f.p1; p2 = f.p2 }
 
@@ -63,14 +64,14 @@ abbrev pub flat_written : Result ℕ Refusal → WriteReply
 flat_written (Ok n) = record { number = 0; len = n }
 flat_written (Err e) = record { number = number_of e; len = 0 }
 
--- what the writer says of C's line, and the buffer after it
+-- what the writer says of a line as C hands it in, and the buffer afterwards
 abbrev pub record_reply : LineRecord → List ℕ → Result ℕ Refusal
 record_reply l out = elim (line_from l) [ Ok line ↦ write_reply line out | Err e ↦ Err e ]
 
 abbrev pub record_into : LineRecord → List ℕ → List ℕ
 record_into l out = elim (line_from l) [ Ok line ↦ write_into line out | Err e ↦ out ]
 
--- what was read at a place: behind End and 29 the next place is that one
+-- what was read at a place; at the end and after 29 the next place is the same one
 abbrev pub flat_read : Read → ℕ → ReadReply
 flat_read (read.Got l next) at = record { number = 0; end = 0; line_number = 0; line = flat_line l; next = next }
 flat_read read.End at = record { number = 0; end = 1; line_number = 0; line = no_line; next = at }

@@ -1,4 +1,5 @@
--- The run's record with its flags as bytes, and the ways there and back: any byte but 0 reads as true, and true is written as 1. Definitions only.
+-- The run's record with its flags as bytes, and the ways there and back: any byte but 0 is read as true, and true is
+-- written as 1. Definitions only.
 use Rattle.std.specs.Prelude.{ℕ, Bool, not, cond, eqb}
 use Rattle.float.specs.Literals.{plus_zero}
 use Rattle.score_best.specs.declared.Best.{Best}
@@ -92,7 +93,7 @@ flat_run r = record {
   counts = r.counts;
 }
 
--- all zeros
+-- the record of zeros
 abbrev pub no_run : RunRecord
 no_run = record {
   options = record { refine_rounds = 0; refine_step = plus_zero; max_abs_tilt = plus_zero; one_axis = 0; min_counted = 0 };

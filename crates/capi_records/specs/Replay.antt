@@ -1,4 +1,5 @@
--- The replies of a journal that is run again (02, E5) or gone on from (02, E13), as flat records: 02's numbers, and zeros for what a reply leaves out. Definitions only.
+-- The replies of replay and resume as flat records: numbers for refusals and for what ended the kept lines, and zeros
+-- for what a reply leaves out. Definitions only.
 use Rattle.std.specs.Prelude.{ℕ, Result, Ok, Err}
 use Rattle.common.specs.declared.Refusal.{Refusal}
 use Rattle.common.specs.Number.{number_of}
@@ -15,14 +16,14 @@ use Rattle.capi_records.specs.declared.replay.ReplayFlat.{ReplayFlat}
 use Rattle.capi_records.specs.declared.replay.ResumeFlat.{ResumeFlat}
 use Rattle.capi_records.specs.Record.{flat_run, no_run}
 
--- 02, E5
+-- the reply of replay
 abbrev pub flat_replayed : Result Standing ReplayRefusal → ReplayFlat
 flat_replayed (Ok (Winner n s)) = record { number = 0; is_over = 1; line_number = 0; candidate = n; score = s; next = no_seed }
 flat_replayed (Ok (Unfinished s)) = record { number = 0; is_over = 0; line_number = 0; candidate = 0; score = plus_zero; next = s }
 flat_replayed (Err (Refused e)) = record { number = number_of e; is_over = 0; line_number = 0; candidate = 0; score = plus_zero; next = no_seed }
 flat_replayed (Err (At e n)) = record { number = number_of e; is_over = 0; line_number = n; candidate = 0; score = plus_zero; next = no_seed }
 
--- 02, E13: nothing, a missing newline, 29, 30
+-- 0 where nothing stands behind the kept lines, 1 for a missing newline, 29, 30
 abbrev pub ended_number : EndedBy → ℕ
 ended_number ended = resume.ended_number ended
 

@@ -1,4 +1,4 @@
--- A run that crosses the boundary and comes back is the run that it was, and so is a line. Assumes nothing.
+-- A run that crosses the C boundary and comes back is the run that it was, and so is a line. Assumes nothing.
 use Rattle.std.specs.Prelude.{ℕ, ◌≡◌, refl, Bool, true, false, Ok, Err}
 use Rattle.seed_rules.specs.declared.CandidateSeed.{CandidateSeed}
 use Rattle.search_record.specs.declared.run.Run.{Run}

@@ -1,4 +1,5 @@
--- The replies of the search as flat records: 01's numbers, and zeros for what a reply leaves out. Definitions only.
+-- The replies of the search as flat records: a refusal's number, and zeros for what a reply leaves out. Definitions
+-- only.
 use Rattle.std.specs.Prelude.{ℕ, cond, List, ◌++◌, eqb, leb, length, drop, Float, Option, Some, None, is_some, unwrap_or, Result, Ok, Err}
 use Rattle.common.specs.declared.Refusal.{Refusal}
 use Rattle.common.specs.Number.{number_of}
@@ -26,12 +27,12 @@ use Rattle.capi_records.specs.declared.run.StopFlat.{StopFlat}
 use Rattle.capi_records.specs.declared.record.LastRecord.{LastRecord}
 use Rattle.capi_records.specs.Journal.{flat_line, no_line}
 
--- 01, 'Start'
+-- the reply of Start
 abbrev pub flat_started : Result Run Refusal → StartFlat
 flat_started (Ok r) = record { number = 0; run = flat_run r }
 flat_started (Err e) = record { number = number_of e; run = no_run }
 
--- 01, 'Next'
+-- the reply of Next
 abbrev pub flat_handed : Result Handed Refusal → Run → NextFlat
 flat_handed (Ok (handed.Candidate i)) r = record { number = 0; over = 0; candidate = i; run = flat_run r }
 flat_handed (Ok handed.Over) r = record { number = 0; over = 1; candidate = 0; run = flat_run r }
@@ -40,7 +41,7 @@ flat_handed (Err e) r = record { number = number_of e; over = 0; candidate = 0; 
 abbrev pub flat_next : Reply Handed → NextFlat
 flat_next n = flat_handed n.reply n.run
 
--- 01, 'Answer'
+-- the reply of Answer
 abbrev pub flat_answered : Result Answered Refusal → Run → AnswerFlat
 flat_answered (Ok (answered.Scored s)) r = record { number = 0; skipped = 0; score = s; run = flat_run r }
 flat_answered (Ok (answered.Skipped reason)) r = record { number = 0; skipped = reason_number reason; score = plus_zero; run = flat_run r }
@@ -49,12 +50,12 @@ flat_answered (Err e) r = record { number = number_of e; skipped = 0; score = pl
 abbrev pub flat_answer : Reply Answered → AnswerFlat
 flat_answer a = flat_answered a.reply a.run
 
--- 01, 'Result'
+-- the reply of Result
 abbrev pub flat_result : Result Candidate Refusal → ResultFlat
 flat_result (Ok w) = record { number = 0; candidate = w }
 flat_result (Err e) = record { number = number_of e; candidate = no_best.candidate }
 
--- 02, E9
+-- the reply of Stop
 abbrev pub flat_outlook : Outlook → StopFlat
 flat_outlook o = record {
   number = 0;
@@ -73,14 +74,14 @@ flat_stopped (Err e) = record { number = number_of e; has_best = 0; has_floor = 
 abbrev pub finding_of : ℕ → PinholeCamera → Finding
 finding_of n s = cond (eqb n 0) Failed (Solved s)
 
--- a part copied to the front of a list that holds it; a shorter list stays as it is
+-- A part is copied to the front of a list that has room for it; a shorter list stays as it is.
 abbrev pub copied : List Float → List Float → List Float
 copied part to = cond (leb (length part) (length to)) (part ++ drop (length part) to) to
 
 abbrev pub copy_count : List Float → List Float → ℕ
 copy_count part to = cond (leb (length part) (length to)) (length part) 0
 
--- the last answered line, or nothing
+-- the last entry's line, or nothing
 abbrev pub flat_last_line : Option Line → LastRecord
 flat_last_line (Some l) = record { found = 1; line = flat_line l }
 flat_last_line None = record { found = 0; line = no_line }

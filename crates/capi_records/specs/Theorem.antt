@@ -1,4 +1,4 @@
--- What crosses the boundary comes back, as a type. `specs/RoundTrip.antt` proves it. Definitions only.
+-- What crosses the C boundary comes back as it was, as a type. `specs/RoundTrip.antt` proves it. Definitions only.
 use Rattle.std.specs.Prelude.{◌≡◌, Ok}
 use Rattle.search_record.specs.declared.run.Run.{Run}
 use Rattle.journal_line.specs.declared.Line.{Line}

@@ -1,5 +1,5 @@
 // A sine or cosine, a matrix, its inverse and an estimated camera.
-// Kept: the C interface names the structs of this file, field by field.
+// Each struct has the fields of the one in include/jinnychair.h, in its order.
 ghost use Rattle.std.specs.Prelude.{◌≡◌};
 ghost use Rattle.capi_records.specs.Camera.{flat_sum, matrix_of, flat_matrix, flat_inverse, flat_estimate};
 

@@ -1,5 +1,5 @@
 // A line of the journal, and the replies of its writer and its reader.
-// Kept: the C interface names the structs of this file, field by field.
+// Each struct has the fields of the one in include/jinnychair.h, in its order.
 ghost use Rattle.std.specs.Prelude.{◌≡◌};
 ghost use Rattle.capi_records.specs.Journal.{fields_in, flat_scored, line_from, flat_line, flat_written, flat_read};
 
@@ -10,7 +10,8 @@ use journal_line::outcome::recorded_with;
 use journal_line::{Line, Read, ScoredFields};
 use seed_rules::CandidateSeed;
 
-// A line's fields. Scored where skipped is 0; else skipped is the reason, and score and all behind it have no meaning.
+// A line's fields. The line is scored where `skipped` is 0; else `skipped` is the reason, and `score` and the fields
+// behind it have no meaning.
 #[repr(C)]
 #[derive(Clone, Copy, Default)]
 pub struct LineRecord {
@@ -33,7 +34,8 @@ pub struct WriteReply {
     pub len: usize,
 }
 
-// 0 and a line; or 0 and the end; or 29 and the line's number, from 1. The next place is behind a line, and else where it was.
+// 0 and a line; or 0 and the end; or 29 and the line's number, counted from 1. `next` is the place behind the line; at
+// the end and after 29 it is the place that was asked for.
 #[repr(C)]
 #[derive(Clone, Copy, Default)]
 pub struct ReadReply {
@@ -75,7 +77,7 @@ impl From<ScoredFields> for LineRecord {
     }
 }
 
-// A skip number that is no reason's is refused, as a line that the journal can't hold.
+// A skip number that isn't a reason's is refused: the journal can't hold such a line.
 impl TryFrom<LineRecord> for Line {
     type Error = Refusal;
 
@@ -123,7 +125,7 @@ impl From<Result<usize, Refusal>> for WriteReply {
     }
 }
 
-// Kept: what was read and its place are two values, and From takes one: a pair would have to be made at the call and taken apart here.
+// A function and not a From, since the reply takes two values: what was read, and where.
 pub fn read_reply(r: Read, at: usize) -> ReadReply
     ensures { result ≡ flat_read r at }
 {

@@ -1,5 +1,6 @@
-// What enums and arrays become where another language calls: structs of numbers, which C lays out too. Each function equals its definition in specs/.
-// A refusal is 01's or 02's number, and a value that it leaves out is 0; a flag is a byte, 0 or not 0.
+// What enums and arrays become for callers in C: structs of numbers, which C lays out in the same way. A refusal
+// becomes its number, and a value that it leaves out is 0. A flag is a byte, 0 or not 0. Each function equals its
+// definition in specs/.
 
 #![tactic(auto)]
 

@@ -1,5 +1,5 @@
 // The replies of the operations on lists of points.
-// Kept: the C interface names the structs of this file, field by field.
+// Each struct has the fields of the one in include/jinnychair.h, in its order.
 ghost use Rattle.std.specs.Prelude.{◌≡◌};
 ghost use Rattle.capi_records.specs.Lists.{refusal_number, flat_normalized, flat_line_test, flat_center};
 
@@ -33,8 +33,8 @@ pub struct CenterReply {
     pub center: Pt2,
 }
 
-// 0 where nothing is refused, whatever there is instead.
-// Kept: neither Result nor u8 is a type of a crate here, so From can't be written for them in any: a type around the number would be no plainer.
+// 0 where nothing is refused, whatever the value is. A function and not a From: neither Result nor u8 is a type of this
+// crate, so From can't be written for them.
 pub fn refusal_number<T: Copy>(done: Result<T, Refusal>) -> u8
     ensures { result ≡ refusal_number done }
 {

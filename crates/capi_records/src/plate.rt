@@ -1,5 +1,5 @@
 // A plate with a known answer.
-// Kept: the C interface names the struct of this file, field by field.
+// The struct has the fields of the one in include/jinnychair.h, in its order.
 ghost use Rattle.std.specs.Prelude.{◌≡◌};
 ghost use Rattle.capi_records.specs.Plate.{flat_plate};
 

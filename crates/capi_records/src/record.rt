@@ -1,5 +1,6 @@
 // The run's record with its flags as bytes, and the ways there and back.
-// Kept: each struct mirrors one of the search's with a flag in it, or one that holds such: C may hand in any byte, and one that is neither 0 nor 1 is no bool.
+// Each struct that holds a flag mirrors one of the search's: C may hand in any byte, and a byte that is neither 0 nor 1
+// isn't a bool.
 ghost use Rattle.std.specs.Prelude.{◌≡◌};
 ghost use Rattle.capi_records.specs.Record.{options_from, flat_options, place_from, flat_place, waiting_from, flat_waiting, best_from, flat_best, last_from, flat_last, run_from, flat_run};
 
@@ -54,7 +55,7 @@ pub struct LastRecord {
     pub line: LineRecord,
 }
 
-// A record of zeros (`default`) is one that every call answers as a run that ended with nothing scored.
+// Every call answers a record of zeros (`default`) as a run that is over with nothing scored.
 #[repr(C)]
 #[derive(Clone, Copy, Default)]
 pub struct RunRecord {

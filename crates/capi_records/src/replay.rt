@@ -1,5 +1,5 @@
-// The replies of a journal that is run again (02, E5) or gone on from (02, E13).
-// Kept: the C interface names the structs of this file, field by field.
+// The replies of a journal that is run again and of one that is gone on from.
+// Each struct has the fields of the one in include/jinnychair.h, in its order.
 ghost use Rattle.std.specs.Prelude.{◌≡◌};
 ghost use Rattle.capi_records.specs.Replay.{flat_replayed, flat_resumed};
 
@@ -8,8 +8,8 @@ use common::Refusal;
 use journal_replay::{ReplayRefusal, Resumed, Standing};
 use seed_rules::CandidateSeed;
 
-// 0 and, where the run is over, the winner's number and score, else the seed that comes next; 11, or a refusal of Start's; or 29 or 30 and the line's number,
-// from 1.
+// 0 and, where the run is over, the winner's number and score, else the seed that comes next; or 11, or a refusal of
+// Start's; or 29 or 30 and the line's number, counted from 1.
 #[repr(C)]
 #[derive(Clone, Copy, Default)]
 pub struct ReplayFlat {
@@ -21,7 +21,8 @@ pub struct ReplayFlat {
     pub next: CandidateSeed,
 }
 
-// 0, how much is kept and dropped, what ended it (0 nothing, 1 a missing newline, 29, 30), and the run; or a refusal of Start's.
+// 0 and the run, how much is kept and dropped, and what ended the kept lines (0 nothing, 1 a missing newline, 29, 30);
+// or a refusal of Start's.
 #[repr(C)]
 #[derive(Clone, Copy, Default)]
 pub struct ResumeFlat {
@@ -62,7 +63,7 @@ impl From<Result<Standing, ReplayRefusal>> for ReplayFlat {
 impl From<Result<Resumed, Refusal>> for ResumeFlat {
     ghost from_gives = { λ resumed flat. flat ≡ flat_resumed resumed };
 
-    // Kept: a match, as `Report` has no default to take its parts from, and one made here would name its four fields.
+    // A match, since `Report` has no default whose fields could be taken.
     #[tactic(auto, unfolding(score_best::specs::Best::no_best))]
     fn from(resumed: Result<Resumed, Refusal>) -> ResumeFlat {
         match resumed {

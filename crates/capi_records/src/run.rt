@@ -1,5 +1,5 @@
 // The replies of the search, the host's finding, and a seed's copy.
-// Kept: the C interface names the structs of this file, field by field.
+// Each struct has the fields of the one in include/jinnychair.h, in its order.
 ghost use Rattle.std.specs.Prelude.{◌≡◌};
 ghost use Rattle.capi_records.specs.Run.{flat_started, flat_next, flat_answer, flat_result, flat_outlook, flat_stopped, flat_last_line, finding_of, copied, copy_count};
 
@@ -173,7 +173,7 @@ impl From<Option<Line>> for LastRecord {
     }
 }
 
-// Kept: a flag and a camera are two values, and From takes one: a pair would have to be made at the call and taken apart here.
+// A function and not a From, since it takes two values: a flag and a camera.
 pub fn finding_of(is_solved: u8, solved: PinholeCamera) -> Finding
     ensures { result ≡ finding_of is_solved solved }
 {
@@ -183,8 +183,7 @@ pub fn finding_of(is_solved: u8, solved: PinholeCamera) -> Finding
     Finding::Failed
 }
 
-// Copies the part to the front of `to`, and says how many numbers were copied: none where `to` is too short.
-// Kept: the C interface hands back how many were copied, and has 0 for none.
+// Copies the part to the front of `to`, and returns how many numbers were copied: 0 where `to` is too short.
 pub fn copy_part(part: &[f64], to: &mut [f64]) -> usize
     ensures count { result ≡ copy_count part.now to.old }
     ensures copy { to.new ≡ copied part.now to.old }

@@ -1,5 +1,5 @@
 // Sum and count of a finding's errors.
-// Kept: the C interface names the struct of this file, field by field.
+// The struct has the fields of the one in include/jinnychair.h, in its order.
 ghost use Rattle.std.specs.Prelude.{◌≡◌};
 ghost use Rattle.capi_records.specs.Scoring.{flat_error_count};
 

@@ -1,5 +1,5 @@
--- The theorem at the run through three rounds, whose condition holds there: what it says of what was handed out and of the winner; and at a run that is over with 11: a
--- negative tilt was tried; and at a one-axis run. Assumes nothing.
+-- The theorem about every list of calls at three runs: the run through three rounds, with what was handed out and the
+-- winner; a run that is over with 11, in which a negative tilt was tried; and a one-axis run. Assumes nothing.
 use Rattle.std.proofs.Common.{◌≤◌, ◌≡◌, refl, inr, true, List, length, Float, Ok}
 use Rattle.std.specs.Float.Ieee.{of_bits, add, sub, neg, lt, le, eq}
 use mathlib.Core.List.Memᴰ
@@ -34,7 +34,7 @@ started = started_list whole_inputs sixty
 pub whole_follows : Follows whole_inputs whole_run started whole_calls
 whole_follows = (search_is_book whole_inputs sixty).follows whole_run accepted whole_calls
 
--- so the three rounds handed out what the rules name, and the twelfth candidate has what the theorem says of a result
+-- so the three rounds handed out what the rules name, and the twelfth candidate has all that holds of a winner
 pub whole_handed : handed whole_run started whole_calls ≡ handings whole_inputs (outcomes_in (answers whole_run started whole_calls)) 3
 whole_handed = whole_follows.handed_out whole_winner on_walk.whole_result
 
@@ -59,7 +59,8 @@ all_lost_tried =
     negative : neg quarter ≡ bits 0xbfd0_0000_0000_0000
     negative = unfold neg of_bits in refl
 
--- ---- the one-axis run: its two later rounds have at most three seeds each, no tilt about y was handed out, and the winner has none
+-- ---- the one-axis run: its last round has at most three seeds, and neither a seed that was handed out nor the winner
+-- is tilted about y
 axis_accepted : start_of axis_inputs sixty ≡ Ok axis_run
 unfolding start_reply every good_seed only_zero untilted_y too_many demand_of initial_list seed_grid pairs keep merged_into push has_near tilt_near camera_near near closer within in_bound read_from abs_of is_finite add sub neg lt le eq of_bits
 axis_accepted = refl

@@ -1,4 +1,4 @@
--- The worked runs on the book, computed. Assumes nothing.
+-- The replies of the worked runs by the reference model, computed. Assumes nothing.
 use Rattle.std.proofs.Common.{refl}
 use Rattle.std.specs.Float.Ieee.{add, sub, mul, div, neg, lt, le, eq, is_nan, of_bits, of_int, sum, round, units, odd, size, span, climb}
 use Rattle.common.specs.Each.{every}

@@ -1,5 +1,6 @@
--- A run whose host asks on the way how far it has come and what could still be gained: before the first answer, while a seed waits, with a floor that equals the best's
--- score, in the middle of a later round, after the end, and with a list that is too short. Definitions only.
+-- A run whose host asks on the way how far it has come and what could still be gained: before the first answer, while a
+-- seed waits, where the floor equals the best's score, in the middle of a later round, after the end, and with a list
+-- that is too short. Definitions only.
 use Rattle.std.specs.Prelude.{true, false, List, [], ◌∷◌, ◌++◌, Float}
 use Rattle.common.specs.declared.Refusal.TheVariants.{ShortList}
 use Rattle.score_outcome.specs.declared.SkipReason.TheVariants.{HostFailed}
@@ -29,7 +30,7 @@ asked_inputs = record {
   center = centre;
 }
 
--- ---- round 0: (0, 0) scores 1 / 64, which is the floor of the seed that is left
+-- ---- round 0: (0, 0) scores 1 / 64, which is also the floor of the seed that is left
 abbrev best : Candidate
 best = record {
   number = 0;
@@ -51,7 +52,7 @@ round_zero_replies =
     ∷ candidate 0 ∷ stopped nothing (floor f0 false) ∷ scored sixty_fourth
     ∷ bar (record { round = 0; rounds = 1; answered = 1; total = 2; in_run = 1 }) ∷ stopped (chosen best) (floor sixty_fourth true) ∷ []
 
--- ---- round 1, around (0, 0) with step 0.125: nine seeds; of the last four the lowest penalty is 1 / 256
+-- ---- round 1, around (0, 0) with step 0.125, has nine seeds; of the last four the lowest penalty is 1 / 256
 abbrev round_one : List Call
 round_one =
     failed 54 ++ (progress ∷ stop 54 ∷ []) ++ failed 54 ++ failed 54 ++ failed 54 ++ failed 54 ++ failed 54

@@ -1,4 +1,5 @@
--- What a row of the table claims: one constructor for each operation, with its inputs and the answer that 01 gives. Definitions only.
+-- What a row of the table claims: one constructor for each operation, with its inputs and its reply
+-- (docs/SPECIFICATION.md, 13.1). Definitions only.
 use Rattle.std.specs.Prelude.{ℕ, zero, suc, ◌≡◌, List, [], map, pos, negsuc, Float, Result, ⊤}
 use Rattle.common.specs.declared.Refusal.{Refusal}
 use Rattle.std.specs.Float.Ieee.{of_int, of_bits}
@@ -25,17 +26,18 @@ minus (suc n) = of_int binary64 (negsuc n)
 
 pub data Case : Type 0 where
   sqrt : Float → Float → Case
-  -- sine and cosine of each tilt, and the verdict on their matrix
+  -- sine and cosine of each tilt, and whether their matrix can be inverted
   tilt : Float → Float → Float → Float → Result ⊤ Refusal → Case
   forward backward : Matrix → Pt2 → Pt2 → Case
   centre : List Float → Result Pt2 Refusal → Case
   conic : Conic → Result FxFyCxCy Refusal → Case
-  -- typed tilts of each axis and the bound, around a centre with a step and the bound: the tilts of the list
+  -- typed x tilts, typed y tilts, the bound, and the tilts of round 0's list; a pair of tilts, the step, the bound, and
+  -- the tilts of the list around the pair
   typed : List Float → List Float → Float → List ScheimpflugParams → Case
   around : ScheimpflugParams → Float → Float → List ScheimpflugParams → Case
   penalty : ScheimpflugParams → Float → Case
 
--- that the operation's definition gives the answer: for the lists of seeds, with any camera
+-- The definition of the operation gives the reply. The lists of seeds do so for every camera.
 abbrev pub Holds : Case → Type 0
 Holds (sqrt x r) = root binary64 x ≡ r
 Holds (tilt sinX cosX sinY cosY v) = tilt_verdict (tilt_projection_matrix (record { sin_x = sinX; cos_x = cosX; sin_y = sinY; cos_y = cosY })) ≡ v

@@ -1,4 +1,4 @@
--- Two runs that end with nothing: round 0 is empty; and nothing is scored. Definitions only.
+-- Two runs without a winner: in one, round 0 is empty; in the other, nothing is scored. Definitions only.
 use Rattle.std.specs.Prelude.{false, List, [], ◌∷◌, ◌++◌}
 use Rattle.common.specs.declared.Refusal.TheVariants.{ShortList, NothingScored, NoSeedWaits}
 use Rattle.score_outcome.specs.declared.SkipReason.TheVariants.{HostFailed}
@@ -30,7 +30,7 @@ empty_calls = next 53 ∷ next 54 ∷ seed 54 ∷ answer 54 Failed [] [] ∷ ask
 abbrev pub empty_replies : List Reply
 empty_replies = refused ShortList ∷ refused NothingScored ∷ part [] ∷ refused NoSeedWaits ∷ refused NothingScored ∷ []
 
--- two typed tilts, and the host fails at both
+-- two typed x tilts; the host fails at both
 abbrev pub failed_inputs : Inputs
 failed_inputs = record {
   views = 3;

@@ -1,4 +1,4 @@
--- Runs with scores that aren't numbers: the first, one between two others, and all of them. Definitions only.
+-- Runs with scores that aren't numbers: the first score, the second of three, and all. Definitions only.
 use Rattle.std.specs.Prelude.{false, List, [], ◌∷◌, ◌++◌, ℕ, Float}
 use Rattle.common.specs.declared.Refusal.TheVariants.{NothingScored}
 use Rattle.score_outcome.specs.declared.SkipReason.TheVariants.{NoNumber}
@@ -12,7 +12,7 @@ use Rattle.book.specs.Theorem.{options_of}
 use Rattle.cases.specs.Numbers.{bits, quarter, far}
 use Rattle.cases.specs.Words.{f0, f1, f50, f100, pinhole, centre, solved_with, seen_at, in_front, turn}
 
--- three typed tilts, 0, 0.25 and −0.25, and no further round
+-- three typed x tilts, 0, 0.25 and −0.25, and no later round
 abbrev pub lost_inputs : Inputs
 lost_inputs = record {
   views = 3;
@@ -28,14 +28,15 @@ lost_inputs = record {
   center = centre;
 }
 
--- a camera whose centre lies at 2^600, where the point was seen too: the mean is 0, the square in the centre penalty overflows, and 0 times infinity is NaN
+-- a camera whose centre lies at 2^600, where the point was seen too: the mean is 0, but the square in the centre
+-- penalty overflows, and 0 times infinity is NaN
 abbrev lost : List Call
 lost = turn 54 (Solved (record {
   k = record { fx = f100; fy = f100; cx = far; cy = f50 };
   dist = record { k1 = f0; k2 = f0; k3 = f0; p1 = f0; p2 = f0 };
 })) (f0 ∷ f0 ∷ far ∷ f50 ∷ []) in_front
 
--- a point seen one pixel from where it is projected, and one seen two pixels from it
+-- a point that is seen one pixel from its projection, and one that is seen two pixels from it
 abbrev near : List Call
 near = turn 54 (solved_with f100 f0) (seen_at (bits 0x4049_8000_0000_0000)) in_front
 
@@ -51,7 +52,8 @@ winner n x mean score = record {
   score = score;
 }
 
--- ---- the first score is NaN: the second candidate, with 1 + 0.25 × 0.25², wins before the third, with 2 + 0.25 × 0.25²
+-- ---- the first score is NaN: the second candidate, with 1 + 0.25 × 0.25², wins before the third, with 2 + 0.25 ×
+-- 0.25²
 abbrev pub first_calls : List Call
 first_calls = lost ++ near ++ farther ++ (next 54 ∷ ask ∷ [])
 
@@ -60,7 +62,7 @@ first_replies =
     candidate 0 ∷ skipped NoNumber ∷ candidate 1 ∷ scored (bits 0x3ff0_4000_0000_0000) ∷ candidate 2 ∷ scored (bits 0x4000_2000_0000_0000)
     ∷ over ∷ result (winner 1 quarter f1 (bits 0x3ff0_4000_0000_0000)) ∷ []
 
--- ---- the second is: the round goes on, and the third wins
+-- ---- the second score is NaN: the round goes on, and the third candidate wins
 abbrev pub between_calls : List Call
 between_calls = farther ++ lost ++ near ++ (next 54 ∷ ask ∷ [])
 
@@ -69,7 +71,8 @@ between_replies =
     candidate 0 ∷ scored (bits 0x4000_0000_0000_0000) ∷ candidate 1 ∷ skipped NoNumber ∷ candidate 2 ∷ scored (bits 0x3ff0_4000_0000_0000)
     ∷ over ∷ result (winner 2 (bits 0xbfd0_0000_0000_0000) f1 (bits 0x3ff0_4000_0000_0000)) ∷ []
 
--- ---- an observed centre at infinity makes every score NaN: two further rounds are asked for, and the run is over after round 0
+-- ---- an observed centre at infinity makes every score NaN: two later rounds are asked for, but the run is over after
+-- round 0
 abbrev pub all_lost_inputs : Inputs
 all_lost_inputs = record {
   views = 3;

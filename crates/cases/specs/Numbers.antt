@@ -1,4 +1,4 @@
--- Numbers of the cases and of the worked runs, by their bits. Definitions only.
+-- Numbers of the cases and the worked runs, by their bits. Definitions only.
 use Rattle.std.specs.Prelude.{ℕ, Float}
 use Rattle.std.specs.Float.{binary64}
 use Rattle.std.specs.Float.Ieee.{of_bits}

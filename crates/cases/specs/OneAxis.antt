@@ -1,4 +1,5 @@
--- One-axis runs (02, E8): what Start refuses of them, a later list whose step is too small to tell seeds apart, and a run through three rounds. Assumes nothing.
+-- One-axis runs: what Start refuses of them, a later list whose step is too small to tell seeds apart, and a run
+-- through three rounds. Assumes nothing.
 use Rattle.std.specs.Prelude.{ℕ, ◌≡◌, refl, Bool, true, false, List, [], ◌∷◌, ◌++◌, length, Float, Result, Ok, Err, ⊤}
 use Rattle.common.specs.declared.Refusal.{Refusal}
 use Rattle.common.specs.declared.Refusal.TheVariants.{NoTilts, BadSeed, TiltNotFinite, BeyondHalf, TwoAxes, TiltedSeed}
@@ -25,7 +26,7 @@ sixteenth = bits 0x3fb0_0000_0000_0000
 abbrev pub minus_zero : Float
 minus_zero = bits 0x8000_0000_0000_0000
 
--- a run with the bound max, one typed x tilt, 0.25, the typed y tilts ys, and the decomposition ds
+-- a run with the bound max, the typed x tilt 0.25, the typed y tilts ys and the decomposition ds
 abbrev inputs_with : Bool → Float → List Float → List Float → Inputs
 inputs_with one_axis max ys ds = record {
   views = 3;
@@ -41,7 +42,7 @@ inputs_with one_axis max ys ds = record {
   center = centre;
 }
 
--- a decomposition of one seed with the y tilt y
+-- a decomposition of one seed with the tilt_y y
 abbrev decomposed : Float → List Float
 decomposed y = f100 ∷ f100 ∷ f50 ∷ f50 ∷ f0 ∷ y ∷ []
 
@@ -65,22 +66,22 @@ high = bits 0x3fe8_0000_0000_0000
 
 abbrev pub starts : List Row
 starts =
-    -- the single value 0, of either sign, and nothing else
+    -- of typed y tilts: a single 0 of either sign is accepted, and nothing else
     row (inputs_with true quarter (f0 ∷ []) []) (Ok tt)
     ∷ row (inputs_with true quarter (minus_zero ∷ []) []) (Ok tt)
     ∷ row (inputs_with true quarter (f0 ∷ f0 ∷ []) []) (Err TwoAxes)
     ∷ row (inputs_with true quarter (eighth ∷ []) []) (Err TwoAxes)
-    -- a decomposition seed
+    -- of decomposition seeds: a tilt_y of 0 is accepted, and nothing else
     ∷ row (inputs_with true quarter (f0 ∷ []) (decomposed minus_zero)) (Ok tt)
     ∷ row (inputs_with true quarter (f0 ∷ []) (decomposed eighth)) (Err TiltedSeed)
     ∷ row (inputs_with true quarter (f0 ∷ []) (decomposed f0 ++ decomposed (neg eighth))) (Err TiltedSeed)
-    -- in this order: 2, 6, 7, 27, 31, 32
+    -- of several refusals the first: 2, 6, 7, 27, 31, each before 32
     ∷ row (inputs_with true high [] (decomposed f1)) (Err NoTilts)
     ∷ row (inputs_with true high (not_number ∷ []) (decomposed f1)) (Err BadSeed)
     ∷ row (inputs_with true high (not_number ∷ []) (decomposed eighth)) (Err TiltNotFinite)
     ∷ row (inputs_with true high (eighth ∷ []) (decomposed eighth)) (Err BeyondHalf)
     ∷ row (inputs_with true quarter (eighth ∷ []) (decomposed eighth)) (Err TwoAxes)
-    -- none of it in a two-axis run
+    -- a two-axis run is refused for none of these
     ∷ row (inputs_with false quarter (eighth ∷ f0 ∷ []) (decomposed eighth)) (Ok tt)
     ∷ []
 
@@ -88,7 +89,7 @@ pub starts_so : All Gives starts
 unfolding every good_seed only_zero untilted_y too_many demand_of within in_bound read_from abs_of is_finite neg lt le eq of_bits
 starts_so = (refl, (refl, (refl, (refl, (refl, (refl, (refl, (refl, (refl, (refl, (refl, (refl, (refl, tt)))))))))))))
 
--- ---- a step of 2^-42, below 1e-12: of x − s, x, x + s the first is kept, and −0 about y becomes 0
+-- ---- with a step of 2^-42, below 1e-12, the first of x − s, x, x + s is kept, and −0 about y becomes +0
 abbrev pub tiny : Float
 tiny = bits 0x3d50_0000_0000_0000
 
@@ -96,7 +97,8 @@ pub merged_to_the_first : next_list (offsets tiny) (y_offsets true tiny) (tilts 
 unfolding next_list offsets y_offsets pairs keep in_bound within merged_into push has_near near tilt_near camera_near closer abs_of add sub neg lt le eq of_bits
 merged_to_the_first = refl
 
--- ---- a run through three rounds, whose typed y tilt is −0. Each found camera is the base one, and each point is seen one pixel off.
+-- ---- a run through three rounds whose typed y tilt is −0; each found camera is the base camera, and each point is
+-- seen one pixel from its projection
 abbrev pub axis_inputs : Inputs
 axis_inputs = inputs_with true quarter (minus_zero ∷ []) []
 
@@ -110,7 +112,7 @@ shown = next 54 ∷ seed 54 ∷ answer 54 (solved_with f100 f0) (seen_at (bits 0
 abbrev shown_as : ℕ → Float → Float → Float → List Reply
 shown_as n x y score = candidate n ∷ part (f100 ∷ f100 ∷ f50 ∷ f50 ∷ x ∷ y ∷ []) ∷ scored score ∷ []
 
--- 1 + 0.25 × 0.25², × 0.125², × 0.0625²
+-- 1 + 0.25 × 0.25², 1 + 0.25 × 0.125², 1 + 0.25 × 0.0625²
 abbrev at_quarter : Float
 at_quarter = bits 0x3ff0_4000_0000_0000
 
@@ -120,7 +122,8 @@ at_eighth = bits 0x3ff0_1000_0000_0000
 abbrev at_sixteenth : Float
 at_sixteenth = bits 0x3ff0_0400_0000_0000
 
--- round 0 keeps −0; round 1, around (0.25, −0) with step 0.125, has two seeds within the bound; round 2, around (0.125, 0) with step 0.0625, has three
+-- Round 0 keeps −0. Round 1, around (0.25, −0) with step 0.125, has two seeds within the bound. Round 2, around (0.125,
+-- 0) with step 0.0625, has three.
 abbrev pub axis_calls : List Call
 axis_calls = shown ++ shown ++ shown ++ shown ++ failed 54 ++ failed 54 ++ (next 54 ∷ ask ∷ [])
 

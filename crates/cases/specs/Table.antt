@@ -1,4 +1,5 @@
--- The table of the cases that 01 marks P, and the theorem that all of them hold. Assumes nothing.
+-- The worked cases of single operations (docs/SPECIFICATION.md, 13.1), and the theorem that all of them hold. Assumes
+-- nothing.
 use Rattle.std.specs.Prelude.{refl, List, [], ◌∷◌, Float, Result, Ok, Err}
 use Rattle.common.specs.declared.Refusal.{Refusal}
 use Rattle.common.specs.declared.Refusal.TheVariants.{SingularTilt, DegenerateViews}

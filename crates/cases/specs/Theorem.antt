@@ -1,5 +1,6 @@
--- The worked cases as one: the table, the worked runs on the walk and on the book, what Start refuses of one-axis runs, and the theorem applied to three of the runs, as
--- a type. `proofs/Follows.antt` proves it. Definitions only.
+-- All worked cases as one type: the table, the worked runs by the entry points and by the reference model, what Start
+-- refuses of one-axis runs, and the theorem about every list of calls at three of the runs. `proofs/Follows.antt`
+-- proves it. Definitions only.
 use Rattle.std.specs.Prelude.{◌≤◌, ◌≡◌, true, [], ◌∷◌, length, Ok, Err}
 use Rattle.std.specs.Float.Ieee.{neg, eq}
 use Rattle.common.specs.Each.{All}
@@ -23,7 +24,7 @@ use Rattle.cases.specs.Few.{few_inputs, few_calls, enough_replies, few_replies}
 use Rattle.cases.specs.Asked.{asked_inputs, asked_calls, asked_replies}
 use Rattle.cases.specs.Ended.{empty_inputs, empty_calls, empty_replies, failed_inputs, failed_calls, failed_replies}
 
--- ---- on the walk, from Start on
+-- ---- the replies of each run by the definitions of the entry points, from Start on
 pub record OnWalk : Type 0 where
   pub empty : walk_from empty_inputs empty_calls ≡ empty_replies
   pub failed : walk_from failed_inputs failed_calls ≡ failed_replies
@@ -35,14 +36,14 @@ pub record OnWalk : Type 0 where
   pub one_axis : walk_from axis_inputs axis_calls ≡ axis_replies
   pub enough_counted : walk_from (few_inputs 33) few_calls ≡ enough_replies
   pub few_counted : walk_from (few_inputs 34) few_calls ≡ few_replies
-  -- 100 per cent may be asked for, and 101 may not
+  -- a share of 100 per cent may be asked for, and one of 101 may not
   pub all_asked : walk_from (few_inputs 100) (next 54 ∷ []) ≡ candidate 0 ∷ []
   pub more_asked : walk_from (few_inputs 101) (next 54 ∷ []) ≡ refused ShareAboveAll ∷ []
   pub all_lost_result : result_def (run_after all_lost_run (started_list all_lost_inputs sixty) all_lost_calls) ≡ Err NothingScored
   pub one_axis_result : result_def (run_after axis_run (started_list axis_inputs sixty) axis_calls) ≡ Ok axis_winner
   pub whole_result : result_def (run_after whole_run (started_list whole_inputs sixty) whole_calls) ≡ Ok whole_winner
 
--- ---- on the book: the replies of each run
+-- ---- the replies of each run by the reference model
 pub record OnBook : Type 0 where
   pub empty : replies (opened empty_inputs) empty_calls ≡ empty_replies
   pub failed : replies (opened failed_inputs) failed_calls ≡ failed_replies
@@ -65,7 +66,7 @@ pub record CasesHold : Type 0 where
   -- the theorem at the run through three rounds
   pub whole_handed : handed whole_run (started_list whole_inputs sixty) whole_calls ≡ handings whole_inputs (outcomes_in (answers whole_run (started_list whole_inputs sixty) whole_calls)) 3
   pub whole_wins : Wins whole_inputs (answers whole_run (started_list whole_inputs sixty) whole_calls) whole_winner
-  -- at a run that is over with 11: a negative tilt was tried
+  -- at a run that is over with 11, where a negative tilt was tried
   pub all_lost_tried : TiltTried all_lost_inputs (handed all_lost_run (started_list all_lost_inputs sixty) all_lost_calls) (answers all_lost_run (started_list all_lost_inputs sixty) all_lost_calls) (tilts (neg quarter) f0)
   -- and at a one-axis run
   pub axis_few : length (handed_in_round 2 (handed axis_run (started_list axis_inputs sixty) axis_calls)) ≤ 3

@@ -1,5 +1,6 @@
--- A run through three rounds: decomposition and grid seeds, a merged seed and one beyond the bound, equal scores, a round that scores nothing, skip
--- reasons 1, 2 and 3, a scored candidate with a tangential coefficient, and refused calls in between, with the counts while a seed waits and at the end. Definitions only.
+-- A run through three rounds, with decomposition and grid seeds, a merged seed, a seed beyond the bound, equal scores,
+-- a round that scores nothing, skip reasons 1, 2 and 3, a scored candidate with a tangential coefficient, refused calls
+-- in between, and the counts while a seed waits and at the end. Definitions only.
 use Rattle.std.specs.Prelude.{false, List, [], ◌∷◌, ◌++◌, Float}
 use Rattle.common.specs.declared.Refusal.TheVariants.{SeedWaits, ShortList, NoSeedWaits, BadRows, NotOver}
 use Rattle.score_outcome.specs.declared.SkipReason.TheVariants.{HostFailed, BadCamera, NoMean}
@@ -14,7 +15,8 @@ use Rattle.book.specs.Theorem.{options_of}
 use Rattle.cases.specs.Numbers.{bits, quarter, half}
 use Rattle.cases.specs.Words.{f0, f1, f50, f100, pinhole, centre, solved_with, seen_at, in_front, turn, failed}
 
--- the decomposition has the same seed, at no tilt, twice; of the typed tilts 0.25 and 0.5 the second is beyond the bound
+-- the decomposition has the same seed twice, without tilt; of the typed x tilts 0.25 and 0.5 the second is beyond the
+-- bound
 abbrev pub whole_inputs : Inputs
 whole_inputs = record {
   views = 3;
@@ -34,7 +36,7 @@ whole_inputs = record {
 abbrev pub whole_run : Run
 whole_run = opening_of (options_of whole_inputs) centre 54 2
 
--- ---- round 0: 54 numbers are wanted; the two seeds score 2 and 1.984375 + 0.015625, which is 2
+-- ---- round 0: the demand is 54 numbers; the two seeds score 2 and 1.984375 + 0.015625, which is 2
 abbrev round_zero : List Call
 round_zero =
     ask ∷ seed 54 ∷ answer 54 Failed [] [] ∷ next 53
@@ -55,7 +57,8 @@ round_zero_replies =
     ∷ refused ShortList ∷ refused BadRows ∷ refused BadRows ∷ counted no_counts
     ∷ scored (bits 0x4000_0000_0000_0000) ∷ candidate 1 ∷ scored (bits 0x4000_0000_0000_0000) ∷ []
 
--- ---- round 1, around (0, 0) with step 0.125: the host fails, a focal length is 0, no row is counted; and it fails at the rest
+-- ---- round 1, around (0, 0) with step 0.125: the host fails, a focal length is 0, no row counts, and the host fails
+-- at the rest
 abbrev round_one : List Call
 round_one =
     failed 54 ++ turn 54 (solved_with f0 f0) [] [] ++ turn 54 (solved_with f100 f0) (seen_at f50) (0 ∷ [])
@@ -66,8 +69,8 @@ round_one_replies =
     candidate 2 ∷ skipped HostFailed ∷ candidate 3 ∷ skipped BadCamera ∷ candidate 4 ∷ skipped NoMean
     ∷ candidate 5 ∷ skipped HostFailed ∷ candidate 6 ∷ skipped HostFailed ∷ candidate 7 ∷ skipped HostFailed ∷ candidate 8 ∷ skipped HostFailed ∷ candidate 9 ∷ skipped HostFailed ∷ candidate 10 ∷ skipped HostFailed ∷ []
 
--- ---- round 2, around the run's best, still (0, 0), with step 0.0625: the first seed, (-0.0625, -0.0625), has p1 = 0.1, which is damped to 0.05.
--- Its score is 1 + 0.25 × 0.05² + 0.25 × 2 × 0.0625², rounded.
+-- ---- round 2, around the run's best, which is still (0, 0), with step 0.0625: the first seed is (-0.0625, -0.0625);
+-- its p1 = 0.1 is damped to 0.05, and its score is 1 + 0.25 × 0.05² + 0.25 × 2 × 0.0625², rounded
 abbrev round_two : List Call
 round_two =
     (next 54 ∷ seed 54 ∷ counts ∷ answer 54 (solved_with f100 (bits 0x3fb9_9999_9999_999a)) (seen_at (bits 0x4049_8000_0000_0000)) in_front ∷ [])
@@ -80,7 +83,7 @@ small = bits 0xbfb0_0000_0000_0000
 abbrev best : Float
 best = bits 0x3ff0_0a8f_5c28_f5c3
 
--- the twelfth candidate wins
+-- the twelfth candidate wins, which is number 11
 abbrev pub whole_winner : Candidate
 whole_winner = record {
   number = 11;

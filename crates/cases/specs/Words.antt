@@ -35,7 +35,7 @@ centre = record { x = f50; y = f50 }
 abbrev pub solved_with : Float → Float → Finding
 solved_with fx p1 = Solved (record { k = record { fx = fx; fy = f100; cx = f50; cy = f50 }; dist = record { k1 = f1; k2 = f0; k3 = f0; p1 = p1; p2 = f0 } })
 
--- a row whose point is projected to (50, 50), at every tilt, and was seen at (u, 50)
+-- a row whose point is projected to (50, 50) at every tilt, and was seen at (u, 50)
 abbrev pub seen_at : Float → List Float
 seen_at u = f0 ∷ f0 ∷ u ∷ f50 ∷ []
 

@@ -1,13 +1,14 @@
-// Cases and runs that 01 works out, proved by computing. There is no code here. The cases that 01 marks P are one table:
-// specs/Case.antt says what a case claims, specs/Table.antt has the rows and the theorem over all of them. Worked runs are whole lists
-// of calls, computed on the definitions of the walk and of the book, with the replies that 01 and 02 call for: specs/Whole.antt, Ended.antt,
-// Lost.antt, Few.antt, Asked.antt, OneAxis.antt.
+// Worked cases and worked runs (docs/SPECIFICATION.md, chapter 13), proved by computing. There is no code here. The
+// cases are one table: specs/Case.antt says what a case claims, specs/Table.antt has the rows and the theorem over all
+// of them. The worked runs are whole lists of calls with their replies, computed both by the entry points' definitions
+// and by the reference model: specs/Whole.antt, Ended.antt, Lost.antt, Few.antt, Asked.antt, OneAxis.antt.
 
 #![tactic(auto)]
 
 ghost use Rattle.cases.specs.Theorem.{CasesHold};
 
-/// Each worked case holds: the table, the worked runs, and the theorem at three of them.
+/// All worked cases hold: the table, the worked runs, and what the theorem about every list of calls says of three of
+/// them.
 #[tactic(auto, using(crate::proofs::Follows::cases_hold))]
 pub fn cases_law()
     ensures { CasesHold }

@@ -25,7 +25,7 @@ pub all_mapped : {A B : Type 0} (f : A → B) (P : B → Type 0) (xs : List A) �
 all_mapped f P [] h = tt
 all_mapped f P (x ∷ xs) h = (h.0, all_mapped f P xs h.1)
 
--- ---- a test at each element from place i on, as a loop over the list makes it
+-- ---- a test at each element from index i on, as a loop over the list makes it
 module _ {A : Type 0} (p : A → Bool) (xs : List A) (i : ℕ) where
   pub every_here : (x : A) (ys : List A) → drop i xs ≡ x ∷ ys → p x ≡ false → every p (drop i xs) ≡ false
   unfolding every

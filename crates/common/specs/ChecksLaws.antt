@@ -3,11 +3,11 @@ use Rattle.std.specs.Prelude.{◌≡◌, refl, Bool, true, false, cond, List, []
 use Rattle.common.specs.declared.Refusal.{Refusal}
 use Rattle.common.specs.Checks.{Check, ◌when◌, first_refusal}
 
--- the refusal of a condition that holds
+-- where the condition holds, its refusal is the reply
 pub refuses : {b : Bool} → b ≡ true → (r : Refusal) (rest : Result ⊤ Refusal) → cond b (Err r) rest ≡ Err r
 refuses h r rest = rw h
 
--- past a condition that doesn't, what the rest says
+-- where the condition doesn't hold, the rest decides
 pub passes : {b : Bool} → b ≡ false → (r : Refusal) (rest : Result ⊤ Refusal) → cond b (Err r) rest ≡ rest
 passes h r rest = rw h
 

@@ -1,4 +1,4 @@
--- What two results that are equal hold. Assumes nothing.
+-- Equal results hold equal values, and a refusal never equals a value. Assumes nothing.
 use Rattle.std.specs.Prelude.{◌≡◌, Result, Ok, Err}
 
 module _ {T E : Type 0} where

@@ -1,5 +1,5 @@
--- A table of a function's values, and what stands at a place of it: a program's constant array is such a table where antt computes the same list.
--- Assumes nothing.
+-- A table of a function's values, and the value at an index of it. A program's constant array is such a table where
+-- antt computes the same list. Assumes nothing.
 use Rattle.std.specs.Prelude.{ℕ, zero, suc, ◌+◌, ◌<◌, ◌≡◌, List, [], ◌∷◌, get_or}
 use Rattle.std.proofs.Common.{◌∙◌, ap, sym, add-zero, zero-add, add-suc, suc-add, le_of_suc-le-suc, not-suc-le-zero}
 

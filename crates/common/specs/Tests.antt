@@ -1,8 +1,8 @@
--- Going by cases on a test, and the parts of one. Assumes nothing.
+-- Case analysis on a test, and the parts of a test of two parts. Assumes nothing.
 use Rattle.std.specs.Prelude.{◌≡◌, refl, Bool, true, false, ◌&&◌, ◌||◌}
 use Rattle.std.proofs.lemmas.Bool.{and_parts, or_parts}
 
--- by cases, each of which has the test's value as an equation
+-- case analysis: each case gets the test's value as an equation
 pub case : (c : Bool) {P : Type 0} → (c ≡ true → P) → (c ≡ false → P) → P
 case true f g = f refl
 case false f g = g refl

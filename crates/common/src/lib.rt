@@ -1,4 +1,4 @@
-// Why an operation refuses. Words and laws that several crates' contracts and proofs share are in specs/.
+// The reasons to refuse. Definitions and laws that the contracts and proofs of several crates share are in specs/.
 
 #![tactic(auto)]
 
@@ -16,9 +16,10 @@ pub enum Refusal {
     BadBound = 3,
     // Start: rounds are asked for, and their step isn't finite or not above 0
     BadStep = 4,
-    // Start: more seeds or rounds than a run can have, or a decomposition that isn't in sixes
+    // Start: more seeds or rounds than a run can have, or decomposition seeds whose length is no multiple of 6
     TooMany = 5,
-    // Start: a decomposition seed with a number that isn't finite, a focal length not above 0, or a tilt beyond the bound
+    // Start: a decomposition seed with a number that isn't finite, a focal length not above 0, or a tilt beyond the
+    // bound
     BadSeed = 6,
     // Start: a typed tilt that isn't finite
     TiltNotFinite = 7,

@@ -1,4 +1,5 @@
--- The bound by order alone: within ±max lies what −max is at most, and what is at most max, as IEEE 754 compares. Assumes nothing.
+-- The bound as two comparisons: a number is within max exactly where −max is at most it and it is at most max, as
+-- IEEE 754 compares. Assumes nothing.
 use Rattle.std.specs.Prelude.{ℕ, zero, suc, ◌+◌, ◌*◌, ◌≡◌, refl, Bool, true, false, not, ◌&&◌, ◌||◌, ltb, eqb, Float}
 use Rattle.std.proofs.Common.{arith, sym, ap, lt-ltb, eqb-true, eq-eqb, ne_eqb}
 use Rattle.std.proofs.Math.Bool.{and-true, and-false, or-true}
@@ -11,7 +12,7 @@ use Rattle.float.specs.Float.{abs_of, within}
 eqb_sym : (a b : ℕ) → eqb a b ≡ eqb b a
 eqb_sym a b = case (eqb a b) (λ e. rw (e, eq-eqb b a (sym (eqb-true a b e)))) (λ e. rw (e, ne_eqb b a (λ q. eqb-false a b e (sym q))))
 
--- what has a minus sign is at most what has none
+-- a number with a minus sign is at most one without
 opposite : (a b : ℕ) → (ltb 0 (a + b) || (eqb a b && eqb a 0)) ≡ true
 opposite zero zero = refl
 opposite zero (suc b) = rw (lt-ltb 0 (zero + suc b) (omega arith))
@@ -42,7 +43,7 @@ abs_order (fin u n d) (inf true) = refl
 abs_order (fin u n d) (inf false) = refl
 abs_order (fin u n d) (fin s m e) = sizes s (m * up e * down d) u (n * up d * down e)
 
--- ---- the rule
+-- ---- the theorem
 pub within_order : (max t : Float) → within max t ≡ (le (neg max) t && le t max)
 unfolding within
 within_order max t = abs_order max t

@@ -1,4 +1,4 @@
--- The library's words for what `abs`, `is_finite` and `to_bits` give are those of specs/Float.antt. Assumes nothing.
+-- The kit's definitions of `abs`, `is_finite` and `to_bits` equal those of specs/Float.antt. Assumes nothing.
 use Rattle.std.specs.Prelude.{◌≡◌, refl, false, Float}
 use Rattle.std.specs.Float.{nan, inf, fin, binary64, float_with_sign, float_is_finite}
 use Rattle.std.specs.Float.Ieee.{to_bits, is_nan}

@@ -1,5 +1,6 @@
--- Rust's operators on f64, written between their operands: each is the kit's operation at binary64, rounded once. Definitions only.
--- `*` and `/` bind tighter than `+` and `-`, and all group to the left, as in Rust, so a formula here is rounded in the order in which it reads.
+-- Rust's operators on f64, written between their operands: each is the kit's operation at binary64, rounded once.
+-- Definitions only. `*` and `/` bind tighter than `+` and `-`, and all group to the left, as in Rust, so a formula here
+-- is rounded in the order in which it reads.
 use Rattle.std.specs.Prelude.{Float}
 use Rattle.std.specs.Float.{binary64}
 use Rattle.std.specs.Float.Ieee.{add, sub, mul, div}

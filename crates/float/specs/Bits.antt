@@ -1,4 +1,4 @@
--- A float of the format has 64 bits, and they give it back. Assumes nothing.
+-- The bits of a value of binary64 are a number below 2^64, and reading them gives the value. Assumes nothing.
 use Rattle.std.specs.Prelude.{◌<◌, ◌^◌, ◌≡◌, true, false, T, Float}
 use Rattle.std.proofs.Math.Path.{sym}
 use Rattle.std.proofs.Common.{arith}

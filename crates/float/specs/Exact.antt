@@ -1,4 +1,4 @@
--- A value that fits its format is written in one way, so what rounds to its number is the value itself. Assumes nothing.
+-- A value that fits its format is written in one way, so rounding its number gives the value itself. Assumes nothing.
 use Rattle.std.specs.Prelude.{◌≡◌, refl, Bool, true, false, ◌&&◌, ℕ, zero, suc, ◌+◌, ◌-◌, ◌*◌, ◌^◌, ◌%◌, ◌≤◌, ◌<◌, T, ltb, leb, eqb, ℤ, pos, negsuc, Float}
 use Rattle.std.proofs.Common.{sym, ap, ◌∙◌, subst, mul_comm, mul_assoc, mul_left_comm, mul-one, mul-pos, mul-lt-mul_of_pos_right, zero-lt-suc, lt_of_lt_of_le, pow-suc, arith, ltb-true, ltb-false, eqb→eq, ltb→lt, leb→le, pow-add, pow_pos, pow_mono, shl_lt}
 use Rattle.std.proofs.Math.Nat.{eq_of_mul-eq-mul_right, pow-succ'}
@@ -29,7 +29,7 @@ fitting f s m e h =
       small = ltb→lt (suc m * up e) (2 ^ suc (emax f) * down e) (and_r (A && B && C) D h);
     }
 
--- ---- an odd number times a power of two is so in one way
+-- ---- a number is an odd number times a power of two in one way only
 even_odd : (m t : ℕ) → m % 2 ≡ 1 → m ≡ 2 * t → ⊥
 even_odd m t o h = omega arith
 
@@ -59,7 +59,7 @@ odd_value m n (negsuc a) (negsuc b) o p h =
     let z : b ≡ a = let q : suc b ≡ suc a = r.1 in omega arith in
     (r.0, ap negsuc (sym z))
 
--- ---- a number, not 0, that fits is what its own fraction rounds to
+-- ---- a number other than 0 that fits is what its own fraction rounds to
 pub power_le : (i j : ℕ) → 2 ^ i ≤ 2 ^ j → i ≤ j
 power_le i j h =
     elim (ltb j i) as (λ (v : Bool). ltb j i ≡ v → i ≤ j) [

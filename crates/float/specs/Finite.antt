@@ -1,4 +1,4 @@
--- What is finite: a whole list of numbers, and laws. Assumes nothing.
+-- Whether all numbers of a list are finite, and laws about finite numbers. Assumes nothing.
 use Rattle.std.specs.Prelude.{◌≡◌, refl, Bool, true, false, List, Float}
 use Rattle.std.specs.List.{list_all}
 use Rattle.std.proofs.Common.{sym, true≢false}
@@ -26,7 +26,7 @@ above_infinity (inf true) h = refl
 above_infinity (inf false) h = absurd (true≢false h)
 above_infinity (fin s m e) h = absurd (true≢false h)
 
--- ---- what is at most a number in size is a number
+-- ---- a value whose size is at most a finite number is finite
 pub finite_within : (x m : Float) → is_finite m ≡ true → le (abs_of x) m ≡ true → is_finite x ≡ true
 unfolding le abs_of is_finite
 finite_within (fin s m e) y f h = refl
@@ -35,7 +35,7 @@ finite_within (inf s) nan f h = absurd (true≢false (sym f))
 finite_within (inf s) (inf t) f h = absurd (true≢false (sym f))
 finite_within (inf s) (fin t n d) f h = absurd (true≢false (sym h))
 
--- ---- what is finite is a number
+-- ---- a finite value is no NaN
 pub finite_number : (x : Float) → is_finite x ≡ true → is_nan x ≡ false
 unfolding is_finite is_nan
 finite_number nan h = absurd (true≢false (sym h))

@@ -1,4 +1,5 @@
--- Rust's `abs`, `is_finite`, `min`, `max`, `clamp` and `to_bits`, the sign, and the limit on a size, on the values of IEEE 754. Definitions only.
+-- Rust's `abs`, `is_finite`, `min`, `max`, `clamp` and `to_bits`, the sign, and a limit on the size, over the values of
+-- IEEE 754. Definitions only.
 use Rattle.std.specs.Prelude.{ℕ, Bool, true, false, cond, Float}
 use Rattle.std.specs.Float.{nan, inf, fin, binary64}
 use Rattle.std.specs.Float.Ieee.{lt, le, is_nan, to_bits}
@@ -9,7 +10,7 @@ abs_of nan = nan
 abs_of (inf s) = inf false
 abs_of (fin s m e) = fin false m e
 
--- at most max in size: max itself is, and NaN isn't
+-- whether t is at most max in size: max itself is, and NaN isn't
 unfoldable pub within : Float → Float → Bool
 within max t = le (abs_of t) max
 
@@ -19,7 +20,7 @@ sign_bit nan = false
 sign_bit (inf s) = s
 sign_bit (fin s m e) = s
 
--- a number, and no infinity
+-- neither NaN nor an infinity
 unfoldable pub is_finite : Float → Bool
 is_finite nan = false
 is_finite (inf s) = false
@@ -33,7 +34,7 @@ min_of x y = cond (is_nan x) y (cond (lt y x) y x)
 unfoldable pub max_of : Float → Float → Float
 max_of x y = cond (is_nan x) y (cond (lt x y) y x)
 
--- The nearer end where x lies outside; NaN lies nowhere, and stays.
+-- The nearer end where x lies outside low to high, else x; NaN stays.
 unfoldable pub clamp_of : Float → Float → Float → Float
 clamp_of x low high = cond (lt x low) low (cond (lt high x) high x)
 

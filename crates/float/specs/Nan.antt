@@ -1,4 +1,4 @@
--- What the tests for NaN tell, and how a program makes one. Assumes nothing.
+-- What the tests for NaN say of a value, and how a program makes a NaN. Assumes nothing.
 use Rattle.std.specs.Prelude.{◌≡◌, refl, Bool, true, false, not, T, Float}
 use Rattle.std.proofs.Common.{sym, ◌∙◌, subst, true≢false}
 use Rattle.std.specs.Float.{nan, inf, fin, binary64}

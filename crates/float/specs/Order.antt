@@ -18,7 +18,7 @@ ne_self (inf false) = refl
 ne_self (fin true m e) = simp (eq-eqb (m * up e * down e) (m * up e * down e) refl)
 ne_self (fin false m e) = simp (eq-eqb (m * up e * down e) (m * up e * down e) refl)
 
--- ---- of two at most one is below the other, so nothing is below itself
+-- ---- where one value is below another, the other isn't below it
 below_asym : (s : Bool) (a : ℕ) (t : Bool) (b : ℕ) → below s a t b ≡ true → below t b s a ≡ false
 below_asym false a false b h = le-ltb b a (let l = ltb-true a b h in omega arith)
 below_asym false a true b h = absurd (true≢false (sym h))
@@ -39,8 +39,8 @@ lt_asym (fin s m e) (inf true) h = absurd (true≢false (sym h))
 lt_asym (fin s m e) (inf false) h = refl
 lt_asym (fin s m e) (fin t n d) h = below_asym s (m * up e * down d) t (n * up d * down e) h
 
--- ---- x < y, and not z < y: x < z, where z is no NaN
--- x is X / dx, and so on, without signs
+-- ---- where x < y and not z < y, and z is no NaN, x < z
+-- without signs: x is X / dx, y is Y / dy, and z is Z / dz
 cross : (X Y Z dx dy dz : ℕ) → 0 < dx → 0 < dy → 0 < dz → X * dy < Y * dx → Y * dz ≤ Z * dy → X * dz < Z * dx
 cross X Y Z dx dy dz a b c h k =
     elim (ltb (X * dz) (Z * dx)) as (λ (v : Bool). ltb (X * dz) (Z * dx) ≡ v → X * dz < Z * dx) [
@@ -65,7 +65,7 @@ cross' X Y Z dx dy dz a b c h k =
           omega arith
     ] refl
 
--- a product with a positive number is 0 or positive as the other factor is
+-- a product with a positive factor is positive exactly where the other factor is
 pos_of : (x d d' : ℕ) → 0 < d' → 0 < x * d → 0 < x * d'
 pos_of zero d d' a h = omega arith
 pos_of (suc x) d d' a h = omega arith
@@ -161,7 +161,7 @@ le_not_lt (fin s m e) (fin t n d) h =
     let b = n * up d * down e in
     either (below s a t b) (level s a t b) (below t b s a) (below_asym s a t b) (below_level s a t b) h
 
--- NaN is at least nothing
+-- no value is at most NaN
 pub le_number : (x y : Float) → le x y ≡ true → is_nan y ≡ false
 unfolding le lt eq is_nan
 le_number nan nan h = absurd (true≢false (sym h))
@@ -170,7 +170,7 @@ le_number (fin s m e) nan h = absurd (true≢false (sym h))
 le_number x (inf t) h = refl
 le_number x (fin t n d) h = refl
 
--- with the first: x < y and y ≤ z
+-- so where x < y and y ≤ z, x < z
 pub lt_le_trans : (x y z : Float) → lt x y ≡ true → le y z ≡ true → lt x z ≡ true
 lt_le_trans x y z h k = lt_cotrans x y z (le_number y z k) h (le_not_lt y z k)
 
@@ -235,7 +235,7 @@ lt_neg (fin s m e) (inf true) = refl
 lt_neg (fin s m e) (inf false) = refl
 lt_neg (fin s m e) (fin t n d) = below_neg s (m * up e * down d) t (n * up d * down e)
 
--- ---- what is below is not equal
+-- ---- a value below another doesn't equal it
 below_unlevel : (s : Bool) (a : ℕ) (t : Bool) (b : ℕ) → below s a t b ≡ true → level s a t b ≡ false
 below_unlevel false a false b h = simp (ne_eqb a b (λ e. let l = ltb-true a b h in omega arith))
 below_unlevel false a true b h = absurd (true≢false (sym h))

@@ -13,7 +13,7 @@ use Rattle.float.specs.Float.{abs_of, sign_bit, is_finite, clamp_of}
 use Rattle.float.specs.Order.{lt_irrefl, lt_neg, le_of_not_lt}
 use Rattle.float.specs.Exact.{round_own}
 
--- ---- a number beside zero: only its significand and its sign count
+-- ---- how a number compares with zero: its significand and its sign alone decide
 magnitude_pos : (m : ℕ) (e : ℤ) → 0 < suc m * up e * 1
 magnitude_pos m e = let n : 0 < suc m = omega arith in let p : 0 < suc m * up e = mul-pos n (up_pos e) in omega arith
 
@@ -63,7 +63,7 @@ abs_positive (inf false) h k = refl
 abs_positive (fin false m e) h k = refl
 abs_positive (fin true m e) h k = absurd (true≢false (sym (lt_zero true m e ∙ ap not (sym (eq_zero true m e) ∙ k)) ∙ h))
 
--- ---- magnitudes do not see signs: of a negated value, of a rounded fraction, of a difference with both ends negated
+-- ---- no sign changes a magnitude: of a negated value, a rounded fraction, a difference with both terms negated
 pub abs_neg : (x : Float) → abs_of (neg x) ≡ abs_of x
 unfolding abs_of neg
 abs_neg nan = refl
@@ -125,7 +125,7 @@ abs_sub_neg f (fin s m e) (fin t n d) =
     ∙ ap (λ (like : Bool). cond like (round f false (a + b) c) (cond (ltb a b) (round f false (b - a) c) (round f false (a - b) c))) (beq_not s (not t))
     ∙ sym (abs_sum f s a (not t) b c)
 
--- ---- a number less itself is 0, and a value plus 0 keeps its magnitude
+-- ---- a number minus itself is 0, and a value plus 0 keeps its magnitude
 round_zero_lem : (s : Bool) (c : ℕ) → 0 < c → abs_of (round binary64 s 0 c) ≡ plus_zero
 unfolding round of_bits abs_of
 round_zero_lem s c h = abs_round binary64 s 0 c ∙ round_same binary64 false 0 c 0 1 h (omega arith) (omega arith)
@@ -164,7 +164,7 @@ abs_add_zero (fin true (suc m) e) h =
     ap abs_of (simp (i, j, a, c) (round_own binary64 true m e h))
 
 -- ---- the sign of a result
--- what has no minus is not below zero
+-- a value without a minus sign is not below zero
 pub unsigned_not_below : (x : Float) → sign_bit x ≡ false → lt x plus_zero ≡ false
 unfolding sign_bit lt of_bits
 unsigned_not_below nan h = refl
@@ -193,7 +193,7 @@ pub sign_round : (f : Format) (s : Bool) (a b : ℕ) → sign_bit (round f s a b
 unfolding round
 sign_round f s a b = sign_units f s _ _
 
--- ---- no minus among the operands, none in the result; and none in a product of like signs
+-- ---- a result has no minus sign where its operands have none; nor has a product of two factors of one sign
 pub sign_add : (f : Format) (x y : Float) → sign_bit x ≡ false → sign_bit y ≡ false → sign_bit (add f x y) ≡ false
 unfolding sign_bit add sum
 sign_add f nan y h k = refl
@@ -219,7 +219,7 @@ unlike_itself false = refl
 unlike_same : {s t : Bool} → s ≡ t → unlike s t ≡ false
 unlike_same {s} {t} h = rw h (unlike_itself t)
 
--- of like signs
+-- a product of two factors of one sign
 pub sign_mul : (f : Format) (x y : Float) → sign_bit x ≡ sign_bit y → sign_bit (mul f x y) ≡ false
 unfolding sign_bit mul
 sign_mul f nan y h = refl
@@ -252,7 +252,7 @@ sign_div f (fin false m e) (fin false n d) h k =
     (sign_cond (eqb m 0) nan (inf false) false refl refl)
     (sign_round f false (m * up e * down d) (n * up d * down e))
 
--- a count has no sign
+-- a count has no minus sign
 pub sign_count : (f : Format) (n : ℕ) → sign_bit (of_int f (pos n)) ≡ false
 unfolding of_int
 sign_count f n = sign_round f false n 1

@@ -1,4 +1,5 @@
--- Exact arithmetic on whole numbers: where a result is a whole number that binary64 holds, an operation gives it. A zero's sign is left open. Assumes nothing.
+-- Exact arithmetic on whole numbers: where the exact result is a whole number that binary64 holds, an operation gives
+-- it. The sign of a zero is left open. Assumes nothing.
 use Rattle.std.specs.Prelude.{◌≡◌, Bool, not, ◌&&◌, ◌||◌, cond, ltb, eqb, ℤ, Float}
 use mathlib.Core.Bool.{and-true, not-not}
 use Rattle.std.proofs.Math.Path.{refl, sym, ap}
@@ -32,7 +33,7 @@ pub record Held (n : ℕ) : Type 0 where
   pub value : digits * 2 ^ zeros ≡ n
   pub small : n < 2 ^ 1024
 
--- ---- a fraction that is such a number
+-- ---- rounding a fraction that equals such a number gives the number
 held_round : (s : Bool) (n den : ℕ) → Held n → 0 < den → HasValue (round binary64 s (n * den) den) s (n * den) den
 held_round s n den h d =
     round_exact binary64 s (n * den) den h.digits (h.zeros + 1074) d h.short
@@ -53,7 +54,7 @@ whole (fin t m e) s n den d v = (λ p. v.0, eq_of_mul-eq-mul_right den d (m * up
 pub round_is : (s : Bool) (n num den : ℕ) → Held n → 0 < den → num ≡ n * den → Is (round binary64 s num den) s n
 round_is s n num den h d e = rw e (whole (round binary64 s (n * den) den) s n den d (held_round s n den h d))
 
--- a sign that counts only where the number isn't 0
+-- the sign may change where the number is 0
 resign : (x : Float) (s t : Bool) (n : ℕ) → (0 < n → s ≡ t) → Is x s n → Is x t n
 resign nan s t n h v = v
 resign (inf u) s t n h v = v
@@ -108,7 +109,7 @@ some_pos (suc a) b f g p = f (omega arith)
 clash : (a b : ℕ) (s : Bool) → (0 < a → true ≡ s) → (0 < b → false ≡ s) → 0 < a → 0 < b → ⊥
 clash a b s f g p q = true≢false (f p ∙ sym (g q))
 
--- ±a / D + ±b / D, where neither sign is wrong
+-- ±a / D + ±b / D, where each term that isn't 0 has the sign s
 module _ (D : ℕ) (d : 0 < D) where
   alike : (a b : ℕ) (t s : Bool) → (0 < a → t ≡ s) → (0 < b → t ≡ s) → Held (a + b) → Is (round binary64 t (a * D + b * D) D) s (a + b)
   alike a b t s f g h = resign (round binary64 t (a * D + b * D) D) t s (a + b) (some_pos a b f g) (round_is t (a + b) (a * D + b * D) D h d (sym (add-mul a b D)))
@@ -116,7 +117,7 @@ module _ (D : ℕ) (d : 0 < D) where
   differing : Bool → Bool → ℕ → ℕ → Float
   differing r q a b = cond (ltb a b) (round binary64 q (b - a) D) (round binary64 (r && ltb b a) (a - b) D)
 
-  -- x - y, of the sign r, where y is the smaller
+  -- where the first is at least the second: their difference, with the sign r
   less : (a c : ℕ) (r q s : Bool) → (0 < c → r ≡ s) → Held c → Is (differing r q ((a + c) * D) (a * D)) s c
   unfolding differing
   less a zero r q s f h =
@@ -129,7 +130,7 @@ module _ (D : ℕ) (d : 0 < D) where
       rw (e, le-ltb (a * D + suc c * D) (a * D) (omega arith), lt-ltb (a * D) (a * D + suc c * D) (omega arith))
       (resign (round binary64 (r && true) (a * D + suc c * D - a * D) D) (r && true) s (suc c) (λ n. and-true r ∙ f n) (round_is (r && true) (suc c) (a * D + suc c * D - a * D) D h d (omega arith)))
 
-  -- of the sign q, where x is the smaller
+  -- where the first is 0: the second, with the sign q
   more : (c : ℕ) (r q s : Bool) → q ≡ s → Held (suc c) → Is (differing r q (0 * D) (suc c * D)) s (suc c)
   unfolding differing
   more c r q s f h =
@@ -175,7 +176,7 @@ add_is (fin r m e) (inf q) s a b v w h = absurd w
 add_is (fin r m e) (fin q k d) s a b v w h =
     rw (left_part m a e d v.1, right_part k b e d w.1) (sum_is (down e * down d) (mul-pos (down_pos e) (down_pos d)) a b r q s v.0 w.0 h)
 
--- a difference of two numbers of unlike signs, so also one from 0
+-- a difference of two numbers of unlike signs; 0 counts with either sign
 pub sub_is : (x y : Float) (s : Bool) (a b : ℕ) → Is x s a → Is y (not s) b → Held (a + b) → Is (sub binary64 x y) s (a + b)
 unfolding sub
 sub_is x y s a b v w h = add_is x (neg y) s a b v (resign (neg y) (not (not s)) s b (λ p. not-not s) (neg_is y (not s) b w)) h
@@ -243,11 +244,11 @@ module _ (x y : Float) where
       let g : a * 2 ^ z ≡ b * 2 ^ z + n * 2 ^ z = rw e (add-mul b n (2 ^ z)) in
       sub_less x y s (b * 2 ^ z) (n * 2 ^ z) (subst (Is x s) g v) w (held n z h k)
 
--- 0 has any sign, and any number of zeros
+-- 0 counts with either sign, and as 0 * 2^z for each z
 pub num_zero : (x : Float) (s t : Bool) (i z : ℕ) → Num x s 0 i → Num x t 0 z
 num_zero x s t i z v = rw (zero-mul (2 ^ z)) (resign x s t 0 (λ p. absurd (omega arith)) (rw (zero-mul (2 ^ i)) at v))
 
--- ---- numbers that are the same, and what they compare as
+-- ---- how such numbers compare
 pub has_value : (x : Float) (s : Bool) (n : ℕ) → Is x s n → 0 < n → HasValue x s n 1
 has_value nan s n v p = v
 has_value (inf t) s n v p = v
@@ -276,7 +277,7 @@ is_positive (fin t m e) n p v =
     let q : 0 < m * up e = rw v.1 (mul-pos p (down_pos e)) in
     rw (v.0 p) (lt-ltb (0 * 1 * down e) (m * up e * 1) (let z = zero-mul (down e) in omega arith))
 
--- a quotient is at least c / d, rounded, where the fraction is
+-- where a / b is at least c / d, the rounded quotient is at least c / d, rounded
 pub div_at_least : (x y : Float) (a b c d : ℕ) → 0 < a → 0 < b → 0 < d → Is x false a → Is y false b → c * b ≤ a * d → le (round binary64 false c d) (div binary64 x y) ≡ true
 unfolding div
 div_at_least nan y a b c d p q r v w h = absurd v
@@ -290,7 +291,7 @@ div_at_least (fin t m e) (fin u k g) a b c d p q r v w h =
     (rw (left_part m a e g v.1, right_part k b e g w.1)
     (le_trans (le_of_eq (sym (mul_assoc c b (down e * down g)))) (le_trans (mul-le-mul_right (down e * down g) h) (le_of_eq (mul_right_comm a d (down e * down g))))))))
 
--- a whole number above 0 is 1 at least, and its own magnitude
+-- a whole number above 0 is at least 1, and is its own magnitude
 pub one_least : (x : Float) (n : ℕ) → 0 < n → Is x false n → le (round binary64 false 1 1) x ≡ true
 one_least x n p v =
     is_true (le (round binary64 false 1 1) x)

@@ -127,7 +127,7 @@ number_plus s m e t h =
     let z : 0 * 1 * down e ≡ 0 = omega arith in
     rw (z, mul-one (suc m * up e), mul-one (down e)) (sum_zero s t (suc m * up e) (down e) (mul-pos (zero-lt-suc m) (up_pos e)) ∙ round_own binary64 s m e h)
 
--- of a zero +0, also where it doesn't fit the format
+-- a zero plus +0 is +0, also where the zero doesn't fit the format
 pub zero_add_plus : (x : Float) → eq x plus_zero ≡ true → add binary64 x plus_zero ≡ plus_zero
 unfolding add sum eq of_bits
 zero_add_plus nan h = absurd (true≢false (sym h))

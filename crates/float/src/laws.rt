@@ -2,7 +2,8 @@
 
 ghost use Rattle.float.specs.Theorem.{WithinByOrder};
 
-/// Within a bound lies what the order says.
+/// A number is within a bound exactly where the negated bound is at most it and it is at most the bound, as IEEE 754
+/// compares.
 #[tactic(auto, using(crate::proofs::Bound::within_order))]
 pub fn bound_law()
     ensures { WithinByOrder }

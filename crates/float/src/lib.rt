@@ -1,6 +1,5 @@
-// Rust's `abs`, `is_finite`, `min`, `max`, `clamp`, `to_bits` and `from_bits` on f64, each equal to a definition over the kit's IEEE 754 values,
-// whether a list's numbers are all finite, and whether a number is within a limit.
-// `min` and `max` keep their first argument where zeros of two signs meet, which Rust leaves open.
+// Rust's `abs`, `is_finite`, `min`, `max`, `clamp`, `to_bits` and `from_bits` on f64, each equal to a definition over
+// the kit's IEEE 754 values; whether a list's numbers are all finite; and whether a number is within a limit.
 
 #![tactic(auto)]
 
@@ -42,8 +41,8 @@ pub fn all_finite(numbers: &[f64]) -> bool
     numbers.iter().all(|x| is_finite(*x))
 }
 
-// Kept: the library's `min` and `max` leave open which of two equal zeros they give, and these don't.
-// The second where it is the better one or the first is NaN, and otherwise the first.
+// The second where it is the better one or the first is NaN, and otherwise the first. It is used in place of std's
+// `min` and `max`, which leave open which of two equal zeros they give.
 fn better_of(x: f64, y: f64, second: bool) -> f64
     ensures { result ≡ cond (is_nan x) y (cond second y x) }
 {
@@ -69,8 +68,8 @@ pub fn max(x: f64, y: f64) -> f64
     better_of(x, y, x < y)
 }
 
-// x brought to the nearer end where it lies outside low ..= high; NaN and -0 stay.
-// Kept: the library's `clamp` requires low <= high, and this one is for any two ends.
+// x brought to the nearer end where it lies outside low ..= high; NaN and -0 stay. std's `clamp` requires low <= high,
+// and this one takes any two ends.
 #[tactic(auto, unfolding(crate::specs::Float::clamp_of))]
 pub fn clamp(x: f64, low: f64, high: f64) -> f64
     ensures { result ≡ clamp_of x low high }
@@ -92,7 +91,7 @@ pub fn to_bits(x: f64) -> u64
     std::num::f64_to_bits_with_nan(x)
 }
 
-// The float of bits; those of any NaN give a NaN.
+// The float with these bits; those of any NaN give a NaN.
 pub fn from_bits(bits: u64) -> f64
     ensures { result ≡ of_bits binary64 bits }
 {

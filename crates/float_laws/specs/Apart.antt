@@ -1,5 +1,5 @@
--- Two values that are each nearer than a / c to a third, as rounded differences, are no farther than 2 a / c apart: before rounding the triangle inequality
--- holds, and rounding keeps the order. Assumes nothing.
+-- Two values whose rounded differences from a third are below a / c have a rounded difference of at most 2 a / c: the
+-- triangle inequality holds before rounding, and rounding keeps the order. Assumes nothing.
 use Rattle.std.specs.Prelude.{◌≡◌, refl, Bool, true, false, cond, ℕ, ◌+◌, ◌*◌, ◌≤◌, ◌<◌, Float}
 use Rattle.std.proofs.Common.{sym, ap, ◌∙◌, true≢false, lt_of_not-le, add_comm, mul-pos, mul-add, mul_comm, mul-le-mul_left, le_of_lt, arith}
 use Rattle.std.specs.Float.{nan, inf, fin, binary64}
@@ -23,7 +23,7 @@ numbers : (x z b : Float) → Below (sub binary64 x z) b → Number x × Number 
 unfolding sub
 numbers x z b h = let f = finite_terms binary64 x (neg z) (below_finite (sub binary64 x z) b h) in (number_of x f.0, number_of z (sym (finite_neg z) ∙ f.1))
 
--- ---- a difference, rounded, and the distance
+-- ---- a rounded difference and the distance that it stands for
 pub size_of : {x : Float} {y : Fraction} (r : Rounds x y) → abs_of x ≡ round binary64 false r.num y.den
 size_of {y = y} r = ap abs_of r.is ∙ abs_round binary64 r.sign r.num y.den
 
@@ -32,7 +32,7 @@ pub distance : (n p m : ℕ) (s : Bool) → cond s 0 n + m ≡ p + cond s n 0 �
 distance n p m true e = (omega arith, omega arith)
 distance n p m false e = (omega arith, omega arith)
 
--- c times n is at most k just where p and m, times c, are within k
+-- c times n is at most k exactly where p and m, times c, are within k of each other
 module _ (n p m k c : ℕ) where
   distance_at_most : (s : Bool) → cond s 0 n + m ≡ p + cond s n 0 → n * c ≤ k → (c * p ≤ c * m + k) × (c * m ≤ c * p + k)
   distance_at_most s e h =
@@ -63,7 +63,7 @@ module _ (a c : ℕ) (o : 0 < c) (x y : Fraction) (p : 0 < x.den) (q : 0 < y.den
       (rw (abs_round binary64 false a c, size_of r)
       (rounds_in_order binary64 a c r.num w o (mul-pos p q) (at_most_distance r.num (x ⊕ opposite y).plus (x ⊕ opposite y).minus (a * w) c r.sign r.exact g h)))
 
--- ---- three values
+-- ---- the law for three values
 pub apart : (a c : ℕ) → 0 < c → (x y z : Float) → Below (sub binary64 x z) (round binary64 false a c) → Below (sub binary64 y z) (round binary64 false a c)
     → Reaches (round binary64 false (a + a) c) (sub binary64 x y)
 apart a c o x y z h k =

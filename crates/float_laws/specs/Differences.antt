@@ -1,5 +1,6 @@
--- How large a rounded value is at least, where the exact one is that large; so two floats near fractions that lie far apart have a rounded difference that isn't below
--- what the fractions leave of that distance. No error bound is needed, since rounding keeps the order. Assumes nothing.
+-- A lower bound on the size of a rounded value, from one on the exact value. So where two floats lie near two fractions
+-- that are far apart, their rounded difference isn't below the fractions' distance less the two errors. No bound on the
+-- rounding error is needed, since rounding keeps the order. Assumes nothing.
 use Rattle.std.specs.Prelude.{◌≡◌, false, ℕ, ◌+◌, ◌*◌, ◌≤◌, ◌<◌, Float}
 use Rattle.std.proofs.Common.{ap, ◌∙◌, mul-add, mul_comm, mul-pos, mul-le-mul_right, mul-le-mul_left, le_of_mul-le-mul_right, arith}
 use Rattle.std.specs.Float.{binary64}
@@ -17,13 +18,13 @@ module _ {x : Float} {y : Fraction} (r : Rounds x y) (some : 0 < y.den) (p q : �
   num_not_below : p * y.den ≤ r.num * q → lt (abs_of x) (round binary64 false p q) ≡ false
   num_not_below h = ap (λ (z : Float). lt z (round binary64 false p q)) (size_of r) ∙ rounds_in_order binary64 r.num y.den p q some o h
 
-  -- with a minus
+  -- where it is at most -p / q
   pub minus_not_below : q * y.plus + p * y.den ≤ q * y.minus → lt (abs_of x) (round binary64 false p q) ≡ false
   minus_not_below h =
       let d = distance r.num y.plus y.minus r.sign r.exact in
       num_not_below (omega (arith, rw (mul-add q y.plus r.num, mul_comm q r.num) at (mul-le-mul_left q d.1)))
 
-  -- with a plus
+  -- where it is at least p / q
   pub plus_not_below : q * y.minus + p * y.den ≤ q * y.plus → lt (abs_of x) (round binary64 false p q) ≡ false
   plus_not_below h =
       let d = distance r.num y.plus y.minus r.sign r.exact in

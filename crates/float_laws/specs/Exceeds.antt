@@ -1,4 +1,5 @@
--- One fraction exceeds another by at least k / t: kept by a sum with a third, and, for less, by what lies near the two. Assumes nothing.
+-- One fraction exceeds another by at least k / t. That stays so where a third is added to both, and, with a smaller k,
+-- for fractions near the two. Assumes nothing.
 use Rattle.std.specs.Prelude.{ℕ, ◌+◌, ◌*◌, ◌≤◌, ◌<◌}
 use Rattle.std.proofs.Common.{mul-le-mul_right, le_of_mul-le-mul_right, arith}
 use Rattle.float_laws.specs.Fraction.{Fraction, ◌⊕◌, Near, ring}
@@ -7,7 +8,7 @@ use Rattle.float_laws.specs.Fraction.{Fraction, ◌⊕◌, Near, ring}
 pub record Exceeds (t k : ℕ) (x y : Fraction) : Type 0 where
   pub by : t * (x.plus * y.den + y.minus * x.den) + k * (x.den * y.den) ≤ t * (y.plus * x.den + x.minus * y.den)
 
--- ---- the numbers, multiplied out
+-- ---- the inequalities, multiplied out
 before : (t i k p n d P N D A B C : ℕ) → 0 < D
     → t * (p * D + N * d) ≤ t * (P * d + n * D) + i * (d * D)
     → t * (P * C + B * D) + (i + k) * (D * C) ≤ t * (A * D + N * C)
@@ -32,7 +33,7 @@ both t k p n d P N D a b c h =
     let u = simp ring at (mul-le-mul_right (c * c) h) in
     simp ring (omega arith)
 
--- ---- what lies near the two
+-- ---- fractions near the two
 pub near_exceeds : {t i j k : ℕ} {v x y w : Fraction} → 0 < x.den → 0 < y.den → Near t i v x → Exceeds t (i + (k + j)) x y → Near t j y w → Exceeds t k v w
 near_exceeds {t} {i} {j} {k} {v} {x} {y} {w} p q g e h = record {
   by =
@@ -41,6 +42,6 @@ near_exceeds {t} {i} {j} {k} {v} {x} {y} {w} p q g e h = record {
       h.high;
 }
 
--- ---- both moved alike
+-- ---- the same fraction added to both
 pub plus_exceeds : {t k : ℕ} (c : Fraction) {x y : Fraction} → Exceeds t k x y → Exceeds t k (c ⊕ x) (c ⊕ y)
 plus_exceeds {t} {k} c {x} {y} e = record { by = both t k x.plus x.minus x.den y.plus y.minus y.den c.plus c.minus c.den e.by }

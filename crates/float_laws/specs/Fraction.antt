@@ -1,5 +1,6 @@
--- Fractions of whole numbers with a sign: (plus - minus) / den. Their sums and products, and how near two of them are. Assumes nothing.
--- `Near t k x y` says that x and y lie within k / t of each other: `Near t 0`, that they are the same number.
+-- Fractions of whole numbers with a sign: (plus - minus) / den. Their sums and products, and how near two of them are.
+-- `Near t k x y` says that x and y lie within k / t of each other; `Near t 0`, that they are the same number.
+-- Assumes nothing.
 use Rattle.std.specs.Prelude.{◌≡◌, refl, Bool, true, false, cond, ℕ, ◌+◌, ◌*◌, ◌≤◌, ◌<◌}
 use Rattle.std.proofs.Common.{subst, add_assoc, add_comm, add-mul, mul-add, mul_assoc, mul_comm, mul_left_comm, mul-one, mul-zero, zero-mul, add-zero, zero-add, mul-le-mul_right, le_of_mul-le-mul_right, arith}
 use Rattle.std.proofs.Math.Nat.{add_left_comm}
@@ -35,7 +36,7 @@ pub record Near (t k : ℕ) (x y : Fraction) : Type 0 where
 -- products of sums, multiplied out and put in one order
 pub ruleset ring = (add-mul, mul-add, mul_assoc, mul_comm, mul_left_comm)
 
--- ---- the numbers, multiplied out
+-- ---- the inequalities, multiplied out
 over_trans : (t k l p n d P N D A B C : ℕ) → 0 < D
     → t * (p * D + N * d) ≤ t * (P * d + n * D) + k * (d * D)
     → t * (P * C + B * D) ≤ t * (A * D + N * C) + l * (D * C)

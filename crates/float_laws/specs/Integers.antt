@@ -1,4 +1,4 @@
--- How far two fractions are apart, in integers: what `Near` says, for a reader who wants one inequality. Assumes nothing.
+-- How far two fractions are apart, in integers: what `Near` says, as one inequality. Assumes nothing.
 use Rattle.std.specs.Prelude.{◌≡◌, ℕ, zero, suc, ◌+◌, ◌*◌, ◌≤◌, ltb, ℤ, pos, negsuc, neg_ℤ, nat_abs, ◌+ℤ◌, ◌-ℤ◌, ◌*ℤ◌}
 use Rattle.std.proofs.Common.{add_comm, add-mul, mul-add, mul_comm, arith, ltb-true, ltb-false}
 use Rattle.std.proofs.Math.IntN.{sub_ℕ}

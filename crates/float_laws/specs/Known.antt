@@ -1,5 +1,6 @@
--- A float that is known to lie near to an exact fraction of known size: how that goes through products, sums and differences. Assumes nothing.
--- `Known k n x X`: x is within k / 2 ^ 53 of X, which is at most n / 1024 in size. k and n are numerals, so every condition on them is one computed test.
+-- Floats that are known to lie near to an exact fraction of known size, and their products, sums and differences.
+-- `Known k n x X`: x is within k / 2 ^ 53 of X, which is at most n / 1024 in size. k and n are numerals, so every
+-- condition on them is one computed test. Assumes nothing.
 use Rattle.std.specs.Prelude.{◌≡◌, List, [], ◌∷◌, Bool, true, false, ◌&&◌, ℕ, ◌+◌, ◌*◌, ◌^◌, ◌≤◌, ◌<◌, T, leb, Float}
 use Rattle.std.proofs.Common.{◌∙◌, subst, mul_assoc, mul_comm, mul_left_comm, mul-le-mul, mul-le-mul_left, mul-le-mul_right, mul-pos, add-zero, zero-add, le_trans, zero-lt-suc, arith, leb→le}
 use Rattle.std.proofs.Math.Nat.{le_of_mul-le-mul_left}
@@ -15,7 +16,7 @@ pub record Known (k n : ℕ) (x : Float) (X : Fraction) : Type 0 where
   pub some : 0 < X.den
   pub small : 1024 * size X ≤ n * X.den
 
--- ---- of at most 7 / 4
+-- ---- a fraction of at most 7 / 4 in size
 small_of : (n : ℕ) (X : Fraction) → n ≤ 1792 → 0 < X.den → 1024 * size X ≤ n * X.den → Small X
 small_of n X h p s = record { some = p; small = le_of_mul-le-mul_left {k = 256} (omega (arith, mul-le-mul_right X.den h)) (zero-lt-suc 255) }
 

@@ -1,4 +1,5 @@
--- Numbers of at most a known size: sums, differences and products of such numbers don't overflow where those of the limits don't. Assumes nothing.
+-- Numbers of at most a known size: their sums, differences and products don't overflow where those of the limits don't.
+-- Assumes nothing.
 use Rattle.std.specs.Prelude.{◌≡◌, refl, Bool, true, false, cond, ℕ, zero, suc, ◌+◌, ◌*◌, ◌^◌, ltb, Float}
 use Rattle.std.proofs.Common.{true≢false}
 use Rattle.std.specs.Float.{nan, inf, fin, Format, binary64}

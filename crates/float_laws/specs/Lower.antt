@@ -1,4 +1,5 @@
--- The lower of two numbers, as `min_of` takes it: it is one of them, and nothing that isn't below the two is below it. Assumes nothing.
+-- The lower of two numbers, as `min_of` takes it: it is one of them, and nothing that isn't below the two is below it.
+-- Assumes nothing.
 use Rattle.std.specs.Prelude.{◌≡◌, false, ◌⊎◌, Float}
 use Rattle.std.proofs.Common.{sym, ◌∙◌, true≢false, inl, inr}
 use Rattle.std.specs.Float.Ieee.{lt, is_nan}

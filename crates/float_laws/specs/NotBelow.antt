@@ -1,4 +1,5 @@
--- What is not below another, as IEEE 754 compares: NaN is below nothing, so `lt x y ≡ false` needs no case for it. Assumes nothing.
+-- When a value is not below another, as IEEE 754 compares: NaN is below nothing, so `lt x y ≡ false` needs no case for
+-- it. Assumes nothing.
 use Rattle.std.specs.Prelude.{◌≡◌, refl, true, false, Float}
 use Rattle.std.proofs.Common.{sym, ◌∙◌, true≢false}
 use Rattle.std.specs.Float.{nan, inf, fin}
@@ -7,7 +8,7 @@ use Rattle.common.specs.Tests.{case}
 use Rattle.float.specs.Float.{sign_bit}
 use Rattle.float.specs.Order.{lt_asym, lt_cotrans}
 
--- through a number
+-- transitive, where the value between is no NaN
 pub not_below_trans : (x y z : Float) → is_nan y ≡ false → lt x y ≡ false → lt y z ≡ false → lt x z ≡ false
 not_below_trans x y z n h k = case (lt x z) (λ l. absurd (true≢false (sym (lt_cotrans x z y n l k) ∙ h))) (λ l. l)
 
@@ -27,7 +28,7 @@ le_first nan y h = absurd (true≢false (sym h))
 le_first (inf s) y h = refl
 le_first (fin s m e) y h = refl
 
--- what has no minus isn't below what has one
+-- a value without a minus sign isn't below one with a minus sign
 pub plus_not_below_minus : (x y : Float) → sign_bit x ≡ false → sign_bit y ≡ true → lt x y ≡ false
 unfolding sign_bit lt
 plus_not_below_minus nan y h k = refl

@@ -1,4 +1,5 @@
--- One comparison in place of several: what it tells of the lower and the higher of two numbers, and what one of squares tells of sizes. Assumes nothing.
+-- One comparison in place of several: of two numbers it gives the lower and the higher one, and of two squares the
+-- order of the sizes. Assumes nothing.
 use Rattle.std.specs.Prelude.{◌≡◌, refl, true, false, Float}
 use Rattle.std.proofs.Common.{sym, ◌∙◌, true≢false}
 use Rattle.std.specs.Float.{binary64}
@@ -11,7 +12,7 @@ use Rattle.float_laws.specs.NotBelow.{le_first}
 use Rattle.float_laws.specs.Reaches.{below_reached, mul_reaches, not_below}
 
 -- ---- of two numbers, where the second is no NaN
--- where the first is not at most the second, and neither is NaN, the second is below
+-- where neither is NaN and the first is not at most the second, the second is below the first
 below : (x y : Float) → is_nan x ≡ false → is_nan y ≡ false → le x y ≡ false → lt y x ≡ true
 below x y n o h = case (lt y x) (λ e. e) (λ e. absurd (true≢false (sym (le_of_not_lt x y n o e) ∙ h)))
 
@@ -31,7 +32,7 @@ pub higher_is_second : (x y : Float) → is_nan y ≡ false → le y x ≡ false
 unfolding max_of
 higher_is_second x y o e = case (is_nan x) (λ n. rw n refl) (λ n. rw (n, below y x o n e) refl)
 
--- ---- a rounded square keeps the order of sizes: what has the lower square is of no greater size
+-- ---- a rounded square keeps the order of sizes: the number with the lower square is of no greater size
 pub size_by_square : (x y : Float) → lt (mul binary64 x x) (mul binary64 y y) ≡ true → lt (abs_of y) (abs_of x) ≡ false
 size_by_square x y h = case (lt (abs_of y) (abs_of x)) (λ e. absurd (true≢false (sym h ∙ no e))) (λ e. e)
   where

@@ -1,6 +1,6 @@
--- Rounded operations keep the order of magnitudes, in either format, with overflow and NaN: `Reaches x b` says that x is of no smaller magnitude than b,
--- unless one is NaN, and holds of two results where it holds of their operands. So a bound on a formula is the formula at bounds of its operands,
--- which computes where they are literals. Assumes nothing.
+-- Rounded operations keep the order of magnitudes, in either format, with overflow and NaN: `Reaches x b` says that x
+-- is of no smaller magnitude than b, unless one is NaN, and holds of two results where it holds of their operands. So a
+-- bound on a formula is the formula at bounds of its operands, which computes where they are literals. Assumes nothing.
 use Rattle.std.specs.Prelude.{◌≡◌, refl, Bool, true, false, cond, ℕ, zero, suc, ◌+◌, ◌-◌, ◌*◌, ◌≤◌, ◌<◌, ltb, eqb, ℤ, pos, Float}
 use Rattle.std.proofs.Common.{sym, ◌∙◌, true≢false, mul-le-mul, mul-le-mul_right, mul-pos, zero-mul, zero-lt-suc, arith, ltb-false, le-ltb}
 use Rattle.std.proofs.Math.Nat.{mul-mul-mul_comm}
@@ -51,7 +51,7 @@ Below x b = lt (abs_of x) (abs_of b) ≡ true
 pub below_back : (x b y c : Float) → (Reaches x b → Reaches y c) → Below y c → Below x b
 below_back x b y c f h = case (lt (abs_of x) (abs_of b)) (λ e. e) (λ e. absurd (true≢false (sym h ∙ not_below y c (f (reaches x b e)))))
 
--- then x is a number, and no infinity
+-- then x is finite
 pub below_finite : (x b : Float) → Below x b → is_finite x ≡ true
 unfolding lt abs_of is_finite
 below_finite nan b h = absurd (true≢false (sym h))
@@ -69,7 +69,7 @@ finite_below nan h = absurd (true≢false (sym h))
 finite_below (inf s) h = absurd (true≢false (sym h))
 finite_below (fin s m e) h = refl
 
--- what has no minus is at most e, and e is below b
+-- where x has no minus sign and is at most e, and e is below b, x is below b
 pub below_of_le : (x e b : Float) → sign_bit x ≡ false → le x e ≡ true → lt e (abs_of b) ≡ true → Below x b
 unfolding abs_of sign_bit le lt eq is_nan
 below_of_le x e b g h k =
@@ -159,7 +159,7 @@ div_reaches f (fin s m e) (fin t (suc n) d) (fin u i g) (fin v (suc j) l) h k =
     (mul-pos (mul-pos (zero-lt-suc n) (up_pos d)) (down_pos e)) (mul-pos (mul-pos (zero-lt-suc j) (up_pos l)) (down_pos g))
     (over (m * up e) (suc n * up d) (i * up g) (suc j * up l) (down e) (down d) (down g) (down l) h k))
 
--- ---- sums: of what has no minus the sum is no smaller than that of smaller magnitudes, of whatever signs
+-- ---- sums: a sum of terms without minus signs reaches each sum of terms of no greater magnitude
 either : (c : Bool) (P : Float → Type 0) (x y : Float) → P x → P y → P (cond c x y)
 either true P x y h k = h
 either false P x y h k = k

@@ -1,5 +1,5 @@
--- The values of floats as fractions, and how far a rounded value lies from the fraction that was rounded. Assumes nothing.
--- `Within t k x y` says that the float x is a number that lies within k / t of the fraction y.
+-- The values of floats as fractions, and how far a rounded value lies from the fraction that was rounded.
+-- `Within t k x y` says that the float x is a number that lies within k / t of the fraction y. Assumes nothing.
 use Rattle.std.specs.Prelude.{◌≡◌, refl, Bool, true, false, not, cond, T, ltb, ℤ, Float}
 use Rattle.std.proofs.Common.{sym, ap, subst, true≢false, add-mul, mul_assoc, mul_comm, mul_left_comm, mul-le-mul_right, mul-le-mul_left, mul-lt-mul_of_pos_right, mul-pos, zero-mul, mul-zero, le_of_mul-le-mul_right, lt_of_mul-lt-mul_right, lt_of_le_of_lt, div-add-mod', mod-lt, div-lt_iff_lt-mul, arith, lit≤, leb→le, eqb→eq, pow_pos, pow_mono, ltb-true, ltb-false}
 use Prim.Native.Nat.{ℕ, suc, ◌+◌, ◌-◌, ◌*◌, ◌/◌, ◌%◌, ◌^◌, ◌≤◌, ◌<◌, compare, Ordering}

@@ -1,4 +1,5 @@
--- Signs of products: a product that is a number has a minus just where its factors have unlike signs, and what has no minus, times a number twice, has none. Assumes nothing.
+-- Signs of products: a product that is no NaN has a minus sign exactly where its factors have unlike signs, and a value
+-- without one that is multiplied twice by the same number has none. Assumes nothing.
 use Rattle.std.specs.Prelude.{◌≡◌, refl, Bool, true, false, ◌*◌, eqb, Float}
 use Rattle.std.proofs.Common.{ap, ◌∙◌, true≢false}
 use Rattle.std.specs.Float.{nan, inf, fin, Format}

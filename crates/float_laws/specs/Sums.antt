@@ -1,4 +1,4 @@
--- A rounded sum is not below its one term where the other is not below 0. Assumes nothing.
+-- A rounded sum is not below its second term where the first is not below 0. Assumes nothing.
 use Rattle.std.specs.Prelude.{◌≡◌, refl, Bool, T, ltb, ℤ, pos, Float}
 use Rattle.std.proofs.Common.{sym, ◌∙◌, true≢false, mul_comm, mul_assoc, mul-pos, mul-le-mul_right, add_comm, zero-add, arith, ltb-true, ltb-false, lt-ltb, le-ltb}
 use Rattle.std.proofs.Math.Path.{ap}
@@ -19,7 +19,7 @@ use Rattle.float.specs.Sign.{sign_round, abs_round, lt_zero, fits_zero}
 use Rattle.float_laws.specs.Reaches.{rounds_in_order}
 use Rattle.float_laws.specs.NotBelow.{not_below_trans, nan_not_below, plus_not_below_minus}
 
--- ---- NaN in a term is NaN in the sum
+-- ---- a sum that is no NaN has no NaN among its terms
 pub number_terms : (f : Format) (x y : Float) → is_nan (add f x y) ≡ false → (is_nan x ≡ false) × (is_nan y ≡ false)
 unfolding add is_nan
 number_terms f nan y h = absurd (true≢false h)
@@ -30,7 +30,7 @@ number_terms f (fin s m e) nan h = absurd (true≢false h)
 number_terms f (fin s m e) (inf t) h = (refl, refl)
 number_terms f (fin s m e) (fin t n d) h = (refl, refl)
 
--- ---- the terms' order doesn't count
+-- ---- the terms' order doesn't matter
 unlike_comm : (f : Format) (a b c : ℕ) → sum f true a false b c ≡ sum f false b true a c
 unfolding sum
 unlike_comm f a b c =
@@ -64,7 +64,7 @@ add_commutes f (fin s m e) (fin t n d) =
     sum_comm f s t (m * up e * down d) (n * up d * down e) (down e * down d)
     ∙ ap (sum f t (n * up d * down e) s (m * up e * down d)) (mul_comm (down e) (down d))
 
--- ---- a number that fits is what its own fraction rounds to, and so at any common denominator
+-- ---- a number that fits is what its own fraction rounds to, over any common denominator too
 own_zero : (s : Bool) (e : ℤ) → e ≡ pos 0 → round binary64 s (0 * up e) (down e) ≡ fin s 0 e
 unfolding round
 own_zero true e h = rw h
@@ -96,7 +96,7 @@ sum_plus true a b c p =
     (λ l. rw (l, round_neg (b - a) c, round_neg b c) (lt_neg (round binary64 false (b - a) c) (round binary64 false b c) ∙ rounds_in_order binary64 b c (b - a) c p p (mul-le-mul_right c (omega arith))))
     (λ l. rw l (plus_not_below_minus (round binary64 false (a - b) c) (round binary64 true b c) (sign_round binary64 false (a - b) c) (sign_round binary64 true b c)))
 
--- and −0 as the first
+-- the same with −0 as the first term
 sum_zero : (t : Bool) (b c : ℕ) → lt (sum binary64 true 0 t b c) (round binary64 t b c) ≡ false
 unfolding sum
 sum_zero true b c = rw (zero-add b) (lt_irrefl (round binary64 true b c))
@@ -126,7 +126,7 @@ add_not_below (fin s m e) nan h k = refl
 add_not_below (fin s m e) (inf t) h k = lt_irrefl (inf t)
 add_not_below (fin s m e) (fin t n d) h k = fin_sum t n d h s m e k
 
--- so a sum of two that aren't below 0 isn't
+-- so a sum of two values that aren't below 0 isn't below 0
 pub sum_not_below : (x y : Float) → T (fits binary64 y) → lt x plus_zero ≡ false → lt y plus_zero ≡ false → lt (add binary64 x y) plus_zero ≡ false
 sum_not_below x y h k l =
     case (is_nan (add binary64 x y))

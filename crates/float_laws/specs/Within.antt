@@ -1,4 +1,5 @@
--- How a bound on the error goes through a rounded product and a rounded sum of numbers that are about 1 in size. Errors are counted in 2 ^ -53. Assumes nothing.
+-- Bounds on the errors of a rounded product and a rounded sum, from those of the operands, for numbers that are about 1
+-- in size. Errors are counted in units of 2 ^ -53. Assumes nothing.
 use Rattle.std.proofs.Common.{ap, subst, add-mul, mul-le-mul_right, mul-le-mul_left, le_of_lt, mul-pos, zero-add, lt_of_mul-lt-mul_right, arith}
 use Rattle.std.specs.Prelude.{Bool, true, false, ℕ, ◌+◌, ◌*◌, ◌^◌, ◌≤◌, ◌<◌, ℤ, Float}
 use Rattle.std.specs.Float.{fin, binary64}
@@ -50,7 +51,8 @@ add_within {k = k} {l = l} {x = fin s m e} {y = lib.Ieee.nan} {X = X} {Y = Y} _ 
 add_within {k = k} {l = l} {x = fin s m e} {y = lib.Ieee.inf _} {X = X} {Y = Y} _ x14 u b = elim x14 [ ]
 
 module _ (k l i : ℕ) (s t : Bool) (m n : ℕ) (e d : ℤ) (X Y : Fraction) where
-  -- the first factor's error k counts as i, which is k times the second factor, and the second one's error counts at most twice
+  -- the first factor's error k counts as i, which is k times the second factor, and the second factor's error counts at
+  -- most twice
   mul_near : Near (2 ^ 53) k (value s m e) X → Near (2 ^ 53) l (value t n d) Y → Small X → 0 < Y.den → k * size Y ≤ i * Y.den → k ≤ 2 ^ 40 → Near (2 ^ 53) (2 * l + i) (value s m e ⊗ value t n d) (X ⊗ Y)
   mul_near g h u p a q =
       let v = value s m e in

@@ -1,5 +1,5 @@
--- The ranges of sine and cosine, for every number of at most 0.5 in size: the sine at most 129 / 256 in size, the cosine from 111 / 128 to 257 / 256,
--- and the sum of their squares at least 31 / 32. Assumes nothing.
+-- The ranges of sine and cosine, for every number of at most 0.5 in size: the sine at most 129 / 256 in size, the
+-- cosine from 111 / 128 to 257 / 256, and the sum of their squares at least 31 / 32. Assumes nothing.
 use Rattle.std.specs.Prelude.{◌≡◌, refl, Bool, true, false, cond, ℕ, suc, ◌+◌, ◌-◌, ◌*◌, ◌^◌, ◌≤◌, ◌<◌, leb, ℤ, Float}
 use Rattle.std.proofs.Common.{sym, subst, add-zero, zero-add, add-mul, mul-le-mul, mul-le-mul_left, mul-le-mul_right, mul-pos, le_of_mul-le-mul_right, zero-mul, mul-zero, arith, leb-true, leb-false}
 use Rattle.std.specs.Float.{fin}
@@ -101,7 +101,8 @@ square_above d a w h =
     over : (r : ℕ) → r ≤ w → (a + r) * (a + r) ≤ a * a + 2 * (w * (a + r))
     over r l = let x = mul-le-mul_right (a + r) l in simp ring (omega (arith, simp ring at x))
 
--- a cosine A / N of at least 1 - x * x / 2 and a sine B / N of at least 23 / 24 * x, each less 1 / 1024, where x is X / N
+-- a cosine A / N of at least 1 - x * x / 2 and a sine B / N of at least 23 / 24 * x, each less 1 / 1024, where x is
+-- X / N
 squares_of : (A B X Y N : ℕ) → Y * N ≡ X * X → 2 * X ≤ N → 2048 * N ≤ 2048 * A + (1024 * Y + 2 * N) → 23552 * X ≤ 24576 * B + 24 * N → 31 * (N * N) ≤ 32 * (A * A + B * B)
 squares_of A B X Y N e h c s =
     let a = simp ring at (square_above (2048 * N) (2048 * A) (1024 * Y + 2 * N) c) in

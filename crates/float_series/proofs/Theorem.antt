@@ -1,4 +1,4 @@
--- What the answers are, for every argument and both series: all of `specs/Theorem.antt`. Assumes nothing.
+-- What sine and cosine reply, for every argument: the proof of all of `specs/Theorem.antt`. Assumes nothing.
 use Rattle.std.specs.Prelude.{◌≡◌, refl, Bool, true, false, ℕ, ◌*◌, ◌^◌, ◌≤◌, ◌<◌, ℤ, Float, Ok}
 use Rattle.std.proofs.Common.{true≢false, arith, ltb-false}
 use Rattle.std.specs.Float.{nan, inf, fin}
@@ -16,7 +16,7 @@ use Rattle.float_series.specs.Bound.{series_within}
 use Rattle.float_series.specs.Theorem.{Close, Right, SeriesRight}
 use Rattle.float_series.proofs.Ranges.{SineCosine, series_ranged}
 
--- ---- what is not refused is a number of at most 0.5 in size
+-- ---- an argument that is not refused is a number of at most 0.5 in size
 at_most_half : (s : Bool) (m : ℕ) (e : ℤ) → beyond_half (fin s m e) ≡ false → 2 * (m * up e) ≤ down e
 unfolding beyond_half is_nan lt abs_of of_bits
 at_most_half s m e h = omega (arith, ltb-false (1 * down e) (m * up e * 2) h)

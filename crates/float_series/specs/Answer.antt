@@ -1,4 +1,5 @@
--- What the calls answer: a refusal where the number is NaN or beyond 0.5 in size, and the series otherwise. Definitions only.
+-- What the calls reply: a refusal where the number is NaN or beyond 0.5 in size, and the series otherwise.
+-- Definitions only.
 use Rattle.std.specs.Prelude.{Bool, ◌||◌, cond, Float, Result, Ok, Err}
 use Rattle.std.specs.Float.Ieee.{lt, is_nan}
 use Rattle.float.specs.Float.{abs_of}

@@ -21,7 +21,8 @@ small_times {b} {x} {y} p m a = record {
   small = rw (size_times x y) (simp (one-mul, mul_assoc) at (mul-le-mul m.small (le_trans (mul-le-mul_right (size y) p) a.small)));
 }
 
--- one step: 8 / 4 of the sum so far, twice 1 of x * x, and 1 each of the product's rounding, the coefficient and the sum's rounding
+-- one step: 8 / 4 from the sum so far, twice 1 from x * x, and 1 each from the rounded product, the coefficient and the
+-- rounded sum
 step : (q acc : Float) (Q A : Fraction) (n : ℕ) → Within (2 ^ 53) 1 q Q → AtMost 4 Q → Within (2 ^ 53) 8 acc A → Small A → Small ((A ⊗ Q) ⊕ inverse n) → Within (2 ^ 53) 8 (add binary64 (mul binary64 acc q) (coefficient_of n)) ((A ⊗ Q) ⊕ inverse n)
 step q acc Q A n h b w a s =
     within_weaken (lit≤ tt) (add_within (mul_within 2 w h a (small_times (lit≤ tt) a b) b.some (omega (arith, b.small)) (lit≤ tt) (lit≤ tt)) (coefficient_within n) s (lit≤ tt))

@@ -1,4 +1,5 @@
--- The exact sum of a series' terms equals the one that goes from its last coefficient on, times x * x plus the one before. Assumes nothing.
+-- The exact sum of a series' terms equals the nested one, which starts with the last coefficient and is multiplied by
+-- x * x before each further coefficient is added. Assumes nothing.
 use Rattle.std.specs.Prelude.{◌≡◌, refl, Bool, true, false, cond, ℕ, zero, suc, ◌+◌, ◌*◌, ◌≤◌, ◌<◌}
 use Rattle.std.proofs.Common.{sym, ap, ◌∙◌, subst, mul-pos, mul-le-mul, mul-le-mul_right, mul-le-mul_left, zero-lt-suc, suc-mul, le_trans, arith}
 use Rattle.std.proofs.Math.Nat.{mul-mul-mul_comm}
@@ -6,7 +7,7 @@ use Rattle.float_laws.specs.Fraction.{Fraction, ◌⊕◌, ◌⊗◌, size, Near
 use Rattle.float_laws.specs.Within.{Small}
 use Rattle.float_series.specs.Series.{factorial, negative, power, inverse, terms}
 
--- as `horner_of`, and not rounded
+-- like `horner_of`, but not rounded
 unfoldable pub nested : Fraction → ℕ → ℕ → Fraction
 nested x zero n = inverse n
 nested x (suc j) n = (nested x j (suc (suc n)) ⊗ (x ⊗ x)) ⊕ inverse n

@@ -1,4 +1,5 @@
--- Sine and cosine of a small number, from sixteen coefficients: what is computed, and the exact sum of eight terms that it stands for. Definitions only.
+-- Sine and cosine of a small number, from sixteen coefficients: the sum as it is computed, and the exact sum of eight
+-- terms that it stands for. Definitions only.
 use Rattle.std.specs.Prelude.{ℕ, zero, suc, ◌*◌, ◌%◌, Bool, false, leb, Float}
 use Rattle.std.specs.Float.{binary64}
 use Rattle.std.specs.Float.Ieee.{round}
@@ -26,7 +27,7 @@ negative n = leb 2 (n % 4)
 unfoldable pub coefficient_of : ℕ → Float
 coefficient_of n = round binary64 (negative n) 1 (factorial n)
 
--- ---- the sum of the coefficients n, n + 2, .. up to n + 2 * j, from the last one on: times q, plus the one before
+-- ---- the sum with the coefficients n, n + 2, .. up to n + 2 * j, from the last to the first: s * q plus the next one
 unfoldable pub horner_of : Float → ℕ → ℕ → Float
 unfolding coefficient_of
 horner_of q zero n = coefficient_of n

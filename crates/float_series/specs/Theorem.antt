@@ -1,4 +1,4 @@
--- What the answers are, for every argument and both series, as a type. `proofs/Theorem.antt` proves it. Definitions only.
+-- What sine and cosine reply, for every argument, as a type. `proofs/Theorem.antt` proves it. Definitions only.
 use Rattle.std.specs.Prelude.{◌≡◌, Bool, true, false, ◌*◌, ◌^◌, ◌≤◌, ◌<◌, Float, Result, Ok, Err}
 use Rattle.float.specs.Float.{is_finite}
 use Rattle.float.specs.Literals.{one₆₄, zero_of}
@@ -10,7 +10,8 @@ use Rattle.float_series.specs.Answer.{beyond_half, answer_of}
 use Rattle.common.specs.declared.Refusal.{Refusal}
 use Rattle.common.specs.declared.Refusal.TheVariants.{BeyondHalf}
 
--- ---- a number within 2 ^ -50 of the exact value, or a refusal; `apart` is the difference of two fractions, times both denominators
+-- ---- a number within 2 ^ -50 of the exact value, or a refusal
+-- `apart` is the difference of two fractions, times both denominators
 pub record Close (y : Float) (e : Fraction) : Type 0 where
   pub fraction : 0 < e.den
   pub number : is_finite y ≡ true

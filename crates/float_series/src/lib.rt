@@ -1,5 +1,6 @@
-// Sine and cosine of a number of at most 0.5 in size, by eight terms of their power series: the same bits on every computer.
-// Any other argument, NaN too, is refused. How near the answers are to the exact sums is `specs/Theorem.antt`.
+// Sine and cosine of a number of at most 0.5 in size, by eight terms of their power series: the same bits on every
+// computer. Any other argument, NaN too, is refused. How near the answers are to the exact sums is
+// `specs/Theorem.antt`.
 
 #![tactic(auto)]
 
@@ -12,7 +13,8 @@ ghost use Rattle.float_series.specs.Answer.{beyond_half, answer_of};
 
 use common::Refusal;
 
-// Entry n: 1 / n!, with the sign of the series' term, rounded to nearest. One rule is proved over all entries: `coefficient`.
+// Entry n: 1 / n!, with the sign of the series' term, rounded to nearest. One rule is proved over all entries:
+// `coefficient`.
 const COEFFICIENTS: [f64; 16] = [
     1.0,
     1.0,
@@ -39,8 +41,8 @@ fn coefficient(n: usize) -> f64
     COEFFICIENTS[n]
 }
 
-// From the last of eight coefficients on, times q plus the one before: first is 0 for the cosine and 1 for the sine.
-// Kept: a loop over places: one table holds the coefficients of both sums, and each takes every other one.
+// The sum of eight terms, from the last coefficient to the first: `first` is 0 for the cosine and 1 for the sine. The
+// loop goes over indices, since one table holds the coefficients of both sums and each sum takes every other one.
 #[tactic(auto, unfolding(crate::specs::Series::horner_of))]
 fn horner(first: usize, q: f64) -> f64
     requires { first ≤ 1 }
@@ -68,11 +70,11 @@ pub fn cosine_sum(x: f64) -> f64
     horner(0, x * x)
 }
 
-// What is refused: NaN, and what is beyond 0.5 in size.
+// Whether a call refuses x: NaN, and a number beyond 0.5 in size.
 pub fn beyond(x: f64) -> bool
     ensures { result ≡ beyond_half x }
 {
-    // Mostly the square tells, which the series needs too: a rounded square keeps the order of sizes.
+    // The square decides most cases, and the series needs it anyway: a rounded square keeps the order of sizes.
     if x * x < 0.5 * 0.5 {
         return false;
     }

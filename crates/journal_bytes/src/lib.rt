@@ -1,5 +1,5 @@
-// The journal as bytes: lines written to a lent buffer and read back, and the report's line of counts. What a line is, and what holds of its bytes, is
-// `journal_line`'s.
+// The journal as bytes: lines are written to a lent buffer and read back, and the report is written. `journal_line`
+// says what a line is and what holds of its bytes.
 
 #![tactic(auto)]
 

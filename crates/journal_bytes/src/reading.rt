@@ -31,8 +31,8 @@ fn digit_of(c: u8) -> u64
     ((c % 16 + 9 * (c / 64)) % 16) as u64
 }
 
-// The number of the first w bytes, to a base.
-// Kept: a loop over places: w may go past the end, where each byte reads as 0, and a fold over the bytes that are there would stop at the end.
+// The number of the first w bytes, to a base. w may go past the end, where each byte reads as 0: so it loops over
+// places.
 fn number_at(s: &[u8], base: u64, w: usize) -> u64
     requires { (base ≤ 16) × (w ≤ 16) }
     ensures { result ≡ number_at base w s.now }
@@ -44,7 +44,7 @@ fn number_at(s: &[u8], base: u64, w: usize) -> u64
     n
 }
 
-// How many decimals stand here.
+// How many decimal digits stand at the front.
 #[tactic(auto, unfolding(journal_line::specs::Reading::decimal_width_at))]
 fn decimal_width_at(s: &[u8]) -> usize
     ensures { (result ≡ decimal_width_at s.now) × (result ≤ 3) }
@@ -62,14 +62,14 @@ fn decimal_width_at(s: &[u8]) -> usize
 fn real_at(s: &[u8]) -> f64
     ensures { result ≡ real_at s.now }
 {
-    // Where sixteen digits stand, one look at the end serves for all.
+    // Where sixteen bytes are left, one test of the length serves for all of them.
     if let Some(digits) = s.get(..16) {
         return float::from_bits(number_at(digits, 16, 16));
     }
     float::from_bits(number_at(s, 16, 16))
 }
 
-// As many reals as `into` holds, each behind a comma.
+// Reads as many reals as `into` holds, each behind a comma.
 fn read_reals(s: &[u8], into: &mut [f64])
     ensures { into.new ≡ reals (length into.old) s.now }
 {
@@ -80,8 +80,7 @@ fn read_reals(s: &[u8], into: &mut [f64])
     }
 }
 
-// The skip reason of a letter.
-// Kept: the reason's `TryFrom` of a byte reads its number, as other languages are told; the letter is the line's alone.
+// The skip reason of a letter, which only lines have; `TryFrom` reads a reason from its number.
 #[tactic(auto, unfolding(journal_line::specs::Reading::reason_of))]
 fn reason_of(c: u8) -> Option<SkipReason>
     ensures { result ≡ reason_of c }
@@ -155,8 +154,8 @@ pub fn count_newlines(s: &[u8]) -> usize
     s.iter().filter(|c| **c == b'\n').count()
 }
 
-// The number of the line that stands at a place.
-// Kept: bytes and place are two parameters, here and in `read_line`: the reader, whose struct this is, is a crate above, and the walk keeps its place in a local.
+// The number of the line that stands at a place. Bytes and place are two parameters, here and in `read_line`: the
+// struct of both is the reader's, in a crate above this one, and the walk has no such struct.
 fn not_of_form(bytes: &[u8], at: usize) -> Read
     requires { at ≤ length bytes.now }
     ensures { result ≡ Read.NotOfForm (line_number_of bytes.now at) }

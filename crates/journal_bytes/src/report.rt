@@ -1,4 +1,4 @@
-// The report: the five counts and their total as one line, to the front of a lent buffer.
+// The report: writes the five counts and their total as one line to the front of a lent buffer.
 ghost use Rattle.std.specs.Prelude.{◌≡◌, map, ◌+◌, ◌*◌, ◌≤◌, length};
 ghost use Rattle.journal_line.specs.Line.{decimal};
 ghost use Rattle.journal_line.specs.Steps.{comma_fields, Stored};
@@ -9,8 +9,8 @@ use common::Refusal;
 use journal_line::Counts;
 use journal_line::total::total_if_small;
 
-// Decimals, each behind a comma; gives the place behind.
-// Kept: buffer and place are two parameters, for the writer's reasons.
+// Writes decimals, each behind a comma, and returns the place behind them. Buffer and place are two parameters, for the
+// reasons that writing.rt gives.
 fn put_decimals(out: &mut [u8], at: usize, ns: &[usize]) -> usize
     requires { at + 4 * length ns.now ≤ length out.old }
     ensures { (result ≡ at + length (comma_fields (map decimal ns.now))) × Stored out.old at (comma_fields (map decimal ns.now)) out.new × (result ≤ at + 4 * length ns.now) }
@@ -34,7 +34,7 @@ pub fn write_report(counts: Counts, out: &mut [u8]) -> Result<usize, Refusal>
         return Err(Refusal::NotWritable);
     }
     let at = put_decimal(out, 0, counts.scored);
-    // Kept: these aren't the counts as a list: the first has no comma before it, and the sum stands behind the others.
+    // These aren't the five counts: the first has no comma before it, and the sum stands behind the others.
     let others = [
         counts.host_failed,
         counts.bad_camera,

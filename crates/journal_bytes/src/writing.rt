@@ -1,7 +1,7 @@
-// The writer: a line's bytes to the front of a lent buffer. Each part is stored from a place on, and says so.
-// Kept: buffer and place are two parameters: a struct of both would change in every call, and each contract would name its fields before and after.
-// A slice from the place on was tried for put_digits: its callers then have to show how long the slice is, and that what is stored in it is stored in the
-// buffer, so their proofs get longer and its own no shorter. After a loop over chunks_exact_mut a proof knows how long the buffer is and not what it holds.
+// The writer puts a line's bytes to the front of a lent buffer. Each part is stored from a place on, as its contract
+// says. Buffer and place are two parameters: with a struct of both, each contract would name its fields before and
+// after. With a slice from the place on, each caller would have to show how long the slice is, and that what it holds
+// is in the buffer.
 ghost use Rattle.std.specs.Prelude.{◌≡◌, [], ◌∷◌, ◌++◌, map, ◌+◌, ◌*◌, ◌<◌, ◌≤◌, length, replicate};
 ghost use Rattle.journal_line.specs.Line.{digit_byte, digits, decimal_width, decimal, real, reason_letter, rest_of_line, outcome_fields, recordable, writable, LineFits};
 ghost use Rattle.journal_line.specs.Steps.{comma_fields, Stored};
@@ -19,13 +19,13 @@ fn digit_byte(d: u64) -> u8
     (48 + d + 39 * ((d + 6) / 16)) as u8
 }
 
-// The last w digits of n to a base, from the highest down: stored from the lowest up.
+// Writes the last w digits of n to a base, the highest first; the lowest is stored first.
 fn put_digits(out: &mut [u8], at: usize, base: u64, w: usize, n: u64)
     requires { (at + w ≤ length out.old) × (0 < base) × (base ≤ 16) }
     ensures { Stored out.old at (digits base w n) out.new }
 {
     let mut left = n;
-    // Kept: the bytes by their places: after a loop over `out[at..at + w].iter_mut().rev()` a proof knows how long `out` is and not what it holds.
+    // It loops over places: after `out[at..at + w].iter_mut().rev()` a proof doesn't know what `out` holds.
     for i in (0..w).rev() {
         out[at + i] = digit_byte(left % base);
         left = left / base;
@@ -52,7 +52,7 @@ fn decimal_width(n: usize) -> usize
     3
 }
 
-// A number below 1000; gives the place behind.
+// Writes a number below 1000, and returns the place behind it.
 pub(crate) fn put_decimal(out: &mut [u8], at: usize, n: usize) -> usize
     requires { at + 3 ≤ length out.old }
     ensures { (result ≡ at + decimal_width n) × Stored out.old at (decimal n) out.new × (result ≤ at + 3) }
@@ -62,7 +62,7 @@ pub(crate) fn put_decimal(out: &mut [u8], at: usize, n: usize) -> usize
     at + w
 }
 
-// Reals, each behind a comma.
+// Writes reals, each behind a comma.
 fn put_reals(out: &mut [u8], at: usize, xs: &[f64])
     requires { at + 17 * length xs.now ≤ length out.old }
     ensures { Stored out.old at (comma_fields (map real xs.now)) out.new }
@@ -74,7 +74,7 @@ fn put_reals(out: &mut [u8], at: usize, xs: &[f64])
     }
 }
 
-// Eight minus signs, each behind a comma.
+// Writes eight minus signs, each behind a comma.
 fn put_minuses(out: &mut [u8], at: usize)
     requires { at + 16 ≤ length out.old }
     ensures { Stored out.old at (comma_fields (replicate 8 (45 ∷ []))) out.new }
@@ -82,8 +82,7 @@ fn put_minuses(out: &mut [u8], at: usize)
     out[at..at + 16].copy_from_slice(b",-,-,-,-,-,-,-,-");
 }
 
-// The letter of a skip reason.
-// Kept: the reason's `From` for a byte is its number, as other languages are told; the letter is the line's alone.
+// The letter of a skip reason, which only lines have; `From` gives a reason's number.
 #[tactic(auto, unfolding(journal_line::specs::Line::reason_letter))]
 fn reason_letter(reason: SkipReason) -> u8
     ensures { result ≡ reason_letter reason }
@@ -96,7 +95,7 @@ fn reason_letter(reason: SkipReason) -> u8
     }
 }
 
-// The outcome's letter, what follows it, and the newline; gives the place behind.
+// Writes the outcome's letter, what follows it, and the newline, and returns the place behind them.
 fn put_outcome(out: &mut [u8], at: usize, outcome: Recorded) -> usize
     requires { at + 139 ≤ length out.old }
     ensures { (result ≡ at + length (rest_of_line (outcome_fields outcome))) × Stored out.old at (rest_of_line (outcome_fields outcome)) out.new }
@@ -136,7 +135,7 @@ fn is_writable(line: Line) -> bool
     (line.number <= 655) & (line.round <= 16) & is_recordable(line.outcome)
 }
 
-// Number and round, parted by a comma; gives the place behind.
+// Writes number and round, parted by a comma, and returns the place behind them.
 fn put_head(out: &mut [u8], number: usize, round: usize) -> usize
     requires { 7 ≤ length out.old }
     ensures { (result ≡ decimal_width number + (decimal_width round + 1)) × Stored out.old 0 (decimal number ++ 44 ∷ decimal round) out.new × (result ≤ 7) }
@@ -146,8 +145,8 @@ fn put_head(out: &mut [u8], number: usize, round: usize) -> usize
     put_decimal(out, n + 1, round)
 }
 
-// Writes the line to the front of the buffer, or refuses it and writes nothing. That the line's numbers fit is no demand: those of every line that a
-// program holds do, so what is written is read back.
+// Writes the line to the front of the buffer, or refuses it and writes nothing. The contract ensures that the line's
+// numbers fit, since those of every line that a program holds do; so what is written is read back.
 pub fn write_line(line: Line, out: &mut [u8]) -> Result<usize, Refusal>
     ensures reply { result ≡ write_reply line out.old }
     ensures written { out.new ≡ write_into line out.old }

@@ -1,5 +1,5 @@
--- Any bytes are whole lines and a rest that no line begins, in one way: the reader gives these lines and stops at the rest. So a journal that was cut off
--- after any byte has lost only the line that the cut fell in. Assumes nothing.
+-- Any bytes are whole lines and a rest that doesn't begin with a line, in one way alone: the reader gives these lines
+-- and stops at the rest. So a journal that was cut off anywhere has lost only the line that was cut. Assumes nothing.
 use Prim.Native.Nat.{ℕ, zero, suc, ◌+◌, ◌-◌, ◌≤◌}
 use Rattle.std.specs.Prelude.{◌≡◌, refl, ltb, drop}
 use Rattle.std.proofs.Math.Path.{sym, ap}
@@ -86,7 +86,7 @@ whole_front s = read_front (suc (length s)) s 0
 pub whole_rest : (s : List ℕ) → NoLine (whole_front s).rest
 whole_rest s = (whole_front s).none_there (whole_stops s)
 
--- ---- in one way: lines that stand in front are those that are read first
+-- ---- in one way alone: lines that stand in front are those that are read first
 pub record Further (ls ms : List Line) (r q : List ℕ) : Type 0 where
   pub more : List Line
   pub lines_are : ms ≡ ls ++ more

@@ -1,4 +1,4 @@
--- Each line has one reading, and each reading one line; so have whole journals. Assumes nothing.
+-- Each line has one reading, and each reading one line. Assumes nothing.
 use Prim.Native.Nat.{ℕ, zero, suc, ◌+◌, ◌<◌, ◌≤◌}
 use Rattle.std.specs.Prelude.{◌≡◌, true, false, ◌&&◌, leb, ltb, eqb, length, get_or, drop, Float, Ok, Err, Option, Some, None}
 use Rattle.std.specs.Option.{option_map}

@@ -1,4 +1,4 @@
--- 02, E6: how many candidates were scored and how many skipped for each reason, counted over lines of the journal. Definitions only.
+-- How many candidates were scored and how many skipped for each reason, counted over lines. Definitions only.
 use Rattle.std.specs.Prelude.{ℕ, ◌+◌, cond, List, [], ◌∷◌, eqb, Ok, Err, Option, Some, None}
 use Rattle.score_outcome.specs.declared.SkipReason.{SkipReason}
 use Rattle.score_outcome.specs.declared.SkipReason.TheVariants.{HostFailed, BadCamera, NoMean, NoNumber}
@@ -19,7 +19,7 @@ abbrev pub kind_number : Kind → ℕ
 kind_number None = 0
 kind_number (Some reason) = reason_number reason
 
--- 1 of what is of kind k
+-- 1 if a kind is k, else 0
 abbrev pub one : Kind → Kind → ℕ
 one k kind = cond (eqb (kind_number kind) (kind_number k)) 1 0
 

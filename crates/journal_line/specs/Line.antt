@@ -1,4 +1,4 @@
--- A line of the journal as a value and as bytes, beside 02's words (E2 and E3). Definitions only.
+-- A line of the journal as a value and as bytes. Definitions only.
 use Rattle.std.specs.Prelude.{ℕ, zero, suc, ◌+◌, ◌/◌, ◌%◌, ◌≡◌, Bool, true, not, ◌&&◌, cond, List, [], ◌∷◌, ◌++◌, map, T, ltb, leb, replicate, Float, Ok, Err}
 use Rattle.std.specs.Float.{binary64}
 use Rattle.std.specs.Float.Ieee.{is_nan, fits}

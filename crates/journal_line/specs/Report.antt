@@ -1,5 +1,5 @@
--- The report of a run (02, E6): how many candidates were scored, how many were skipped for reasons 1 to 4, and the total, on one line.
--- Definitions only.
+-- The report of a run, on one line: how many candidates were scored, how many were skipped for reasons 1 to 4, and the
+-- total. Definitions only.
 use Rattle.std.specs.Prelude.{ℕ, ◌+◌, Bool, ◌||◌, cond, List, [], ◌∷◌, ◌++◌, map, ltb, length, drop, Option, Some, None, Result, Ok, Err}
 use Rattle.common.specs.declared.Refusal.{Refusal}
 use Rattle.common.specs.declared.Refusal.TheVariants.{NotWritable}

@@ -22,7 +22,7 @@ pub record LineAt (s : List ℕ) (at next : ℕ) (l : Line) : Type 0 where
   pub next_is : next ≡ at + length (line_bytes l)
   pub bytes_are : drop at s ≡ line_bytes l ++ drop next s
 
--- what an answer tells
+-- what holds where the reader answers so
 abbrev pub Correct : List ℕ → ℕ → Read → Type 0
 Correct s at (Got l next) = LineAt s at next l
 Correct s at End = length s ≤ at

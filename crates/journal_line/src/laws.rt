@@ -2,13 +2,14 @@
 
 ghost use Rattle.journal_line.specs.Theorem.{JournalIsExact, ReportIsExact, FieldsWritten};
 
-/// Each line has one reading and each reading one line.
+/// The bytes of a line are read as that line, what is read as a line is that line's bytes, and a whole journal is read
+/// as the lines that were written.
 #[tactic(auto, using(crate::proofs::Summary::journal_is_exact))]
 pub fn journal_law()
     ensures { JournalIsExact }
 {}
 
-/// A report is one line of at most 24 bytes, with one reading.
+/// A report is one line of at most 24 bytes, and no two reports have the same bytes.
 #[tactic(auto, using(crate::proofs::Summary::report_is_exact))]
 pub fn report_law()
     ensures { ReportIsExact }

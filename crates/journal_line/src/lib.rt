@@ -44,8 +44,8 @@ pub struct Counts {
     pub no_number: usize,
 }
 
-// What reading at a place gives: a line with the place behind it, the end, or the line's number, from 1, where the bytes are no line.
-// Kept: reading ends in three ways, and an Option in a Result would nest two of them and be no plainer.
+// What reading at a place gives: a line with the place behind it, the end, or the line's number, from 1, where the
+// bytes are no line. An Option in a Result would nest two of these three.
 #[derive(Clone, Copy)]
 pub enum Read {
     Got(Line, usize),

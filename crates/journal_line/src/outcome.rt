@@ -96,9 +96,8 @@ pub fn outcome_in(recorded: Recorded) -> Outcome
     recorded.map(Scoring::from)
 }
 
-// What is recorded where 0 says scored and 1 to 4 the reason for a skip, as the structs of the C interface have it. Another number is refused, as a line
-// that the journal can't hold.
-// Kept: a number, and no reason: C hands it in and gets it back, in its line and in the run's record, also where it is no reason's. Here it is read.
+// What is recorded where 0 says scored and 1 to 4 the reason for a skip, as the structs of the C interface have it.
+// Another number, which C can hand in, is refused, as a line that the journal can't hold.
 pub fn recorded_with(skipped: u8, fields: ScoredFields) -> Result<Recorded, Refusal>
     ensures { result ≡ recorded_with skipped fields }
 {

@@ -1,10 +1,10 @@
-// The five counts as a list, and their sum, where it can be a run's.
+// The five counts as a list, and their sum, where a run can have it.
 ghost use Rattle.std.specs.Prelude.{◌≡◌};
 ghost use Rattle.journal_line.specs.Report.{five, small_total};
 
 use crate::Counts;
 
-// In the order that a report has them.
+// The five counts, in the order that a report has them.
 impl From<Counts> for [usize; 5] {
     ghost from_gives = { λ counts numbers. numbers ≡ five counts };
 

@@ -1,4 +1,4 @@
--- What a step of the reader does: the answer, and the reader behind it. Definitions only.
+-- What a step of the reader does: its answer, and the reader after it. Definitions only.
 use Rattle.std.specs.Prelude.{◌≡◌}
 use Rattle.journal_line.specs.declared.Read.{Read}
 use Rattle.journal_reader.specs.declared.Reader.{Reader}

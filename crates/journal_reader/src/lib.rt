@@ -1,4 +1,4 @@
-// A reader that keeps a journal's bytes and its place in them. The methods are thin; the work is `journal_bytes::reading::read_line`'s.
+// A reader that keeps a journal's bytes and its place in them. Its methods call `journal_bytes::reading::read_line`.
 
 #![tactic(auto)]
 
@@ -43,9 +43,7 @@ impl<'a> Reader<'a> {
     }
 }
 
-// What stands at a place of a journal, for callers that keep bytes and place themselves.
-// Kept: beside `read_line`, which promises the same: 01 names the form of the reader, and this is that form for a caller from C, who keeps bytes and place and
-// hands in both.
+// What stands at a place of a journal: the reader for a caller from C, which keeps bytes and place itself.
 pub fn read_at(bytes: &[u8], at: usize) -> Read
     ensures { result ≡ read_line bytes.now at }
 {

@@ -1,4 +1,5 @@
--- 02, E5: what running a journal again replies, and what it leaves of the seed buffer, as a function of what Start takes. Definitions only.
+-- What running a journal again replies, and what it leaves of the lent list, as a function of what Start takes.
+-- Definitions only.
 use Rattle.std.specs.Prelude.{ℕ, suc, List, Float, Result, Ok, Err}
 use Rattle.common.specs.declared.Refusal.{Refusal}
 use Rattle.common.specs.declared.Refusal.TheVariants as refusal
@@ -41,12 +42,12 @@ reply_by NotTheRun n s = Err (At refusal.NotTheRun (suc n))
 unfoldable pub reply_to : RunWalk → Result Standing ReplayRefusal
 reply_to w = reply_by w.stop w.lines (standing_of w.run w.list)
 
--- the reply, and the seed buffer after it
+-- the reply, and the lent list after it
 pub record ReplayLeft : Type 0 where
   pub reply : Result Standing ReplayRefusal
   pub list : List Float
 
--- Start's own refusals come first, and leave the buffer; l is the buffer as Start left it
+-- Start's own refusals come first, and leave the lent list; l is the list as Start left it
 abbrev pub replay_from : Result Run Refusal → List Float → List ℕ → ReplayLeft
 replay_from (Ok r) l bs = let w = walk_of r l bs in record { reply = reply_to w; list = w.list }
 replay_from (Err why) l bs = record { reply = Err (Refused why); list = l }

@@ -1,4 +1,4 @@
--- 02, E13: the run that goes on from a journal, and the report, as a function of what Start takes. Definitions only.
+-- The run that goes on from a journal, and the report, as a function of what Start takes. Definitions only.
 use Rattle.std.specs.Prelude.{ℕ, Bool, false, cond, List, [], ◌∷◌, eqb, length, drop, Float, Result, Ok, Err}
 use Rattle.common.specs.declared.Refusal.{Refusal}
 use Rattle.camera_models.specs.declared.math.Pt2.{Pt2}
@@ -16,7 +16,7 @@ use Rattle.journal_replay.specs.declared.Resumed.{Resumed}
 use Rattle.journal_replay.specs.declared.Walked.{Walked}
 use Rattle.journal_replay.specs.Walk.{walk_of, walked_as}
 
--- 02: nothing behind them, a missing newline, 29, 30
+-- the number of what ended the kept lines: nothing behind them, a missing newline, 29, 30
 abbrev pub ended_number : EndedBy → ℕ
 ended_number MissingNewline = 1
 ended_number (Stopped AllTaken) = 0
@@ -28,7 +28,7 @@ abbrev pub is_cut_line : List ℕ → Bool
 is_cut_line [] = false
 is_cut_line (c ∷ cs) = eqb (newlines (c ∷ cs)) 0
 
--- 02: a missing newline is looked for before 29 and 30
+-- a missing newline is looked for before 29 and 30
 unfoldable pub ended_by_of : Stop → List ℕ → EndedBy
 ended_by_of e rest = cond (is_cut_line rest) MissingNewline (Stopped e)
 
@@ -41,12 +41,12 @@ report_on w bs =
 abbrev pub resumed_by : Walked → List ℕ → Resumed
 resumed_by w bs = record { run = w.run; report = report_on w bs }
 
--- ---- the reply, and the seed buffer after it
+-- ---- the reply, and the lent list after it
 pub record ResumeLeft : Type 0 where
   pub reply : Result Resumed Refusal
   pub list : List Float
 
--- Start's own refusals come first, and leave the buffer; l is the buffer as Start left it
+-- Start's own refusals come first, and leave the lent list; l is the list as Start left it
 abbrev pub resume_from : Result Run Refusal → List Float → List ℕ → ResumeLeft
 resume_from (Ok r) l bs = let w = walk_of r l bs in record { reply = Ok (resumed_by (walked_as w) bs); list = w.list }
 resume_from (Err why) l bs = record { reply = Err why; list = l }

@@ -1,4 +1,4 @@
--- 02, E5: a line's numbers beside the run's, and what a line records that can stand for an answer. Definitions only.
+-- A line's numbers beside the run's, and what a line records that can stand for an answer. Definitions only.
 use Rattle.std.specs.Prelude.{Bool, true, false, not, ◌&&◌, List, [], ◌∷◌, eqb, Float, Ok, Err}
 use Rattle.std.specs.Float.Ieee.{lt}
 use Rattle.float.specs.Float.{bits_of, is_finite, within}
@@ -24,8 +24,8 @@ same_reals (x ∷ xs) (y ∷ ys) = same_real x y && same_reals xs ys
 unfoldable pub is_mean : Float → Bool
 is_mean x = is_finite x && not (lt x plus_zero)
 
--- Under S, of a seed with the tilts t: Answer's camera check, tangential coefficients of at most 0.05 in size, a mean, and the very score that Answer would work
--- out from them.
+-- What a line with S records of a seed with the tilts t: a camera that passes Answer's check, with tangential
+-- coefficients of at most 0.05 in size, a mean, and the very score that Answer would work out from them.
 unfoldable pub can_be_scored : Pt2 → ScheimpflugParams → ScoredFields → Bool
 can_be_scored center t m =
     let c = (scoring_in m).camera in

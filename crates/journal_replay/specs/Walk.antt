@@ -1,5 +1,5 @@
--- 02, E5 and E13: a journal's lines walked against the run's record. Next hands out a seed, the line is held against it, and what it records is entered as Answer's
--- outcome would be. Definitions only.
+-- A walk over a journal's lines, from a run's record on. Next hands out a seed, the line is compared with it, and what
+-- it records is entered as Answer's outcome would be. Definitions only.
 use Rattle.std.specs.Prelude.{ℕ, suc, ◌+◌, Bool, true, false, ◌&&◌, cond, List, [], ◌∷◌, eqb, length, Float, Option, Some, None, Result, Ok, Err}
 use Rattle.common.specs.declared.Refusal.{Refusal}
 use Rattle.seed_rules.specs.Layout.{six}

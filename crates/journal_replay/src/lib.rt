@@ -1,6 +1,6 @@
-// A journal run again (02, E5) and gone on from (02, E13). One walk over the lines serves both: Next hands out a seed, the line is held against it, and what it
-// records is entered as an answer's outcome would be.
-// Kept: a run's record, its list and the journal's bytes are three parameters, in each module below: C keeps record and list apart, and the bytes are of neither.
+// A journal is run again, or a run goes on from it. One walk over the lines serves both: Next hands out a seed, the
+// line is compared with it, and what it records is entered as an answer's outcome would be. A run's record, its list
+// and the journal's bytes are three parameters in each module below, since C keeps them apart.
 
 #![tactic(auto)]
 
@@ -17,9 +17,8 @@ use common::Refusal;
 use search_record::run::Run;
 use seed_rules::CandidateSeed;
 
-// What stopped a walk: the end of the journal; a line that isn't of the form, 29; or one that can't be the run's next answer, 30.
-// Kept: a Result of Refusal would admit refusals that no walk gives: `ended_number` and the theorems go by these three cases, and would need one for the others.
-// `ReplayRefusal::At` takes any, since its refusal is only told on.
+// What stopped a walk: the end of the journal; a line that isn't of the form, 29; or one that can't be the run's next
+// answer, 30. A Result of Refusal would admit refusals that no walk gives.
 #[derive(Clone, Copy)]
 pub enum Stop {
     AllTaken,
@@ -36,8 +35,8 @@ pub struct Walked {
     pub stop: Stop,
 }
 
-// Where a run stands: the winner's number and score, or the seed that comes next in a run that isn't over.
-// Kept: a Result would call one of the two a failure, and neither is; 02 names both.
+// Where a run stands: the winner's number and score, or the seed that comes next in a run that isn't over. It is no
+// Result, since neither is a failure.
 #[derive(Clone, Copy)]
 pub enum Standing {
     Winner { number: usize, score: f64 },
@@ -59,8 +58,8 @@ impl From<Refusal> for ReplayRefusal {
     }
 }
 
-// What ended the kept lines: a line without its newline, or what stopped the walk.
-// Kept: an Option of Stop would say by None that nothing ended them; a missing newline is a reason of its own, and each reason has its number.
+// What ended the kept lines: a line without its newline, or what stopped the walk. It is no Option of Stop, since a
+// missing newline is a reason of its own.
 #[derive(Clone, Copy)]
 pub enum EndedBy {
     MissingNewline,

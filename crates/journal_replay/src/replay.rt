@@ -1,4 +1,4 @@
-// 02, E5: a journal run again from Start's inputs, without a host.
+// A journal that is run again from Start's inputs, without a host.
 
 ghost use Rattle.std.specs.Prelude.{◌≡◌, ◌<◌};
 ghost use Rattle.journal_replay.specs.Replay.{standing_of, reply_by, replay_def};

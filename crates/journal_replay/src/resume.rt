@@ -1,4 +1,4 @@
-// 02, E13: a run that goes on from the lines of a journal that stops anywhere.
+// A run that goes on from the lines of a journal that stops anywhere.
 
 ghost use Rattle.std.specs.Prelude.{◌≡◌, ◌≤◌, length};
 ghost use Rattle.journal_replay.specs.Resume.{is_cut_line, ended_by_of, resumed_by, resume_def};

@@ -60,8 +60,9 @@ fn passes_check(camera: PinholeCamera) -> bool
     validate_camera(camera) & is_damped(camera.dist.p1) & is_damped(camera.dist.p2)
 }
 
-// Kept: centre and tilts are two parameters: the centre is the run's, the tilts are each seed's, and no value has just these two.
-// What a scored line records: Answer's camera check, damped tangential coefficients, a mean, and the very score that Answer would work out from it.
+// Whether a scored line's numbers can be an answer's: the camera passes Answer's check and has damped tangential
+// coefficients, the mean is one, and the score is the one that Answer would work out from them. The centre is the
+// run's, and the tilts are the seed's.
 #[tactic(auto, unfolding(crate::specs::Stand::can_be_scored))]
 fn can_be_scored(center: Pt2, sensor: ScheimpflugParams, fields: ScoredFields) -> bool
     ensures { result ≡ can_be_scored center sensor fields }
@@ -85,7 +86,7 @@ fn can_stand(center: Pt2, sensor: ScheimpflugParams, outcome: Recorded) -> bool
     }
 }
 
-// The line can be the answer to the seed that waits: number, round and seed are the run's own.
+// The line can answer the seed that waits: number, round and seed are the run's own, and what it records can stand.
 #[tactic(auto, unfolding(crate::specs::Walk::answers_waiting))]
 pub fn answers_waiting(run: Run, line: Line) -> bool
     ensures { result ≡ answers_waiting run line }

@@ -28,8 +28,8 @@ fn take_line(run: Run, list: &mut [f64], line: Line) -> Option<Run>
     Some(enter(next.run, list, outcome_in(line.outcome)))
 }
 
-// Takes line after line, as long as they can be.
-// Kept: a loop: it ends in three ways, each with its own reason, and the place stays before a line that isn't taken.
+// Takes line after line, as long as they can be taken. The loop ends in three ways, each with its own reason, and the
+// place stays before a line that isn't taken.
 pub fn walk(mut run: Run, bytes: &[u8], list: &mut [f64]) -> Walked
     ensures walked { result ≡ walked_as (walk_of run list.old bytes.now) }
     ensures written { list.new ≡ (walk_of run list.old bytes.now).list }

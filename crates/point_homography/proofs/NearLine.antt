@@ -1,4 +1,4 @@
--- A cross product whose square is below that of 1e-6 is of no greater size than that. Assumes nothing.
+-- A cross product whose square is below the square of 1e-6 is not above 1e-6 in size. Assumes nothing.
 use Rattle.std.specs.Prelude.{◌≡◌, refl, true, false, Float}
 use Rattle.std.specs.Float.Ieee.{lt, of_bits}
 use Rattle.float.specs.Binary64.{◌*₆₄◌}

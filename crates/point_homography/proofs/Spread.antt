@@ -1,4 +1,4 @@
--- The theorems on specs/Spread.antt: what the rows' refusals let pass is spread out enough to be normalised. Assumes nothing.
+-- Lists of points that `design_rows` doesn't refuse are spread out enough to be normalised. Assumes nothing.
 use Rattle.std.specs.Prelude.{◌≡◌, false, ℕ, ◌≤◌, length, Float, Ok}
 use Rattle.std.proofs.Common.{sym, ◌∙◌, arith, ne_eqb}
 use Rattle.std.proofs.Math.Bool.{true≢false}
@@ -25,7 +25,7 @@ module _ (s : List Float) (n : 6 ≤ length s) (m : length s ≤ 800) where
   unfolding degenerate
   not_degenerate h = rw (ne_eqb (length s) 0 (λ e. omega arith), mean_above (centroid_of s) h)
 
--- ---- Rows: what its refusals let pass is normalised, the source points and the destination points alike
+-- ---- lists that `design_rows` doesn't refuse can be normalised, the source points and the destination points alike
 pub normalised : (src dst : List Float) (room : ℕ) → rows_refusal src dst room ≡ Ok tt → (degenerate src ≡ false) × (degenerate dst ≡ false)
 normalised src dst room h =
     let f : Fine src dst room = fine src dst room h in (
@@ -33,7 +33,7 @@ normalised src dst room h =
       not_degenerate dst (omega (arith, f.least, f.count)) (omega (arith, f.source, f.count)) f.target_off,
     )
 
--- so the Rust's two checks after its line tests, with whatever refusal, refuse nothing
+-- so the published Rust's two checks after its line tests refuse nothing, whatever refusal they reply
 pub checks_refuse_nothing : (r : Refusal) (src dst : List Float) (room : ℕ) → first_refusal (design_conditions src dst room ++ (r when degenerate src) ∷ (r when degenerate dst) ∷ []) ≡ rows_refusal src dst room
 checks_refuse_nothing r src dst room = refuses_no_more (design_conditions src dst room) ((r when degenerate src) ∷ (r when degenerate dst) ∷ []) (λ h. let f = normalised src dst room h in rw (f.0, f.1))
 

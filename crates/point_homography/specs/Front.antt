@@ -1,4 +1,5 @@
--- Normalise and Rows write the front that they promise and nothing else, and nothing at all where they refuse. Assumes nothing.
+-- Normalising and writing design rows change the front of the destination and nothing else, and nothing at all where
+-- they refuse. Assumes nothing.
 use Rattle.std.specs.Prelude.{◌≡◌, refl, false, List, [], ◌∷◌, ◌++◌, ℕ, ◌*◌, ◌/◌, ltb, length, drop, Float, Ok, Err}
 use Rattle.std.proofs.Common.{sym, ◌∙◌, arith}
 use Rattle.std.proofs.Math.Seq.{take-append_seam, drop-append_seam}
@@ -21,7 +22,7 @@ front n w d e = rw (sym e) (record { written = take-append_seam w (drop (length 
 halved : (n : ℕ) → bad_length n ≡ false → n / 2 * 2 ≡ n
 halved n h = let z = even_length n h in omega arith
 
--- ---- Normalise
+-- ---- normalising
 pub normalize_front : (s dst : List Float) → normalize_refusal s (length dst) ≡ Ok tt → Front (length s) (move_points (similarity_of s) s) dst (normalize_into s dst)
 unfolding normalize_refusal normalize_into
 normalize_front s dst h =
@@ -32,7 +33,7 @@ pub normalize_refused : (s dst : List Float) (r : Refusal) → normalize_refusal
 unfolding normalize_into
 normalize_refused s dst r h = rw (h, normalize_into)
 
--- ---- Rows
+-- ---- design rows
 pub rows_front : (src dst a : List Float) → rows_refusal src dst (length a) ≡ Ok tt
     → Front (9 * length src) (design_rows (similarity_of src) (similarity_of dst) src dst) a (rows_into src dst a)
 unfolding rows_into

@@ -34,7 +34,8 @@ off_line p0 p1 p2 = not (le (distance_of p2 p0) least_distance) && lt least_cros
 abbrev pub any_off : Pt2 → Pt2 → List Float → Bool
 any_off p0 p1 s = find_point (off_line p0 p1) (λ p. true) false s
 
--- The line goes through p0, the first point, and another one. Where there is none all points are in one place, and collinear.
+-- The line goes through p0, the first point, and another one. Where there is no other, all points are in one place, and
+-- collinear.
 unfoldable pub along : Pt2 → Option Pt2 → List Float → Bool
 unfolding find_point off_line
 along p0 None s = true

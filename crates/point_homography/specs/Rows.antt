@@ -21,7 +21,8 @@ all_finite s = list_all is_finite s
 abbrev pub minus_one : Float
 minus_one = neg one₆₄
 
--- The rows of (x, y), which the homography maps to (u, v): (-x, -y, -1, 0, 0, 0, u x, u y, u) and (0, 0, 0, -x, -y, -1, v x, v y, v).
+-- The rows of (x, y), which the homography maps to (u, v): (-x, -y, -1, 0, 0, 0, u x, u y, u) and (0, 0, 0, -x, -y, -1,
+-- v x, v y, v).
 abbrev pub first_row : Pt2 → Pt2 → List Float
 first_row p q =
     neg p.x

@@ -1,4 +1,4 @@
--- What Rows refuses, and how its rows are written, pair by pair. Assumes nothing.
+-- What is known of lists that `design_rows` doesn't refuse, and how rows are written, pair by pair. Assumes nothing.
 use Rattle.std.specs.Prelude.{◌≡◌, refl, false, not, List, ◌++◌, ℕ, ◌+◌, ◌*◌, ◌/◌, ◌≤◌, ◌<◌, eqb, ltb, length, drop, Float, Result, Ok, Err, ⊤}
 use Rattle.std.proofs.Common.{sym, ap, ◌∙◌, arith}
 use borrow.Author.Tests.{ltb-false, eqb-true, not-false}
@@ -34,7 +34,7 @@ module _ (ts td : Similarity) where
       let e : 9 * (i + 2) ≡ 9 * i + length v = omega arith in
       ap (λ (j : ℕ). sets (sets a (9 * i) v) j w) e ∙ sym (sets_append a (9 * i) v w) ∙ ap (sets a (9 * i)) (sym (pair_next (moved_rows ts td) src dst i h k))
 
--- ---- what no refusal says of the lists
+-- ---- what is known of the lists where nothing is refused
 pub record Fine (src dst : List Float) (room : ℕ) : Type 0 where
   pub even : bad_length (length src) ≡ false
   pub source : length src ≤ 800

@@ -1,5 +1,6 @@
--- Normalising after the line test. Of 3 to 400 points whose mean distance from some point is at most 2^-52 the line test says that they are collinear. So where it
--- says that they aren't, normalising doesn't fail. Nothing is asked of the numbers: what isn't finite, and what overflows, is included. Assumes nothing.
+-- Normalising after the line test. The line test says that 3 to 400 points are collinear if their mean distance from
+-- some point is at most 2^-52. So where it says that they aren't, normalising doesn't fail. The numbers may be
+-- anything, also not finite or such that an operation overflows. Assumes nothing.
 use Rattle.std.specs.Prelude.{◌≡◌, refl, Bool, true, false, not, ℕ, ◌/◌, ◌≤◌, pos, length, Float, Option, Some, None}
 use Rattle.std.proofs.Common.{sym, ap, ◌∙◌, zero-lt-suc, arith, le-ltb}
 use Rattle.std.proofs.Math.Bool.{true≢false}
@@ -32,7 +33,7 @@ far = round binary64 false 2 4096
 abbrev most : Float
 most = round binary64 false 400 1
 
--- ---- a distance that is below 2^-12 is so in x and in y
+-- ---- where a distance is below 2^-12, so are the differences in x and in y
 sides : (x y a b : Float) → Reaches x a → Reaches y b → Reaches (root binary64 (x *₆₄ x +₆₄ y *₆₄ y)) (root binary64 (a *₆₄ a +₆₄ b *₆₄ b))
 sides x y a b h k = root_reaches binary64 (x *₆₄ x +₆₄ y *₆₄ y) (a *₆₄ a +₆₄ b *₆₄ b) (squares_reach binary64 x y a b h k)
 
@@ -84,7 +85,7 @@ module _ (c : Pt2) where
         all_close t s j h,
       )
 
--- ---- and where the mean of at most 400 is at most 2^-52
+-- ---- and so where the mean of at most 400 distances is at most 2^-52
 few : (n : ℕ) → n ≤ 400 → Reaches most (of_int binary64 (pos n))
 unfolding of_int
 few n h = round_reaches binary64 false false 400 1 n 1 (zero-lt-suc 0) (zero-lt-suc 0) (omega arith)
@@ -102,7 +103,7 @@ mean_close c s n h =
     (λ r. div_reaches binary64 t (count_of s) near most r (few (length s / 2) (omega arith)))
     (below_of_le (t /₆₄ count_of s) epsilon (near /₆₄ most) (sign_mean c s) h epsilon_below))
 
--- ---- three points that are near c are no farther than 2^-11 from each other in x and in y, so their cross product is at most 2^-21
+-- ---- three points near c differ by at most 2^-11 in x and in y, so their cross product is at most 2^-21
 abbrev area : Float
 area = far *₆₄ far +₆₄ far *₆₄ far
 
@@ -138,7 +139,7 @@ close_collinear c (x ∷ y ∷ s) n h =
     (λ p1 h1 t1. ap not (find_holds (Close c) (off_line p0 p1) (λ p. true) false (λ (b : Bool). b ≡ false) refl (λ p2 h2 t2. absurd (not_off c p0 p1 p2 h.0 h1 h2 t2)) l h))
     s h.1)
 
--- ---- where it ends: two points in one place aren't collinear, and three points with a mean distance of at most 2^-9 needn't be
+-- ---- the limits: two points in one place aren't collinear, nor are these three with a mean distance of at most 2^-9
 pub two_points : let s = plus_zero ∷ plus_zero ∷ plus_zero ∷ plus_zero ∷ [] in (collinear_of s ≡ false) × (degenerate s ≡ true)
 unfolding collinear_of degenerate mean_distance centroid_of fold_points root add sub mul div of_int of_bits le
 two_points = (refl, refl)

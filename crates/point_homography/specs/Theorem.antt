@@ -1,4 +1,5 @@
--- What Normalise and Rows write, and that what Rows accepts can be normalised, as types. `specs/Front.antt` and `proofs/Spread.antt` prove them. Definitions only.
+-- What normalising and writing design rows change, and that lists for which design rows are written can be normalised,
+-- as types. `specs/Front.antt` and `proofs/Spread.antt` prove them. Definitions only.
 use Rattle.std.specs.Prelude.{◌≡◌, true, false, List, [], ◌∷◌, ◌++◌, ℕ, ◌*◌, ◌≤◌, length, take, drop, Float, Ok, Err}
 use Rattle.std.specs.Float.Ieee.{binary64, of_bits, le}
 use Rattle.float.specs.Literals.{plus_zero}
@@ -14,7 +15,7 @@ pub record Front (n : ℕ) (w from to : List Float) : Type 0 where
   pub written : take n to ≡ w
   pub kept : drop n to ≡ drop n from
 
--- exactly the front is written, and nothing where they refuse
+-- exactly the front is written, and nothing where a call refuses
 pub record FrontsRight : Type 0 where
   pub normalize_front : (s dst : List Float) → normalize_refusal s (length dst) ≡ Ok tt → Front (length s) (move_points (similarity_of s) s) dst (normalize_into s dst)
   pub normalize_refused : (s dst : List Float) (r : Refusal) → normalize_refusal s (length dst) ≡ Err r → normalize_into s dst ≡ dst
@@ -22,16 +23,17 @@ pub record FrontsRight : Type 0 where
       → Front (9 * length src) (design_rows (similarity_of src) (similarity_of dst) src dst) a (rows_into src dst a)
   pub rows_refused : (src dst a : List Float) (r : Refusal) → rows_refusal src dst (length a) ≡ Err r → rows_into src dst a ≡ a
 
--- what isn't collinear can be normalised
+-- points that aren't collinear can be normalised
 pub record RowsNormalised : Type 0 where
-  -- 3 to 400 points that aren't collinear have a mean distance above 2^-52 from any point
+  -- the mean distance of 3 to 400 points that aren't collinear, from any point, isn't at most 2^-52
   pub mean_above : (s : List Float) → 6 ≤ length s → length s ≤ 800 → (c : Pt2) → collinear_of s ≡ false → le (mean_distance c s) epsilon ≡ false
-  -- what Rows doesn't refuse is normalised, the source points and the destination points alike
+  -- lists that `design_rows` doesn't refuse can be normalised, the source points and the destination points alike
   pub normalised : (src dst : List Float) (room : ℕ) → rows_refusal src dst room ≡ Ok tt → (degenerate src ≡ false) × (degenerate dst ≡ false)
-  -- so the Rust's two checks after its line tests, with whatever refusal, refuse nothing
+  -- so the published Rust's two checks after its line tests refuse nothing, whatever refusal they reply
   pub checks_refuse_nothing : (r : Refusal) (src dst : List Float) (room : ℕ)
       → first_refusal (design_conditions src dst room ++ (r when degenerate src) ∷ (r when degenerate dst) ∷ []) ≡ rows_refusal src dst room
-  -- two points in one place aren't collinear, and have no mean distance; three points with a mean distance of at most 2^-9 needn't be collinear
+  -- two points in one place aren't collinear, and can't be normalised; these three points aren't collinear, and have a
+  -- mean distance of at most 2^-9
   pub two_points : let s = plus_zero ∷ plus_zero ∷ plus_zero ∷ plus_zero ∷ [] in (collinear_of s ≡ false) × (degenerate s ≡ true)
   pub three_points :
       let a = of_bits binary64 0x3f58_9374_bc6a_7efa in

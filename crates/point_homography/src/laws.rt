@@ -2,13 +2,15 @@
 
 ghost use Rattle.point_homography.specs.Theorem.{FrontsRight, RowsNormalised};
 
-/// Normalise and Rows write exactly their front, and nothing where they refuse.
+/// Normalising points and writing design rows change exactly the front of the destination, and nothing where they
+/// refuse.
 #[tactic(auto, using(crate::specs::Front::fronts_right))]
 pub fn fronts_law()
     ensures { FrontsRight }
 {}
 
-/// What Rows accepts can be normalised.
+/// Both lists of points for which design rows are written can be normalised: their mean distance isn't at most
+/// 2^-52.
 #[tactic(auto, using(crate::proofs::Spread::rows_normalised))]
 pub fn rows_normalised_law()
     ensures { RowsNormalised }

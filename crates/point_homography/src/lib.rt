@@ -27,8 +27,7 @@ fn first_distinct(points: &[f64], p0: Pt2) -> Option<Pt2>
         .find(|p| linalg::distance(*p, p0) > 1e-9)
 }
 
-// Twice the area of the triangle of the three points, with a sign.
-// Kept: two points for a line, here and below: with a struct each clause would name its two fields, and its one caller would make it of two points.
+// Twice the area of the triangle of the three points, with a sign. Here and below a line is given by two of its points.
 fn cross(p0: Pt2, p1: Pt2, p2: Pt2) -> f64
     ensures { result ≡ cross_of p0 p1 p2 }
 {
@@ -46,7 +45,7 @@ fn off_line(p0: Pt2, p1: Pt2, p2: Pt2) -> bool
         return false;
     }
     let c = cross(p0, p1, p2);
-    // Mostly the squares tell: a rounded square keeps the order of sizes.
+    // The squares decide most cases: a rounded square keeps the order of sizes.
     if c * c < 1e-6 * 1e-6 {
         return false;
     }
@@ -60,7 +59,7 @@ fn any_off_line(points: &[f64], p0: Pt2, p1: Pt2) -> bool
     pairs.iter().any(|&[x, y]| off_line(p0, p1, Pt2 { x, y }))
 }
 
-// Only three or more points are collinear.
+// Fewer than three points are never collinear.
 #[tactic(auto, unfolding(crate::specs::Line::collinear_of, crate::specs::Line::along))]
 fn collinear(points: &[f64]) -> bool
     ensures { result ≡ collinear_of points.now }
@@ -110,7 +109,8 @@ impl<'a> Pairs<'a> {
         requires { (length self.dst.now ≡ length self.src.now) × (9 * length self.src.now ≤ length a.old) }
         ensures { a.new ≡ sets a.old 0 (design_rows ts td self.entry.src.now self.entry.dst.now) }
     {
-        // Kept: each pair's rows by their place: after a loop over chunks_exact_mut a proof knows how long `a` is and not what it holds.
+        // Each pair's rows are written at their index, since after a loop over chunks_exact_mut a proof knows the
+        // length of `a`, but not what it holds.
         let from = self.src.as_chunks::<2>().0;
         let to = self.dst.as_chunks::<2>().0;
         for (i, (&[x, y], &[u, v])) in from.iter().zip(to).enumerate() {
@@ -139,8 +139,7 @@ impl<'a> Pairs<'a> {
         Ok(())
     }
 
-    // All refusals, in their order.
-    // Kept: the room and no list: of the list to be written the check reads the length alone.
+    // All refusals, in their order. Of the list to be written only the length matters.
     fn check(self, room: usize) -> Result<(), Refusal>
         ensures { result ≡ rows_refusal self.entry.src.now self.entry.dst.now room }
     {

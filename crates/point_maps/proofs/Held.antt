@@ -1,4 +1,4 @@
--- A pixel inside an extent leaves it as it is. Assumes nothing.
+-- A pixel inside an extent doesn't change it. Assumes nothing.
 use Rattle.std.specs.Prelude.{◌≡◌, refl, true, ◌&&◌}
 use Rattle.std.proofs.Common.{sym}
 use Rattle.std.specs.Float.Ieee.{le}

@@ -1,4 +1,4 @@
--- Where a list is of whole points, all of it is written. Assumes nothing.
+-- Where a list has an even length, as many numbers are written as it has. Assumes nothing.
 use Rattle.std.proofs.Common.{List, ◌≡◌, ap, ◌∙◌, ℕ, ◌++◌, ◌%◌, arith, length, drop, Float}
 use Rattle.camera_models.specs.declared.math.Pt2.{Pt2}
 use Rattle.point_normalise.specs.Points.{map_points}

@@ -1,4 +1,4 @@
--- The centre of the observed pixels. Definitions only.
+-- The observed centre. Definitions only.
 use Rattle.std.specs.Prelude.{◌%◌, Bool, ◌&&◌, cond, List, eqb, length, Result, Ok, Err, Float}
 use Rattle.std.specs.Float.Ieee.{neg, le}
 use Rattle.common.specs.declared.Refusal.{Refusal}
@@ -29,7 +29,8 @@ extent_of s = fold_points widen (record { min_x = infinity; min_y = infinity; ma
 abbrev pub finite_extent : Extent → Bool
 finite_extent e = (is_finite e.min_x && is_finite e.min_y) && (is_finite e.max_x && is_finite e.max_y)
 
--- No finite pixel: (0, 0). No negative coordinate: half of the greatest ones. Else the middle of the range, in both coordinates.
+-- (0, 0) where no pixel is finite; half of the greatest coordinates where none is negative; else the middle of the
+-- range, in both coordinates.
 unfoldable pub center_of : Extent → Pt2
 center_of e =
     cond (finite_extent e)

@@ -1,4 +1,5 @@
--- The point maps: what becomes of one pixel, of a list of them, and of the destination, and when a map refuses. Definitions only.
+-- The point maps: what becomes of one pixel, of a list of pixels and of the destination, and what a map refuses.
+-- Definitions only.
 use Rattle.std.specs.Prelude.{ℕ, List, [], ◌∷◌, ◌++◌, length, drop, Result, Ok, Err, ⊤, Float}
 use Rattle.common.specs.Checks.{◌when◌, first_refusal}
 use Rattle.common.specs.declared.Refusal.{Refusal}
@@ -18,7 +19,7 @@ mapped_point k lens inverse p = sensor_to_pixel k (lens (apply_homography_invers
 abbrev pub written : (Pt2 → Pt2) → List Float → List Float → List Float
 written f points to = map_points f points ++ drop (length points) to
 
--- what the lengths say, and then a tilt without an inverse
+-- the refusals of the lengths, and then that of a tilt without an inverse
 abbrev pub refusal_of : Matrix → ℕ → ℕ → Result ⊤ Refusal
 refusal_of h numbers room = first_refusal (length_checks numbers room ++ ((SingularTilt when is_singular h) ∷ []))
 

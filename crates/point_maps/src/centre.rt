@@ -1,4 +1,4 @@
-// The centre of the observed pixels.
+// The observed centre.
 
 ghost use Rattle.std.specs.Prelude.{◌≡◌, ◌&&◌, true};
 ghost use Rattle.std.specs.Float.Ieee.{le};
@@ -19,8 +19,8 @@ pub struct Extent {
     pub max_y: f64,
 }
 
-// The lower of two numbers, as `float::min` has it, where the second is no NaN: then one comparison tells, since it fails for a first
-// that is one.
+// The lower of two numbers, as `float::min` gives it, where the second is finite: then one comparison decides, since it
+// fails where the first is NaN.
 fn lower(x: f64, y: f64) -> f64
     requires { is_finite y ≡ true }
     ensures { result ≡ min_of x y }
@@ -43,7 +43,8 @@ fn holds(e: Extent, p: Pt2) -> bool
     e.min_x <= p.x && p.x <= e.max_x && e.min_y <= p.y && p.y <= e.max_y
 }
 
-// The extent with one more pixel, if both of its coordinates are finite. Most pixels lie in it: then no selection waits for another.
+// The extent with one more pixel, if both of its coordinates are finite. Most pixels lie in the extent; testing for
+// that first avoids selections that wait for those of the pixel before.
 #[tactic(auto, using(crate::proofs::Held::held))]
 fn widened(e: Extent, p: Pt2) -> Extent
     ensures { result ≡ widen e p }

@@ -1,4 +1,4 @@
-// The two point maps, and the centre of the seen points.
+// The two point maps, and the observed centre.
 
 #![tactic(auto)]
 

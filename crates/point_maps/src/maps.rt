@@ -1,5 +1,6 @@
-// The point maps: the pixels of a tilted and distorting camera, moved to where a camera without tilt, or without tilt and distortion, has them.
-// Points are read from a lent slice, x then y, and written to the front of a lent destination. A refusal writes nothing.
+// The point maps: the pixels of a tilted and distorting camera, moved to where a camera without tilt, or without tilt
+// and distortion, has them. Points are read from a lent slice, x then y, and written to the front of a lent
+// destination. A refusal writes nothing.
 
 ghost use Rattle.std.specs.Prelude.{◌≡◌};
 ghost use Rattle.camera_models.specs.Intrinsics.{pixel_to_sensor};
@@ -16,8 +17,7 @@ use camera_tilt::sensor::TiltTrig;
 use common::Refusal;
 use point_normalise::linalg;
 
-// What leads back through the tilt, where nothing is refused.
-// Kept: two lengths and no lists, as in `check_lengths`.
+// The inverse of the tilt's matrix, unless something is refused.
 fn map_inverse(h: [[f64; 3]; 3], numbers: usize, room: usize) -> Result<[[f64; 3]; 3], Refusal>
     ensures { result ≡ map_inverse h numbers room }
 {
@@ -32,10 +32,8 @@ fn without_tilt(k: FxFyCxCy, h_inv: [[f64; 3]; 3], pixel: Pt2) -> Pt2
     sensor::apply_homography_inverse(h_inv, pixel_to_sensor(k, pixel))
 }
 
-// The pixels of a sensor that is not tilted, each taken through `lens` on the way.
-// Kept: intrinsics, tilt, points and destination one by one, here and below: no struct of the crates below has two of them. `PinholeCamera` and `SolvedCamera` are of
-// the scoring, a layer above (docs/ARCHITECTURE.md), and no plainer: the map takes its lens as a closure, `untilt_points` has none, and `ideal_points` would take a
-// camera apart as its one caller does.
+// The pixels of a sensor that is not tilted, each taken through `lens` on the way. Intrinsics, tilt, points and
+// destination are arguments of their own, here and below, since no struct of the crates below holds two of them.
 #[tactic(auto, using(crate::proofs::Whole::written_whole))]
 fn map_pixels<F: Fn(Pt2) -> Pt2>(
     k: FxFyCxCy,

@@ -21,7 +21,7 @@ use Rattle.point_normalise.specs.Points.{points_of, fold_points, find_point, poi
 abbrev pub point_of : Bor (List Float) → Pt2
 point_of xy = point_at xy.now 0
 
--- two numbers more are a pair more
+-- two more numbers are one more pair
 half_more : (n : ℕ) → suc (suc n) / 2 ≡ suc (n / 2)
 half_more n = omega arith
 

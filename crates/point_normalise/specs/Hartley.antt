@@ -1,4 +1,4 @@
--- What `hartley_of` says of its list, and what a length that isn't refused says. Assumes nothing.
+-- What the reply of `hartley_of` says of its list, and what is known of a length that isn't refused. Assumes nothing.
 use Rattle.std.specs.Prelude.{◌≡◌, refl, Bool, true, false, cond, List, ℕ, ◌≤◌, ◌%◌, Float, Option, Some, None}
 use Rattle.std.proofs.Common.{arith}
 use Rattle.std.proofs.lemmas.Bool.Decides.{nat_tests}
@@ -23,7 +23,7 @@ pub similarity : (s : List Float) (t : Similarity) → hartley_of s ≡ Some t �
 unfolding hartley_of
 similarity s t h = one (degenerate s) t (similarity_of s) h
 
--- a length that isn't refused is even, and no more than 400 points'
+-- a length that isn't refused is even, and that of at most 400 points
 pub even_length : (n : ℕ) → bad_length n ≡ false → n % 2 ≡ 0
 even_length n h = grind (arith, nat_tests)
 

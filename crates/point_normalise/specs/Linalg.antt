@@ -1,4 +1,5 @@
--- Hartley's normalisation of points: the centroid goes to the origin, and the mean distance from it becomes √2. Each operation is rounded. Definitions only.
+-- Hartley's normalisation of points: the centroid comes to the origin, and the mean distance from it to √2. Each
+-- operation is rounded. Definitions only.
 use Rattle.std.specs.Prelude.{ℕ, Bool, ◌||◌, cond, List, [], ◌∷◌, ◌++◌, eqb, length, drop, Float, Option, Some, None, Result, Ok, Err, ⊤}
 use Rattle.std.specs.Float.{binary64}
 use Rattle.std.specs.Float.Ieee.{of_bits, neg, le}
@@ -17,7 +18,7 @@ use Rattle.point_normalise.specs.Points.{fold_points, mapped_xy, map_points, cou
 abbrev pub epsilon : Float
 epsilon = of_bits binary64 0x3cb0_0000_0000_0000
 
--- ---- the centroid, and the mean distance from a point: sums from 0, from the first point on, divided by how many there are
+-- ---- the centroid, and the mean distance from a point: sums from 0, over the points in order, divided by their count
 abbrev pub add_point : Pt2 → Pt2 → Pt2
 add_point a p = record { x = a.x +₆₄ p.x; y = a.y +₆₄ p.y }
 
@@ -58,7 +59,7 @@ move_xy t p = mapped_xy (move_by t) p
 abbrev pub move_points : Similarity → List Float → List Float
 move_points t s = map_points (move_by t) s
 
--- ---- Normalise: a bad length; a destination with no room for the points; points with no spread
+-- ---- what normalising refuses: a bad length; a destination with no room for the points; points with no spread
 unfoldable pub normalize_refusal : List Float → ℕ → Result ⊤ Refusal
 unfolding degenerate
 normalize_refusal s room = first_refusal (length_checks (length s) room ++ ((NoSpread when degenerate s) ∷ []))

@@ -1,4 +1,5 @@
--- The mean distance is not below 0, whatever the points are: distances are roots of sums of squares, and their sum starts at +0. Assumes nothing.
+-- The mean distance is not below 0, whatever the points are: distances are roots of sums of squares, and their sum
+-- starts at +0. Assumes nothing.
 use Rattle.std.specs.Prelude.{◌≡◌, refl, false, List, [], ◌∷◌, ◌/◌, length, Float}
 use Rattle.std.specs.Float.{binary64}
 use Rattle.std.specs.Float.Ieee.{of_bits, lt}
@@ -10,7 +11,7 @@ use Rattle.camera_models.specs.declared.math.Pt2.{Pt2}
 use Rattle.point_normalise.specs.Points.{fold_points, count_of, distance_of}
 use Rattle.point_normalise.specs.Linalg.{add_distance, mean_distance}
 
--- ---- no minus: neither a distance, nor a sum of distances, nor their mean
+-- ---- a distance, a sum of distances and their mean have no minus sign
 pub sign_distance : (p q : Pt2) → sign_bit (distance_of p q) ≡ false
 sign_distance p q = sign_root binary64 _ (sign_add binary64 _ _ (sign_square binary64 _) (sign_square binary64 _))
 

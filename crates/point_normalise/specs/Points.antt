@@ -20,7 +20,7 @@ fold_points f a [] = a
 fold_points f a (x ∷ []) = a
 fold_points f a (x ∷ y ∷ s) = fold_points f (f a (record { x = x; y = y })) s
 
--- what the first point that passes a test gives, and what stands for none
+-- what `found` gives for the first point that passes the test, or `none` where no point does
 unfoldable pub find_point : {A : Type 0} → (Pt2 → Bool) → (Pt2 → A) → A → List Float → A
 find_point test found none [] = none
 find_point test found none (x ∷ []) = none
@@ -32,7 +32,7 @@ each_point f [] = []
 each_point f (x ∷ []) = []
 each_point f (x ∷ y ∷ s) = f (record { x = x; y = y }) ++ each_point f s
 
--- each point as f has it, x then y
+-- each point as f gives it, x then y
 abbrev pub mapped_xy : (Pt2 → Pt2) → Pt2 → List Float
 mapped_xy f p = (f p).x ∷ (f p).y ∷ []
 
@@ -59,7 +59,7 @@ count_of s = of_int binary64 (pos (length s / 2))
 abbrev pub bad_length : ℕ → Bool
 bad_length n = not (eqb (n % 2) 0) || ltb 800 n
 
--- such a length, and then room for fewer numbers
+-- refused first: such a length; then: room for fewer numbers
 abbrev pub length_checks : ℕ → ℕ → List Check
 length_checks numbers room =
     (BadLength when bad_length numbers)

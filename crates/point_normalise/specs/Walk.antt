@@ -1,4 +1,5 @@
--- The functions over a list of points: one point or one chunk further, at the end, and how many numbers they give; and numbers written one after the other. Assumes nothing.
+-- Functions over a list of points: one point further, at the end, and how many numbers they give; and numbers that are
+-- written one after the other. Assumes nothing.
 use Rattle.std.specs.Prelude.{◌≡◌, Bool, true, false, ℕ, suc, ◌+◌, ◌*◌, ◌/◌, ◌^◌, ◌≤◌, ◌<◌, T, pos, get_or, drop, set, Float}
 use Rattle.std.proofs.Math.Path.{refl, sym}
 use Rattle.std.proofs.Common.{ap, ◌∙◌, add-zero, zero-add, zero-mul, add_comm, suc-mul, add-one, le→leb, length-drop, drop-cons}
@@ -11,7 +12,7 @@ use Rattle.std.specs.Float.Ieee.{in_float}
 use Rattle.camera_models.specs.declared.math.Pt2.{Pt2}
 use Rattle.point_normalise.specs.Points.{fold_points, find_point, each_point, mapped_xy, map_points, each_pair, point_at}
 
--- ---- what is left of a list at i, where a point stands, and where none does
+-- ---- the rest of a list from i on, where a point stands there, and where none does
 point_left : (s : List Float) (i : ℕ) → i + 1 < length s → drop i s ≡ get_or s i nan ∷ get_or s (i + 1) nan ∷ drop (i + 2) s
 point_left s i h =
     let a : i < length s = omega arith in
@@ -21,7 +22,7 @@ point_left s i h =
 none_left : (s : List Float) (i : ℕ) → length s ≤ i + 1 → length (drop i s) ≤ 1
 none_left s i h = rw (length-drop i s) (omega arith)
 
--- what holds of no number and of one alone
+-- a property of lists of no number and of one number holds of every list of at most one
 at_most_one : (P : List Float → Type 0) → P [] → ((x : Float) → P (x ∷ [])) → (s : List Float) → length s ≤ 1 → P s
 at_most_one P none one [] h = none
 at_most_one P none one (x ∷ []) h = one x
@@ -125,11 +126,11 @@ pub sets_append : (d : List Float) (i : ℕ) (v w : List Float) → sets d i (v 
 sets_append d i [] w = rw add-zero
 sets_append d i (a ∷ v) w = sets_append (set d i a) (suc i) v w ∙ ap (λ (k : ℕ). sets (sets (set d i a) (suc i) v) k w) (let e : suc i + length v ≡ i + suc (length v) = omega arith in e)
 
--- at the front, with room for them: the rest stays
+-- numbers written at the front, where there is room for them, leave the rest as it was
 pub sets_front : (d w : List Float) → length w ≤ length d → sets d 0 w ≡ w ++ drop (length w) d
 sets_front d w h = let l : 0 + length w ≤ length d = omega arith in sets-eq w d 0 l ∙ rw zero-add
 
--- ---- as many points as an operation takes are a whole number that a float holds
+-- ---- the number of points that an operation takes is a whole number that a float holds
 pub count_fits : (s : List Float) → length s ≤ 800 → T (in_float binary64 (pos (length s / 2)))
 unfolding in_float
 count_fits s h = le→leb (length s / 2) (2 ^ 53) (omega arith)

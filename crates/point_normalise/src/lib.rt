@@ -1,4 +1,4 @@
-// Point sets: their normalisation.
+// The normalisation of lists of points.
 
 #![tactic(auto)]
 

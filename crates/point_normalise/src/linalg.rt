@@ -10,8 +10,8 @@ use camera_models::math::Pt2;
 use common::Refusal;
 use std::num::nearest_usize_to_f64;
 
-// The map of a point p to (p - c) * scale, c being (cx, cy).
-// Kept: two coordinates, by the Rust's names: with a `Pt2` for both, `from` and `moved` would still name each, in a product of its own.
+// The map of a point p to (p - c) * scale, c being (cx, cy). cx and cy are fields of their own, as in the published
+// Rust.
 #[derive(Clone, Copy)]
 pub struct Similarity {
     pub scale: f64,
@@ -39,15 +39,15 @@ impl From<Similarity> for Transform {
     }
 }
 
-// Whether so many numbers are no list of points, or one of more than 400.
-// Kept: lengths and no lists, here and in `check_lengths`: no more of the lists is read.
+// Whether n numbers are no list of points, or one of more than 400. Of the lists only the lengths matter, here and in
+// `check_lengths`.
 pub fn bad_length(n: usize) -> bool
     ensures { result ≡ bad_length n }
 {
     n % 2 != 0 || n > 800
 }
 
-// The first reason to refuse so many numbers and room for so many.
+// The first reason to refuse a list of so many numbers, and a destination with room for so many.
 pub fn check_lengths(numbers: usize, room: usize) -> Result<(), Refusal>
     ensures { result ≡ first_refusal (length_checks numbers room) }
 {
@@ -124,8 +124,8 @@ fn scaled_to(c: Pt2, mean: f64) -> Similarity
     }
 }
 
-// The similarity that brings the centroid to the origin and the mean distance from it to √2. Of points that aren't collinear that
-// distance is never too small (point_homography/proofs/Spread.antt), so Rows asks nothing more.
+// The similarity that brings the centroid to the origin and the mean distance from it to √2. For points that aren't
+// collinear that distance is never too small (point_homography/proofs/Spread.antt), so `design_rows` doesn't check it.
 pub fn normalizing(points: &[f64]) -> Similarity
     ensures { result ≡ similarity_of points.now }
 {
@@ -158,8 +158,8 @@ pub fn moved(t: Similarity, p: Pt2) -> Pt2
     }
 }
 
-// Each point as `map` has it, at the front of the destination.
-// Kept: each number by its place: after a loop over as_chunks_mut or chunks_exact_mut a proof knows how long `to` is and not what it holds.
+// Each point as `map` gives it, at the front of the destination. Each number is written at its index, since after a
+// loop over chunks_exact_mut a proof knows the length of `to`, but not what it holds.
 pub fn map_points<F: Fn(Pt2) -> Pt2>(map: F, points: &[f64], to: &mut [f64])
     requires callable { F.IsAlwaysCallable map }
     requires room { length points.now ≤ length to.old }

@@ -1,4 +1,4 @@
--- Laws of the root that need no unfolding: special values, and when it is NaN, finite, not negative. Assumes nothing.
+-- The root's special values, and when it is NaN, finite or not below zero. Assumes nothing.
 use Rattle.std.specs.Prelude.{◌≡◌, refl, Bool, true, false, ◌&&◌, ◌||◌, cond, ℕ, zero, suc, ◌+◌, ◌*◌, ◌^◌, ℤ, T, ltb, Float}
 use Rattle.std.proofs.Common.{sym, ap, ◌∙◌, true≢false, zero-lt-suc, lt→ltb}
 use Rattle.std.proofs.Math.Bool.{not}
@@ -45,7 +45,7 @@ infinity_not_below = refl
 
 -- ---- a rounded root of whole numbers: no NaN, no sign
 
--- what holds of +infinity and of every fin false m e
+-- a property of +infinity and of every fin false m e holds of each such root
 plus : (P : Float → Type 0) → P (inf false) → ((m : ℕ) (e : ℤ) → P (fin false m e)) → (f : Format) (n : ℕ) → P (root_of f n)
 unfolding root_of units odd
 plus P i g f n = go (ltb (rounded f n * 2 ^ dropped f n) (2 ^ (low f + suc (emax f)))) (rounded f n)
@@ -76,7 +76,7 @@ root_not_below f (fin s zero e) = zero_not_below s e
 root_not_below f (fin true (suc m) e) = refl
 root_not_below f (fin false (suc m) e) = plus (λ (y : Float). lt y plus_zero ≡ false) infinity_not_below plus_not_below f (radicand f (suc m) e)
 
--- and none has a minus where the number has none
+-- and none has a minus sign where the number has none
 pub sign_root : (f : Format) (x : Float) → sign_bit x ≡ false → sign_bit (root f x) ≡ false
 unfolding root sign_bit
 sign_root f nan h = refl

@@ -1,6 +1,7 @@
--- The machine's square root, `f64::sqrt` as the kit's IEEE 754 library defines it, is the root of specs/Root.antt for every value of binary64.
--- The library takes the whole root of a number with many more binary places, doubles it, adds 1 where the root is not exact, and rounds the
--- quotient by a power of two. The definition rounds the whole root of a shorter number by comparing squares. Assumes nothing.
+-- The machine's square root, `f64::sqrt` as the kit's IEEE 754 library defines it, is the root of specs/Root.antt for
+-- every value of binary64. The library takes the whole root of a number with many more binary places, doubles it, adds
+-- 1 where the root is not exact, and rounds the quotient by a power of two. The definition rounds the whole root of a
+-- shorter number by comparing squares. Assumes nothing.
 use Rattle.std.specs.Prelude.{◌≡◌, refl, Bool, true, false, cond, ℤ, T, eqb, Float}
 use Rattle.std.proofs.Common.{sym, ap, ◌∙◌, subst, le_antisymm, le_trans, le_of_eq, lt_of_lt_of_le, lt_of_le_of_lt, lt_irrefl, lt_of_not-le, le_of_suc-le-suc, le-div_iff_mul-le, div-lt_iff_lt-mul, div-add-mod', mul-div_cancel, mul_assoc, mul_comm, mul_right_comm, mul_left_comm, mul-lt-mul_of_pos_right, lt_of_mul-lt-mul_right, mul-le-mul_right, mul-pos, arith, true≢false, eqb→eq, pow-add, pow-suc, pow_pos}
 use Rattle.std.proofs.Math.Nat.{div-div-eq-div-mul, mul-mul-mul_comm, eq_of_mul-eq-mul_right}
@@ -106,7 +107,7 @@ module _ (n c r : ℕ) (C : 0 < c) (lo : r * r ≤ n * (c * c)) (hi : n * (c * c
   root_over : r / c ≡ w
   root_over = le_antisymm (le_of_suc-le-suc ((div-lt_iff_lt-mul C).1 above)) ((le-div_iff_mul-le C).1 under)
 
--- ---- so the quotient that the library rounds is the root of n, its remainder lies on the same side of the middle, and both round to one value
+-- ---- so the library's quotient is the root of n, its remainder lies on the same side, and both round to one value
 module _ (f : Format) (n g q den : ℕ) (C : 0 < g) (Q : 0 < q) (Q_is : q ≡ 2 ^ low f) (den_is : den ≡ 2 * (2 * g) * q) where
   abbrev c : ℕ
   c = 2 * g

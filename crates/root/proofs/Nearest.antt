@@ -1,4 +1,5 @@
--- The root of a value above zero fits the format, and is nearer to the true root than any other value of the format is. Assumes nothing.
+-- The root of a value above zero fits the format, and is nearer to the true root than any other value of the format is.
+-- Assumes nothing.
 use Rattle.std.specs.Prelude.{◌≡◌, Bool, ◌&&◌, cond, ℤ, pos, negsuc, T, ltb, leb, eqb, Float}
 use Rattle.std.proofs.Math.Path.{refl, sym}
 use Rattle.std.proofs.Common.{ap, ◌∙◌, subst, ⊎_elim, le-div_iff_mul-le, mul-div_cancel, one-mul, le_trans, le_of_eq, lt_of_lt_of_le, lt_of_le_of_lt, lt_irrefl, zero-lt-suc, zero-mul, add-mul, mul_assoc, mul_comm, mul_left_comm, mul_right_comm, mul-le-mul_right, mul-lt-mul_of_pos_right, lt_of_mul-lt-mul_right, mul-pos, mul-one, eq-zero-or-pos, div-mul-le_self, arith, true≢false, ltb→lt, leb→le, lit≤, pow-add, pow_pos, pow_mono}
@@ -22,7 +23,7 @@ use Rattle.root.specs.ByValue.{root_value, value_unique}
 use Rattle.root.proofs.NearestWhole.{nearest_one, no_tie}
 use Rattle.root.proofs.Squares.{root_of_square}
 
--- ---- a value that fits, in the format's smallest values
+-- ---- a value that fits, in units of the format's smallest value
 pub place : (l : ℕ) (m : ℕ) (e : ℤ) → down e ≤ 2 ^ l → (j : ℕ) × (m * up e * 2 ^ l ≡ m * 2 ^ j * down e)
 place l m (pos a) h = (a + l, mul_assoc m (2 ^ a) (2 ^ l) ∙ ap (λ (x : ℕ). m * x) (sym (pow-add 2 a l)) ∙ sym (mul-one (m * 2 ^ (a + l))))
 place l m (negsuc a) h =
@@ -100,7 +101,7 @@ module _ (f : Format) (P : 2 ≤ prec f) (E : 1 ≤ emax f) (L : 0 < low f) (z j
       (sym (root_value f x (z * 2 ^ j) h (mul-pos Z0 (pow_pos j)) ∙ ap (root_of f) n_is ∙ root_of_is))
       (units_val f false (rounded f n) (dropped f n) result_lt)
 
--- ---- from smallest values to fractions
+-- ---- from units of the smallest value to fractions
 lt_values : (x y : Float) (a b c : ℕ) → 0 < c → HasValue x false a c → HasValue y false b c → T (lt x y) → a < b
 unfolding lt
 lt_values nan y a b c C p q h = absurd p
@@ -146,7 +147,7 @@ module _ (X dx R' dr Y' dy a r y l : ℕ) (L : 0 < l) (DX : 0 < dx) (DR : 0 < dr
   to_above : (r + y) * (r + y) < 4 * (a * l) → S * S * dx < 4 * X * (D * D)
   to_above h = lt_of_mul-lt-mul_right (l * l) (lt_of_le_of_lt (le_of_eq right) (lt_of_lt_of_le (mul-lt-mul_of_pos_right h pos_scale) (le_of_eq (sym left))))
 
--- ---- of a value above zero: its size in smallest values is below the format's end
+-- ---- a value above zero, in units of the smallest value, is below the format's end
 
 emax_pos : (f : Format) → 1 ≤ emax f
 emax_pos binary32 = lit≤ tt
@@ -240,7 +241,7 @@ module _ (f : Format) (z : ℕ) (a : ℤ) (h : T (fits f (fin false (suc z) a)))
   abbrev small : suc z * 2 ^ j < 2 ^ (low f + suc (emax f))
   small = small_of f (suc z) a j inside.2 at.1
 
-  -- the number under the root, and the root, in smallest values
+  -- the number under the root, and the root, in units of the smallest value
   abbrev N : ℕ
   N = suc z * 2 ^ (j + low f)
 

@@ -1,4 +1,5 @@
--- Over whole numbers: the number that `root_of f n` stands for is nearer to √n than any other of so many digits is, and √n is never in the middle. Assumes nothing.
+-- The root of a whole number n: the number that `root_of f n` stands for is nearer to √n than any other number of as
+-- many digits is, and √n is never in the middle between two. Assumes nothing.
 use Rattle.std.specs.Prelude.{◌≡◌, refl, not, T, eqb}
 use Rattle.std.proofs.Common.{sym, ap, ◌∙◌, subst, ⊎_elim, le_trans, le_of_eq, le_of_lt, lt_of_lt_of_le, lt_of_le_of_lt, lt_of_not-le, lt_irrefl, le_of_suc-le-suc, mul_assoc, mul_comm, mul-le-mul_right, mul-lt-mul_of_pos_right, lt_of_mul-lt-mul_right, mul-pos, div-mul-le_self, div-lt_iff_lt-mul, lt-suc_self, eq-zero-or-pos, arith, pow-add, pow_pos, pow_mono, leb→le, eqb→eq}
 use Prim.Native.Nat.{ℕ, suc, ◌+◌, ◌-◌, ◌*◌, ◌^◌, ◌≤◌, ◌<◌, compare, Ordering}
@@ -26,7 +27,7 @@ cmp a b = go (compare a b) (leb→le a b) (nleb→lt a b) (eqb→eq a b) (λ (e 
     go Ordering.eq h k e n = e tt
     go Ordering.gt h k e n = k tt
 
--- ---- between r * u and (r + 1) * u, for a unit u = 2 ^ k and an r with all p digits, there is no c * 2 ^ j with p digits
+-- ---- between r * 2 ^ k and (r + 1) * 2 ^ k, for an r with all p digits, there is no c * 2 ^ j with p digits
 gap : (p k r c j : ℕ) → 0 < p → (0 < k → 2 ^ (p - 1) ≤ r) → c < 2 ^ p → r * 2 ^ k < c * 2 ^ j → suc r * 2 ^ k ≤ c * 2 ^ j
 gap p k r c j P full C h = go (dec_le k j)
   where
@@ -107,7 +108,7 @@ module _ (f : Format) (P : 2 ≤ prec f) (z i : ℕ) (Z : z < 2 ^ prec f) (I : 0
       odd_square : (v r : ℕ) → 4 * v ≡ (2 * r + 1) * (2 * r + 1) → ⊥
       odd_square v r e = omega arith
 
-  -- Y is another value of the format, in its smallest values
+  -- Y is another value of the format, in units of its smallest value
   module _ (c j : ℕ) (C : c < 2 ^ prec f) where
     abbrev Y : ℕ
     Y = c * 2 ^ j

@@ -29,7 +29,7 @@ nearest_mono w a b m h = go (compare a m) (compare b m) (nleb→lt a m) (eqb→e
     go Ordering.gt Ordering.eq f g i j = absurd (let k = f tt in let l = i tt in omega arith)
     go Ordering.gt Ordering.gt f g i j = le_refl (suc w)
 
--- ---- √n with its last k digits dropped, and rounded by the side of the middle on which it lies: `rounded f n` is `at (dropped f n) n`
+-- ---- √n rounded to a multiple of 2 ^ k: `rounded f n` is `at (dropped f n) n`
 abbrev part : ℕ → ℕ → ℕ
 part k n = isqrt n / 2 ^ k
 
@@ -56,14 +56,14 @@ module _ (f : Format) (a b : ℕ) (h : a ≤ b) where
         | inr l ↦ le_trans (nearest-le (part k a) (side k a)) (le_trans l (nearest-ge (part k b) (side k b)))
       ]
 
-  -- where digits are dropped, all that the format has are kept
+  -- where digits are dropped, as many are kept as the format has
   full : 0 < dropped f b → 2 ^ (prec f - 1) ≤ kept f b
   full p =
       let k = dropped f b in
       let n : prec f - 1 + k < size (isqrt b) = let q = two f in omega arith in
       (le-div_iff_mul-le (pow_pos k)).1 (le_trans (le_of_eq (sym (pow-add 2 (prec f - 1) k))) (size_reaches (isqrt b) (prec f - 1 + k) n))
 
-  -- as many digits dropped, or a power of two between the two results
+  -- either as many digits are dropped, or a power of two lies between the two results
   in_order : rounded f a * 2 ^ dropped f a ≤ rounded f b * 2 ^ dropped f b
   in_order =
       let p = prec f in

@@ -1,4 +1,4 @@
--- What is proved of the root on one page: all of `specs/Theorem.antt`. Assumes nothing.
+-- The theorem about the root, put together: all of `specs/Theorem.antt`. Assumes nothing.
 use Rattle.std.specs.Float.{Format}
 use Rattle.root.specs.Theorem.{SquareRootOf754, RootIs754}
 use Rattle.root.proofs.Nearest.{root_fits, root_nearest, root_no_tie, root_exact}

@@ -1,4 +1,5 @@
--- What depends on a value alone, not on how it is written: its root, its bits, and, among the values of a format, the value itself. Assumes nothing.
+-- What depends on a value's number alone: its root, its bits, and, among the values of a format, the value itself.
+-- Assumes nothing.
 use Rattle.std.specs.Prelude.{◌≡◌, refl, Bool, true, false, cond, ℕ, zero, suc, ◌+◌, ◌-◌, ◌*◌, ◌/◌, ◌^◌, ◌<◌, T, Float}
 use Rattle.std.proofs.Common.{sym, ap, ◌∙◌, subst, true≢false, lt_irrefl, zero-mul, zero-add, mul-pos, mul_assoc, mul-div_cancel}
 use Rattle.std.proofs.lemmas.Bool.{false≢true}
@@ -9,7 +10,7 @@ use Rattle.std.specs.Float.Ieee.Exact.{HasValue}
 use Rattle.std.specs.Float.Ieee.Bits.{of_bits-to_bits}
 use Rattle.root.specs.Root.{root_of, root}
 
--- ---- the root of a / 2 ^ low, that is of a smallest values
+-- ---- the root of a / 2 ^ low, so of a times the smallest value
 not_zero : (z a b : ℕ) → 0 < a → 0 < b → zero * z ≡ a * b → ⊥
 not_zero z a b A B h = lt_irrefl 0 (subst (λ (x : ℕ). 0 < x) (sym h ∙ zero-mul z) (mul-pos A B))
 

@@ -1,4 +1,4 @@
--- What `compare` says of two numbers in order. Assumes nothing.
+-- What `compare` says where one number is below the other. Assumes nothing.
 use Rattle.std.specs.Prelude.{◌≡◌, refl, not, T}
 use Rattle.std.proofs.Common.{sym, subst, le_trans, le_of_eq, lt_of_lt_of_le, lt_irrefl, arith, leb→le, eqb→eq}
 use Prim.Native.Nat.{ℕ, ◌≤◌, ◌<◌, compare, Ordering}

@@ -1,5 +1,6 @@
--- The square root that IEEE 754 asks for: the value of the format that is nearest to the true root, of two as near the one whose last digit is even. Definitions only.
--- It is worked out in whole numbers. proofs/Summary.antt says in which sense it is the nearest.
+-- The square root that IEEE 754 asks for: the value of the format that is nearest to the true root, and of two equally
+-- near ones the one whose last digit is even. It is worked out in whole numbers; specs/Theorem.antt says in which sense
+-- it is the nearest. Definitions only.
 use Prim.Native.Nat.{ℕ, zero, suc, ◌+◌, ◌-◌, ◌*◌, ◌/◌, ◌^◌, compare}
 use Rattle.std.specs.Prelude.{true, false, cond, ℤ, ltb, Float}
 use Rattle.std.specs.Float.{nan, inf, fin, Format}
@@ -27,7 +28,8 @@ dropped f n = size (isqrt n) - prec f
 abbrev pub kept : Format → ℕ → ℕ
 kept f n = isqrt n / 2 ^ dropped f n
 
--- Twice the middle between the two. So √n is below, at or above the middle as 4 * n is below, at or above the square of this.
+-- Twice the middle between the two. So √n is below, at or above the middle as 4 * n is below, at or above the square of
+-- this.
 abbrev pub middle : Format → ℕ → ℕ
 middle f n = (2 * kept f n + 1) * 2 ^ dropped f n
 
@@ -35,14 +37,15 @@ middle f n = (2 * kept f n + 1) * 2 ^ dropped f n
 abbrev pub rounded : Format → ℕ → ℕ
 rounded f n = nearest (kept f n) (compare (4 * n) (middle f n * middle f n))
 
--- as a value of the format: √n of its smallest values, rounded
+-- as a value of the format: √n times the smallest value, rounded
 unfoldable pub root_of : Format → ℕ → Float
 unfolding isqrt units
 root_of f n = units f false (rounded f n) (dropped f n)
 
 -- ---- the root of a value that the format holds
 
--- The value m * 2 ^ e in the format's smallest values, 2 ^ -low, times 2 ^ low: the root of this number is the root of the value, in smallest values too.
+-- The value m * 2 ^ e in units of the format's smallest value, 2 ^ -low, times 2 ^ low: the root of this number is the
+-- root of the value in the same units.
 abbrev pub radicand : Format → ℕ → ℤ → ℕ
 radicand f m e = m * up e * 2 ^ low f / down e * 2 ^ low f
 

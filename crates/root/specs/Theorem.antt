@@ -1,4 +1,5 @@
--- What is proved of the root, as a type: the definition of specs/Root.antt is the square root of IEEE 754, for both formats. `proofs/Summary.antt` proves it. Definitions only.
+-- The definition of specs/Root.antt is the square root of IEEE 754, for both formats, as a type. `proofs/Summary.antt`
+-- proves it. Definitions only.
 use Rattle.std.specs.Prelude.{◌≡◌, Bool, true, false, not, ◌&&◌, ◌||◌, ℕ, zero, ◌*◌, ◌<◌, ℤ, T, Float}
 use Rattle.std.specs.Float.{nan, inf, fin, Format, binary64, sqrt}
 use Rattle.std.specs.Float.Ieee.{fits, lt, is_nan}
@@ -24,7 +25,8 @@ pub record SquareRootOf754 (f : Format) : Type 0 where
   pub of_infinity : root f (inf false) ≡ inf false
   pub of_nan : root f nan ≡ nan
   pub of_negative : (x : Float) → lt x plus_zero ≡ true → root f x ≡ nan
-  -- no root is below zero; it is NaN exactly for NaN and below zero, and finite exactly for what is finite and not below zero
+  -- no root is below zero; it is NaN exactly for NaN and below zero, and finite exactly for what is finite and not
+  -- below zero
   pub not_below : (x : Float) → lt (root f x) plus_zero ≡ false
   pub is_nan_lem : (x : Float) → is_nan (root f x) ≡ (is_nan x || lt x plus_zero)
   pub is_finite_lem : (x : Float) → T (fits f x) → is_finite (root f x) ≡ (is_finite x && not (lt x plus_zero))

@@ -1,17 +1,18 @@
-// The square root that IEEE 754 asks for, as a definition over whole numbers (specs/Root.antt), and what is proved of that definition
-// (specs/Theorem.antt). There is no code here, but for the functions whose contracts are the theorems.
+// The square root that IEEE 754 asks for, as a definition over whole numbers (specs/Root.antt), and what is proved of
+// that definition (specs/Theorem.antt). There is no code here, but for the functions whose contracts are the theorems.
 
 #![tactic(auto)]
 
 ghost use Rattle.root.specs.Theorem.{RootIs754, MachineRootIs754};
 
-/// The root is IEEE 754's.
+/// The definition of the root is IEEE 754's square root, for both formats: no value of the format is nearer to the true
+/// root, ties don't occur, squares are exact, and the special values are IEEE 754's.
 #[tactic(auto, using(crate::proofs::Summary::square_root))]
 pub fn root_law()
     ensures { RootIs754 }
 {}
 
-/// The machine's root is that root.
+/// The machine's square root equals that root for every value of binary64.
 #[tactic(auto, using(crate::proofs::MachineRoot::machine_root))]
 pub fn machine_root_law()
     ensures { MachineRootIs754 }

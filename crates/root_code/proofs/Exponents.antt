@@ -62,7 +62,7 @@ mag_shifted (negsuc a) p h = go (ltb 2148 (suc a)) (nltb→le 2148 (suc a)) p
     go true l g = absurd (lt_irrefl 0 g)
     go false l g = let r = l tt in omega arith
 
--- an exponent g halved, with what is left over put to m
+-- an exponent g is halved, and m is doubled where g is odd
 module _ (m g : ℕ) (m-lo : 2 ^ 52 ≤ m) (m-hi : m < 2 ^ 53) where
   pub shift_exact : m * 2 ^ (g % 2) % 2 ^ 64 ≡ m * 2 ^ (g % 2)
   shift_exact = shl_exact 53 (g % 2) 64 m-hi (omega arith)

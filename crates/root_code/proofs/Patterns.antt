@@ -11,7 +11,7 @@ use Rattle.float.specs.Nan.{is_nan_lem}
 use Rattle.root.specs.Root.{root_of, root}
 use Rattle.root.specs.ByValue.{root_value, root_below}
 
--- ---- the values that a test finds
+-- ---- the values that are found by a test
 
 pub at_nan : (x : Float) → ne x x ≡ true → root binary64 x ≡ nan
 unfolding root
@@ -76,7 +76,7 @@ root_top b l h = subst (λ (x : Float). root binary64 x ≡ x) (sym same) (root_
     same : of_bits binary64 b ≡ cond (eqb (b % 2 ^ 52) 0) (inf false) nan
     same = of_bits_lem b false 0x7ff (b % 2 ^ 52) (plus b h) (omega arith) refl
 
--- below -0
+-- a pattern with a sign, other than that of -0
 root_minus : (x t : ℕ) → 0 < x + t → root binary64 (of_fields binary64 true x t) ≡ nan
 unfolding of_fields
 root_minus zero t p = root_below binary64 (odd 53 true t 0 1074) (t * 1) (odd_sign 53 true t 0 1074) (omega arith)

@@ -22,7 +22,7 @@ four_times m i = ap (λ (x : ℕ). m * x) (ap (λ (x : ℕ). 4 ^ x) (add-one i) 
     swap : (x : ℕ) → x * 4 ≡ 4 * x
     swap x = omega arith
 
--- a product's length
+-- how many digits a product has
 pub product : (i j a b : ℕ) → a < 2 ^ i → b < 2 ^ j → a * b < 2 ^ (i + j)
 product i j a b h k = lt_of_le_of_lt (mul-le-mul_left a (le_of_lt k)) (shl_lt i j h)
 
@@ -31,14 +31,15 @@ square r h = square_mono r (2 ^ 27 - 1) (omega arith)
 
 -- ---- the root from a guess
 
--- a difference that wraps, as the code's `wrapping_sub` has it, and that it is one
+-- a difference that wraps, as the code's `wrapping_sub` gives it; adding y to it gives x back
 abbrev pub minus : ℕ → ℕ → ℕ
 minus x y = (x + (2 ^ 64 - y)) % 2 ^ 64
 
 pub minus_back : (x y : ℕ) → x < 2 ^ 64 → y < 2 ^ 64 → (minus x y + y) % 2 ^ 64 ≡ x
 minus_back x y h k = omega arith
 
--- Three differences, none of which has wrapped: of m and h's square, of that and twice h times l, of that and l's square.
+-- Three differences, none of which has wrapped: of m and h's square, of that and twice h times l, of that and l's
+-- square.
 pub joined : (m h l a d t : ℕ) → h < 2 ^ 28 → l < 2 ^ 31 → a < 2 ^ 37 → d < 2 ^ 37 → t ≤ 3 * (h * 2 ^ 26 + l) + 2 → (a + h * h) % 2 ^ 64 ≡ m → (d + 2 * h * l) % 2 ^ 64 ≡ a * 2 ^ 26 → (t + l * l) % 2 ^ 64 ≡ d * 2 ^ 26 → (h * 2 ^ 26 + l) * (h * 2 ^ 26 + l) + t ≡ m * 4 ^ 26
 joined m h l a d t H L A D T e f g =
     let e = unwrapped (a + h * h) m (omega (arith, product 28 28 h h H H)) e in

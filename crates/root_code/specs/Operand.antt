@@ -1,4 +1,4 @@
--- What the code's parts say of the float that they take apart. Definitions only.
+-- What the contracts of src/operand.rt say of the float that is taken apart. Definitions only.
 use Rattle.std.specs.Prelude.{◌≡◌, ◌-◌, ◌*◌, ◌^◌, ◌<◌, ◌≤◌, Float}
 use Rattle.std.specs.Float.{binary64}
 use Rattle.root.specs.Root.{root_of, root}
@@ -6,7 +6,7 @@ use Rattle.root_code.specs.declared.operand.Scaled.{Scaled}
 use Rattle.root_code.specs.declared.operand.Operand.{Operand}
 use Rattle.root_code.specs.declared.operand.Operand.TheVariants.{Known, Positive}
 
--- of 53 digits, or of 54 of which the last is 0
+-- the significand has 53 binary digits, or 54 of which the last is 0
 pub record Bounded (s : Scaled) : Type 0 where
   pub least : 2 ^ 52 ≤ s.significand
   pub most : s.significand ≤ 2 ^ 54 - 2

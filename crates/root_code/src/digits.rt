@@ -1,8 +1,8 @@
-// The integer square root digit by digit: a fixed number of steps, each right by itself. The fall-back of from_guess.rt.
+// The integer square root digit by digit, in a fixed number of steps. from_guess.rt falls back on it.
 
 ghost use Rattle.std.specs.Prelude.{◌≡◌, ◌+◌, ◌*◌, ◌^◌, ◌<◌, ◌≤◌};
 
-// The whole part of a root, and what its square leaves over: less than would make the root one more.
+// The whole part of a root, and the number minus its square: at most twice the root, else the root would be one more.
 #[derive(Clone, Copy)]
 pub struct SquareRoot {
     pub root: u64,
@@ -26,9 +26,8 @@ fn next_digit(p: SquareRoot, d: u64) -> SquareRoot
     SquareRoot { root, remainder }
 }
 
-// The root of m, from its 27 base-4 digits, the highest first.
-// Kept: the first root of 0 is written out: `Default` can't be derived for a struct with a ghost field, and an `impl` by hand would hold
-// these same fields, for this one place.
+// The root of m, from its 27 base-4 digits, the highest first. The root of 0 is written out, since `Default` can't be
+// derived for a struct with a ghost field.
 pub fn isqrt_by_digits(m: u64) -> SquareRoot
     requires { m < 2 ^ 54 }
     ensures { result.root * result.root + result.remainder ≡ m }

@@ -1,9 +1,11 @@
-// An estimate of a reciprocal square root in fixed point. Nothing rests on how good it is: from_guess.rt checks what it makes of it.
+// An estimate of a reciprocal square root in fixed point. No result depends on how good it is: from_guess.rt checks the
+// root that it works out from it.
 
 ghost use Rattle.std.specs.Prelude.{◌^◌, ◌<◌};
 
-// The parabolas c0 - (c1 - c2 * z / 2^26) * z / 2^17 that meet 2^47 / √t at the three Chebyshev points of the 2^27 numbers
-// t = i * 2^27 + z, for each i, packed: c0 in 32 binary digits, c1 in 18, c2 in 14. None is needed below i = 8, where m is below 2^52.
+// The parabolas c0 - (c1 - c2 * z / 2^26) * z / 2^17 that meet 2^47 / √t at the three Chebyshev points of the 2^27
+// numbers t = i * 2^27 + z, for each i, packed: c0 in 32 binary digits, c1 in 18, c2 in 14. None is needed below i = 8,
+// where m is below 2^52.
 static PARABOLAS: [u64; 32] = [
     0,
     0,

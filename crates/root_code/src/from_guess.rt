@@ -1,6 +1,6 @@
-// The whole number nearest to a root from a guess at 2^58 / √m: right whatever the guess is, and fast where it is near. What the
-// guess leads to is taken only where what its square leaves over shows that it or the next number is nearest; else the digits are
-// worked out one by one.
+// The whole number nearest to a root, from a guess at 2^58 / √m: right for every guess, and fast for a near one. The
+// root that the guess leads to is taken only where its remainder shows that it or the next number is the nearest; else
+// the digits are worked out one by one.
 
 ghost use Rattle.std.specs.Prelude.{◌≡◌, ◌+◌, ◌*◌, ◌^◌, ◌<◌, if◌then◌else◌, nat_lt};
 ghost use Rattle.root_code.specs.NearestRoot.{NearestRoot};
@@ -25,15 +25,15 @@ impl Radicand {
         nearest_whole(p.root, p.remainder)
     }
 
-    // Near the root of the significand.
+    // The high digits of a root from the guess.
     fn high_digits(self) -> u64
         ensures { result < 2 ^ 28 }
     {
         ((self.significand >> 22) * u64::from(self.guess)) >> 36
     }
 
-    // The root of significand * 2^52, rounded, of which h and l make a guess; a is what h's square leaves over. A difference below 0
-    // wraps, and is too great then.
+    // The root of significand * 2^52, rounded. h and l are the high and the low digits of a root from the guess, and a
+    // is the remainder for h alone. A difference below 0 wraps to a number that the test behind it finds too large.
     pub fn nearest_root(self) -> u64
         ensures { NearestRoot (self.significand * 4 ^ 26) result }
     {
@@ -56,7 +56,8 @@ impl Radicand {
     }
 }
 
-// The whole number that is nearest to the root: the root lies above root + 1/2 exactly where the remainder is above the root.
+// The whole number that is nearest to the root: the root lies above root + 1/2 exactly where the remainder is above the
+// root.
 fn nearest_whole(root: u64, remainder: u64) -> u64
     requires { root < 2 ^ 60 }
     ensures { result ≡ (if nat_lt root remainder then root + 1 else root) }
@@ -64,7 +65,7 @@ fn nearest_whole(root: u64, remainder: u64) -> u64
     if root < remainder { root + 1 } else { root }
 }
 
-// About half of what is left over times y: the 26 binary digits behind.
+// The 26 binary digits behind the high ones: about half of the remainder a times y.
 fn low_digits(a: u64, y: u32) -> u64
     requires { a < 2 ^ 32 }
     ensures { result < 2 ^ 31 }

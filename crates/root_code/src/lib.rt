@@ -1,7 +1,8 @@
-// The square root that IEEE 754 asks for, worked out from the bits of an f64 with whole numbers. The crate `root` defines it.
+// The square root that IEEE 754 asks for, worked out from the bits of an f64 with whole numbers. The crate `root`
+// defines it.
 //
-// A guess from a short fixed-point calculation is checked exactly and, if it fails, the digits are worked out one by one, so the
-// answer does not rest on the guess. Every loop has a constant number of turns.
+// A guess from a short fixed-point calculation is checked exactly and, if it fails, the digits are worked out one by
+// one, so the answer does not depend on the guess. Every loop has a constant number of turns.
 
 #![tactic(auto)]
 
@@ -20,7 +21,8 @@ use crate::estimate::reciprocal_root;
 use crate::from_guess::Radicand;
 use crate::operand::{Operand, Scaled, decompose};
 
-// The root of s, rounded. The root of significand * 4^26 has 53 digits, the leading one of which adds 1 to the exponent's field.
+// The root of s, rounded. The root of significand * 4^26 has 53 digits, the leading one of which adds 1 to the
+// exponent's field.
 fn rounded(s: Scaled, guess: u32) -> f64
     requires { Bounded s }
     ensures { result ≡ root_of binary64 (s.significand * 4 ^ s.half) }

@@ -1,5 +1,5 @@
-// The processor's square root: one instruction. The logic's machine has its root by the kit's IEEE 754 library, and the crate `root`
-// proves that this is the same root, so what is worked out with it rests on no other definition.
+// The processor's square root, which is one instruction. In proofs it is the square root of the kit's IEEE 754 library,
+// and the crate `root` proves that this is the root that it defines, so every contract names the same root.
 
 ghost use Rattle.std.specs.Prelude.{◌≡◌};
 ghost use Rattle.std.specs.Float.{binary64};

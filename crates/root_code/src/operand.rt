@@ -1,19 +1,19 @@
-// A float taken apart for the root: a root that is known at once, or a significand and an exponent, the latter even.
+// A float taken apart for the root: a root that is known at once, or a significand and an even exponent.
 
 ghost use Rattle.std.specs.Prelude.{◌≡◌, ◌+◌, ◌*◌, ◌^◌, ◌<◌, ◌≤◌, from_bits};
 ghost use Rattle.std.specs.Float.{binary64};
 ghost use Rattle.root_code.specs.Operand.{Bounded, Decomposed};
 ghost use Rattle.root_code.specs.Exponent.{shifted};
 
-// The value significand * 4^(half - 1074).
-// Kept: contracts say within which bounds, by `Bounded`, and no ghost fields: there what makes a value would have to prove four of them.
+// The value significand * 4^(half - 1074). Contracts give the bounds, as `Bounded`, since with ghost fields each place
+// that makes such a value would have to prove four bounds.
 #[derive(Clone, Copy)]
 pub struct Scaled {
     pub significand: u64,
     pub half: u64,
 }
 
-// Kept: no Result, for neither side is a failure, and `Err` for a root that is known would mislead.
+// A float as the root sees it. It is no `Result`, since neither case is a failure.
 #[derive(Clone, Copy)]
 pub enum Operand {
     // The root itself: of a zero, an infinity, a NaN, a negative number.
@@ -30,7 +30,8 @@ fn exponent(place: u64) -> i64
     place as i64 - 1127
 }
 
-// The exponent as a natural number: 2148 is even and takes every exponent to 0 or more, so that halves are rounded down.
+// The exponent as a natural number: 2148 is even and takes every exponent to 0 or more, so that halves are rounded
+// down.
 fn natural_exponent(e: i64) -> u64
     requires { (0 < shifted e) × (shifted e < 3120) }
     ensures { result ≡ shifted e }
@@ -38,7 +39,7 @@ fn natural_exponent(e: i64) -> u64
     (e + 2148) as u64
 }
 
-// m * 2^e with an even exponent: half of e, rounded down, and what is left over goes to m.
+// m * 2^e with an even exponent: half of e, rounded down, and m is doubled where e is odd.
 fn with_even_exponent(m: u64, e: i64) -> Scaled
     requires { (2 ^ 52 ≤ m) × (m < 2 ^ 53) × (1022 ≤ shifted e) × (shifted e < 3120) }
     ensures { Bounded result × (result.significand * 4 ^ result.half ≡ m * 2 ^ shifted e) }
@@ -68,7 +69,8 @@ fn normal(b: u64) -> Scaled
     with_even_exponent(m, exponent((b >> 52) + 52))
 }
 
-// The tests are on the bits: their order is the numbers' for positive ones, and a sign makes them greater than all those.
+// The tests compare bits: those of positive numbers are in the numbers' order, and those with a sign bit are above them
+// all.
 pub fn decompose(x: f64) -> Operand
     ensures { Decomposed x result }
 {

@@ -1,5 +1,5 @@
--- The comparison of candidates, for every pair, and the best of a list, for every list: the earliest of the lowest scores that are numbers is what a run keeps that
--- replaces its best by a better one. Assumes nothing.
+-- The comparison of candidates, for every pair, and the best of a list, for every list: a run that replaces its best by
+-- each better candidate keeps the earliest of the lowest scores that are numbers. Assumes nothing.
 use Rattle.std.specs.Prelude.{ℕ, ◌≡◌, ◌&&◌, ◌||◌, List, [], ◌∷◌, ◌++◌}
 use Rattle.std.proofs.Common.{arith, sym, ◌∙◌, true≢false, inl, inr, ⊎_elim, append_assoc, append-nil}
 use mathlib.Core.Bool.{and-false, not-not}
@@ -67,7 +67,7 @@ module _ (v : Candidate) (b : Best) where
   unfolding is_better beats
   lower_better h f = simp (f, h, not-not)
 
--- ---- the leader is found
+-- ---- the best of a list is what `best_of` chooses
 unbeaten_true : (w : Candidate) (ws : List Candidate) → All (λ v. beats v w ≡ false) ws → unbeaten w ws ≡ true
 unfolding unbeaten
 unbeaten_true w [] h = refl
@@ -136,16 +136,16 @@ lead_old ws w v l h = record {
   unbeaten_by = all_append (λ u. beats u w ≡ false) l.behind (v ∷ []) l.unbeaten_by (h, tt);
 }
 
--- and several that aren't better
+-- and several candidates that aren't better
 pub lead_on : (ws : List Candidate) (w : Candidate) (vs : List Candidate) → Leads ws w → All (λ v. beats v w ≡ false) vs → Leads (ws ++ vs) w
 lead_on ws w [] l h = rw append-nil l
 lead_on ws w (v ∷ vs) l h = rw (append_assoc ws (v ∷ []) vs) at (lead_on (ws ++ v ∷ []) w vs (lead_old ws w v l h.0) h.1)
 
--- the first number
+-- the first candidate whose score is a number
 pub lead_first : (ws : List Candidate) (v : Candidate) → All HasNan ws → HasNumber v → Leads (ws ++ v ∷ []) v
 lead_first ws v h n = record { before = ws; behind = []; split = refl; number = n; ahead = all_map HasNan (λ u. beats v u ≡ true) (λ u k. number_beats_nan v u n k) ws h; unbeaten_by = tt }
 
--- ---- a list has a leader, unless no score of it is a number
+-- ---- a list has a best, unless no score of it is a number
 led_more : (ws : List Candidate) (v : Candidate) → Led ws → Led (ws ++ v ∷ [])
 led_more ws v =
     ⊎_elim
@@ -159,7 +159,7 @@ led_on ws (v ∷ vs) l = let e : (ws ++ v ∷ []) ++ vs ≡ ws ++ v ∷ vs = app
 pub led : (ws : List Candidate) → Led ws
 led ws = led_on [] ws (inr tt)
 
--- so what is found leads
+-- so what `best_of` chooses is the best
 pub found_leads : (ws : List Candidate) (w : Candidate) → best_of ws ≡ chosen w → Leads ws w
 found_leads ws w e =
     ⊎_elim
@@ -167,7 +167,7 @@ found_leads ws w e =
     (λ h. let q = best_none ws h in let z : nothing ≡ chosen w = sym q ∙ e in let y : ◌≡◌ {A = ℕ} 0 1 = cc in absurd (omega arith))
     (led ws)
 
--- ---- the law: of a list with one more at its end
+-- ---- the law: the best of a list with one more candidate at its end
 pub best_snoc : (ws : List Candidate) (v : Candidate) → held (best_of (ws ++ v ∷ [])) ≡ improved (held (best_of ws)) v
 unfolding improved is_better no_best
 best_snoc ws v =

@@ -43,7 +43,7 @@ associative (chosen w) nothing c = ap (λ (x : Chosen). winner_of_two x c) (none
 associative (chosen w) (chosen v) nothing = none_second (winner_of_two (chosen w) (chosen v)) ∙ ap (winner_of_two (chosen w)) (sym (none_second (chosen v)))
 associative (chosen w) (chosen v) (chosen u) = three w v u
 
--- records hold it as it is
+-- the winner of two bests as records hold them is the winner of the two
 pub held_winner : (a b : Chosen) → winner_of_bests (held a) (held b) ≡ held (winner_of_two a b)
 unfolding winner_of_bests winner_of_two no_best
 held_winner nothing b = refl
@@ -69,7 +69,7 @@ module _ (a b : Best) where
 
 -- ---- two lists in a row
 module _ (ws vs : List Candidate) where
-  -- the second one's leader, where nothing of the first is a number
+  -- the best of the second list is that of both, where no score of the first is a number
   second_leads : (v : Candidate) → All HasNan ws → Leads vs v → Leads (ws ++ vs) v
   second_leads v h l = record {
     before = ws ++ l.before;
@@ -80,7 +80,7 @@ module _ (ws vs : List Candidate) where
     unbeaten_by = l.unbeaten_by;
   }
 
-  -- the first one's, where none of the second beats it
+  -- the best of the first list is that of both, where none of the second beats it
   first_leads : (w : Candidate) → Leads ws w → All (λ u. beats u w ≡ false) vs → Leads (ws ++ vs) w
   first_leads w l h = record {
     before = l.before;
@@ -91,7 +91,7 @@ module _ (ws vs : List Candidate) where
     unbeaten_by = all_append (λ u. beats u w ≡ false) l.behind vs l.unbeaten_by h;
   }
 
-  -- the second one's, where it beats the first one's
+  -- the best of the second list is that of both, where it beats the best of the first
   better_leads : (w v : Candidate) → Leads ws w → Leads vs v → beats v w ≡ true → Leads (ws ++ vs) v
   better_leads w v l m h = record {
     before = ws ++ m.before;
@@ -109,7 +109,7 @@ module _ (ws vs : List Candidate) where
           (all_map (λ u. beats w u ≡ true) (λ u. beats v u ≡ true) (λ u k. both_beat v w u h k) l.before l.ahead)
           (h, all_map (λ u. beats u w ≡ false) (λ u. beats v u ≡ true) (λ u k. cotrans v w u h k) l.behind l.unbeaten_by))
 
-  -- where it doesn't, none of the second does
+  -- where the best of the second list doesn't beat the first's, none of the second does
   none_better : (w v : Candidate) → Leads vs v → beats v w ≡ false → All (λ u. beats u w ≡ false) vs
   none_better w v m h =
       rw m.split
@@ -178,7 +178,7 @@ fold_joined (s ∷ ss) = ap (winner_of_two (best_of s)) (fold_joined ss) ∙ sym
 pub cut_anywhere : (ss : List (List Candidate)) → winner_of (map best_of ss) ≡ best_of (joined ss)
 cut_anywhere ss = winner_fold (map best_of ss) (bests_number ss) ∙ fold_joined ss
 
--- and grouped anyhow
+-- groups of stretches, joined and then joined again, are all the stretches joined
 joined_append : {A : Type 0} (ss ts : List (List A)) → joined (ss ++ ts) ≡ joined ss ++ joined ts
 unfolding flat_map
 joined_append [] ts = refl

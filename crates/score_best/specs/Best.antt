@@ -1,4 +1,4 @@
--- The best of the scored candidates, said of a whole list, and what a run keeps instead, one candidate at a time. Definitions only.
+-- The best of the scored candidates, of a whole list, and as a run keeps it, one candidate at a time. Definitions only.
 use Rattle.std.specs.Prelude.{ℕ, Bool, true, false, not, ◌&&◌, ◌||◌, cond, List, [], ◌∷◌, Option}
 use Rattle.std.specs.Bool.{then_some}
 use Rattle.std.specs.Float.Ieee.{lt, is_nan}
@@ -72,6 +72,6 @@ is_better v b = cond b.found (beats v b.candidate) (is_number v)
 unfoldable pub improved : Best → Candidate → Best
 improved b v = cond (is_better v b) (found v) b
 
--- ---- a scored candidate: its number, its seed's tilts, and what its finding was worth
+-- ---- a scored candidate: its number, its seed's tilts, and its camera, mean and score
 abbrev pub candidate_of : ℕ → ScheimpflugParams → Scoring → Candidate
 candidate_of n t s = record { number = n; camera = s.camera; sensor = t; mean_reproj_error = s.mean; score = s.score }

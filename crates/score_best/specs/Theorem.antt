@@ -20,7 +20,7 @@ abbrev pub IsNumber : Chosen → Type 0
 IsNumber nothing = Unit {0}
 IsNumber (chosen w) = HasNumber w
 
--- ---- w leads ws: its score is a number, it is better than all before it, and none after it is better
+-- ---- w is the best of ws: its score is a number, it is better than all before it, and none after it is better
 pub record Leads (ws : List Candidate) (w : Candidate) : Type 0 where
   pub before : List Candidate
   pub behind : List Candidate
@@ -29,12 +29,12 @@ pub record Leads (ws : List Candidate) (w : Candidate) : Type 0 where
   pub ahead : All (λ v. beats w v ≡ true) before
   pub unbeaten_by : All (λ v. beats v w ≡ false) behind
 
--- ---- a list has a leader, unless no score of it is a number
+-- ---- a list has a best, unless no score of it is a number
 abbrev pub Led : List Candidate → Type 0
 Led ws = ((w : Candidate) × Leads ws w) ⊎ All HasNan ws
 
 pub record BestRight : Type 0 where
-  -- a NaN replaces nothing; the first number replaces what isn't there, and a lower one, or a number a NaN, what is
+  -- a NaN replaces nothing; a number is taken where there is no best, and replaces a best that is NaN or higher
   pub nan_never_better : (v : Candidate) (b : Best) → HasNan v → is_better v b ≡ false
   pub first_better : (v : Candidate) (b : Best) → HasNumber v → b.found ≡ false → is_better v b ≡ true
   pub lower_better : (v : Candidate) (b : Best) → HasNumber v → b.found ≡ true → is_better v b ≡ (is_nan b.candidate.score || lt v.score b.candidate.score)
@@ -42,7 +42,7 @@ pub record BestRight : Type 0 where
   pub led : (ws : List Candidate) → Led ws
   pub best_leads : (ws : List Candidate) (w : Candidate) → Leads ws w → best_of ws ≡ chosen w
   pub best_none : (ws : List Candidate) → All HasNan ws → best_of ws ≡ nothing
-  -- which is what a run keeps that replaces its best by a better one
+  -- a run that replaces its best by each better candidate keeps the best of all
   pub best_snoc : (ws : List Candidate) (v : Candidate) → held (best_of (ws ++ v ∷ [])) ≡ improved (held (best_of ws)) v
 
 pub record WinnersRight : Type 0 where

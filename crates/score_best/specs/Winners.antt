@@ -1,4 +1,4 @@
--- 02, E14: the winner of two stretches, and of any number of them. Definitions only.
+-- The winner of two stretches, and of any number of them. Definitions only.
 use Rattle.std.specs.Prelude.{◌&&◌, cond}
 use mathlib.Core.List.{List, [], ◌∷◌, flat_map}
 use Rattle.score_best.specs.declared.Candidate.{Candidate}
@@ -11,7 +11,7 @@ winner_of_two nothing c = c
 winner_of_two (chosen w) nothing = chosen w
 winner_of_two (chosen w) (chosen v) = cond (beats v w) (chosen v) (chosen w)
 
--- as records hold them
+-- the same of two bests as records hold them
 unfoldable pub winner_of_bests : Best → Best → Best
 winner_of_bests a b = cond a.found (cond (b.found && beats b.candidate a.candidate) b a) b
 

@@ -1,5 +1,5 @@
-// The best of the scored candidates: the earliest with the lowest score. A run keeps it as it goes, replacing it by each better one. A score that isn't a
-// number is never the best, whatever record it stands in.
+// The best of the scored candidates: the earliest with the lowest score. A run replaces it by each better candidate. A
+// candidate whose score isn't a number never replaces one, whatever a record holds.
 
 #![tactic(auto)]
 
@@ -23,8 +23,8 @@ pub struct Candidate {
     pub score: f64,
 }
 
-// The best so far, if there is one. Where there is none, the candidate's numbers are 0.
-// Kept: no Option, since C hands in both fields and gets each of their numbers back, also where none is found.
+// The best so far, if there is one. Where there is none, the candidate's numbers are 0. It is no Option, since the C
+// interface hands both fields in and out, and their numbers have to stay as they are also where none is found.
 #[derive(Clone, Copy, Default)]
 pub struct Best {
     pub found: bool,
@@ -32,7 +32,7 @@ pub struct Best {
 }
 
 impl Best {
-    // This best, or, if it has none, the other, as Option's `or` has it.
+    // This best, or the other where this one has no candidate, like Option's `or`.
     pub fn or(self, other: Best) -> Best
         ensures { result ≡ or_best self other }
     {
@@ -50,9 +50,8 @@ impl Best {
     }
 }
 
-// No candidate yet.
-// Kept: a name for the default, since the definitions of the calls say `no_best`: with Best::default() in its place the proof of a caller, such as
-// `opened` of search_record, stays open until it unfolds all of the numbers.
+// The best where there is no candidate yet. The definitions of the calls say `no_best`; with Best::default() in its
+// place the proof of a caller, such as `opened` of search_record, would have to unfold all of the numbers.
 #[tactic(auto, unfolding(crate::specs::Best::no_best))]
 pub fn no_best() -> Best
     ensures { result ≡ no_best }
@@ -60,7 +59,8 @@ pub fn no_best() -> Best
     Best::default()
 }
 
-// Whether a candidate replaces the best: its score is a number, and there is no best yet, or one whose score is none, or a higher one.
+// Whether a candidate replaces the best: its score is a number, and there is no best yet, or its score is NaN or
+// higher.
 #[tactic(auto, unfolding(crate::specs::Best::is_better, crate::specs::Best::beats))]
 pub fn is_better(candidate: Candidate, current: Best) -> bool
     ensures { result ≡ is_better candidate current }

@@ -12,7 +12,8 @@ use Rattle.score_camera.specs.declared.pinhole.PinholeCamera.{PinholeCamera}
 abbrev pub tangential_bound : Float
 tangential_bound = of_bits binary64 0x3fa9_9999_9999_999a
 
--- 01, 'The run': k1, k2 and k3 are put to 0, whatever they were, and p1 and p2 to the nearer end where they lie beyond ±0.05. NaN stays.
+-- Damping: k1, k2 and k3 are put to 0, whatever they were, and p1 and p2 to the nearer end where they lie beyond ±0.05.
+-- NaN stays.
 unfoldable pub damped : BrownConrady5 → BrownConrady5
 damped d = record {
   k1 = plus_zero;
@@ -32,6 +33,6 @@ finite_intrinsics k = is_finite k.fx && is_finite k.fy && is_finite k.cx && is_f
 unfoldable pub finite_distortion : BrownConrady5 → Bool
 finite_distortion d = is_finite d.k1 && is_finite d.k2 && is_finite d.k3 && is_finite d.p1 && is_finite d.p2
 
--- 01, 'The run', reason 2 says where this fails: a number that isn't finite, or a focal length not above 0.
+-- The camera check: all nine numbers are finite and both focal lengths are above 0. A camera that fails it is reason 2.
 unfoldable pub valid_camera : PinholeCamera → Bool
 valid_camera c = finite_intrinsics c.k && finite_distortion c.dist && lt plus_zero c.k.fx && lt plus_zero c.k.fy

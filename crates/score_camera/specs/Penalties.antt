@@ -24,13 +24,13 @@ distortion_penalty d =
 unfoldable pub tilt_penalty : ScheimpflugParams → Float
 tilt_penalty s = quarter *₆₄ (s.tilt_x *₆₄ s.tilt_x +₆₄ s.tilt_y *₆₄ s.tilt_y)
 
--- 01, 'The run': the centre's penalty has weight 0.0, and is NaN where its square overflows or the observed centre isn't finite.
+-- The centre's penalty has weight 0.0, and is NaN where its square overflows or the observed centre isn't finite.
 unfoldable pub centre_penalty : FxFyCxCy → Pt2 → Float
 centre_penalty k center =
     let dx = (k.cx -₆₄ center.x) /₆₄ max_of k.fx one₆₄ in
     let dy = (k.cy -₆₄ center.y) /₆₄ max_of k.fy one₆₄ in
     plus_zero *₆₄ (dx *₆₄ dx +₆₄ dy *₆₄ dy)
 
--- 01, 'The run': mean + distortion + tilt + centre penalty, in that order.
+-- The score: mean + distortion penalty + tilt penalty + centre penalty, in this order.
 unfoldable pub score_of : Float → PinholeCamera → ScheimpflugParams → Pt2 → Float
 score_of mean c sensor center = mean +₆₄ distortion_penalty c.dist +₆₄ tilt_penalty sensor +₆₄ centre_penalty c.k center

@@ -43,7 +43,7 @@ pub fn tilt_complexity(sensor: ScheimpflugParams) -> f64
     0.25 * squared_tilt(sensor)
 }
 
-// The number or 1, whichever is higher; 1 for NaN. One comparison tells, since it fails for NaN.
+// The number or 1, whichever is higher; 1 for NaN. One comparison is enough, since it is false for NaN.
 fn at_least_one(x: f64) -> f64
     ensures { result ≡ max_of x one₆₄ }
 {

@@ -7,7 +7,7 @@ ghost use Rattle.score_camera.specs.Camera.{damped, damped_camera, finite_intrin
 use camera_models::distortion::BrownConrady5;
 use camera_models::intrinsics::FxFyCxCy;
 
-// A pinhole with its lens distortion.
+// A pinhole camera with its lens distortion.
 #[repr(C)]
 #[derive(Clone, Copy, Default)]
 pub struct PinholeCamera {
@@ -15,7 +15,7 @@ pub struct PinholeCamera {
     pub dist: BrownConrady5,
 }
 
-// The radial coefficients put to 0, and the tangential ones brought within ±0.05.
+// Puts the radial coefficients to 0, and brings the tangential ones within ±0.05.
 #[tactic(auto, unfolding(crate::specs::Camera::damped))]
 pub fn damp_seed_distortion(distortion: BrownConrady5) -> BrownConrady5
     ensures { result ≡ damped distortion }

@@ -33,7 +33,7 @@ infinity_min (inf false) n = refl
 infinity_min (inf true) n = refl
 infinity_min (fin s m e) n = refl
 
--- the order doesn't matter, nor does it for zeros: the first of the lowest is taken both ways
+-- Either order gives the same, with zeros of either sign too: the first of the lowest is taken both ways.
 floor_is : (ss : List CandidateSeed) → fold lower infinity ss ≡ floor_of ss
 unfolding is_nan div of_bits
 floor_is ss = fold_lower ss infinity refl ∙ infinity_min (floor_of ss) (floor_number ss)

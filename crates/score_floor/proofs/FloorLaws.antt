@@ -1,5 +1,5 @@
--- 02, E9: the floor is a number, one of the seeds' penalties, and none of them is below it; so no candidate from those seeds scores below it, whichever camera the host
--- finds, and where it isn't below the best's score none of them beats the best. Assumes nothing.
+-- The floor is a number, one of the seeds' penalties, and none of them is below it. So no candidate from those seeds
+-- scores below it, whichever camera the host finds. Assumes nothing.
 use Rattle.std.specs.Prelude.{ℕ, ◌≡◌, refl, false, Float, Ok}
 use Rattle.std.proofs.Common.{sym, ap, ◌∙◌, ⊎_elim}
 use mathlib.Core.List.Memᴰ

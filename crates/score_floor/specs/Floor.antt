@@ -1,4 +1,5 @@
--- 02, E9: the floor of some seeds, the lowest tilt penalty among them, and the seeds that stand in a list. Definitions only.
+-- The floor of some seeds, which is the lowest tilt penalty among them, and the seeds that stand in a list. Definitions
+-- only.
 use Rattle.std.specs.Prelude.{ℕ, zero, suc, ◌-◌, cond, List, [], ◌∷◌, Float}
 use Rattle.std.specs.Float.Ieee.{is_nan}
 use Rattle.float.specs.Float.{min_of}

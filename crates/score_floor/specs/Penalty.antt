@@ -21,7 +21,7 @@ use Rattle.camera_tilt.specs.declared.sensor.ScheimpflugParams.{ScheimpflugParam
 use Rattle.score_camera.specs.declared.pinhole.PinholeCamera.{PinholeCamera}
 use Rattle.score_camera.specs.Penalties.{quarter, distortion_penalty, tilt_penalty, centre_penalty, score_of}
 
--- ---- the penalties have no minus, for every camera and every centre
+-- ---- the penalties have no minus sign, for every camera and every centre
 quarter_plus : sign_bit quarter ≡ false
 unfolding sign_bit of_bits
 quarter_plus = refl

@@ -2,7 +2,7 @@
 
 ghost use Rattle.score_floor.specs.Theorem.{FloorRight};
 
-/// No outcome of a listed seed scores below the floor of the list.
+/// The floor of a list is the lowest tilt penalty of its seeds, and no outcome of one of them scores below it.
 #[tactic(auto, using(crate::proofs::FloorLaws::floor_right))]
 pub fn floor_law()
     ensures { FloorRight }

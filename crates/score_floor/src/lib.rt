@@ -24,7 +24,7 @@ pub fn counted_penalty(sensor: ScheimpflugParams) -> f64
     penalty
 }
 
-// The lower of a floor and a seed's counted penalty. Mostly the floor is at most the penalty: one comparison tells, and no selection waits for it.
+// The lower of a floor and a seed's counted penalty. Mostly this is the floor, and one comparison is enough.
 #[tactic(auto, using(crate::proofs::FloorKept::floor_kept))]
 fn lowered(floor: f64, sensor: ScheimpflugParams) -> f64
     ensures { result ≡ min_of floor (counted_penalty sensor) }

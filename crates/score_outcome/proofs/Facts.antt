@@ -84,7 +84,7 @@ reason_within BadCamera = (omega arith, omega arith)
 reason_within NoMean = (omega arith, omega arith)
 reason_within NoNumber = (omega arith, omega arith)
 
--- a reason's number is that reason's again
+-- the reason of a reason's number is that reason
 pub reason_numbered_back : (r : SkipReason) → reason_numbered (reason_number r) ≡ Ok r
 reason_numbered_back HostFailed = refl
 reason_numbered_back BadCamera = refl

@@ -1,4 +1,5 @@
--- 02, E11: what is scored rests on its share of the rows, and a share of 0 is 01's rule. Assumes nothing.
+-- What is scored rests on its share of the rows, and a share of 0 gives the outcome that asks for none. Assumes
+-- nothing.
 use Rattle.std.specs.Prelude.{ℕ, zero, suc, ◌+◌, ◌*◌, ◌/◌, ◌%◌, min, ◌≤◌, ◌<◌, ◌≡◌, refl, true, false, List, [], leb, eqb, length, Float, Ok, Err}
 use Rattle.std.proofs.Common.{zero-mul, mul-zero, mul-le-mul_right, mul-add, mul_left_comm, arith, ap, ◌∙◌}
 use Rattle.std.proofs.Math.Path.{sym}
@@ -47,7 +48,7 @@ pub no_rows_enough : (share counted : ℕ) → enough share counted 0 ≡ true
 unfolding enough
 no_rows_enough share counted = rw (mul-zero share) (le-leb 0 (counted * 100) (omega arith))
 
--- where there are no rows the share is there, and a mean isn't
+-- where there are no rows, enough of them count, and there is no mean
 no_mean_lem : (s : SolvedCamera) → is_finite (mean_with s [] []) ≡ false
 unfolding mean_with errors_with error_sum counted_errors summed rows_of mean_of is_finite div of_bits
 no_mean_lem s = refl
@@ -57,7 +58,7 @@ pub no_rows : (share : ℕ) (s : SolvedCamera) (sensor : ScheimpflugParams) (cen
 unfolding enough_with
 no_rows share s sensor center v = (no_rows_enough share (errors_with s [] []).count, infinite_skips share s sensor center [] [] v (no_mean_lem s))
 
--- more than 100 per cent is what no rows but none have
+-- a share above 100 per cent is reached only where there are no rows
 few_of_many : (share counted n : ℕ) → 100 < share → counted ≤ suc n → counted * 100 < share * suc n
 few_of_many share counted n h k = let p = mul-le-mul_right (suc n) h in omega arith
 
@@ -93,7 +94,7 @@ zero_evaluated : (s : SolvedCamera) (sensor : ScheimpflugParams) (center : Pt2) 
 unfolding evaluated enough_with
 zero_evaluated s sensor center rows flags = simp (zero_enough (errors_with s rows flags).count (length flags))
 
--- a share of 0 is that rule
+-- a share of 0 gives the outcome that asks for no share
 pub zero_share : (f : Finding) (sensor : ScheimpflugParams) (center : Pt2) (rows : List Float) (flags : List ℕ) → outcome_of 0 f sensor center rows flags ≡ outcome01 f sensor center rows flags
 unfolding outcome_of
 zero_share Failed sensor center rows flags = refl

@@ -28,11 +28,11 @@ unfoldable pub any_above_one : List ℕ → Bool
 any_above_one flags = list_any (λ flag. ltb 1 flag) flags
 
 -- ---- what is refused of a finding
--- 01, 'Answer', for Solved: 13 more than 1,024 points, rows not four per flag, a flag above 1
+-- For Solved: 13 where there are more than 1,024 flags, the rows aren't four numbers a flag, or a flag is above 1.
 abbrev pub row_checks : List Float → List ℕ → List Check
 row_checks rows flags = (BadRows when ltb 1024 (length flags)) ∷ (BadRows when not (eqb (length rows) (4 * length flags))) ∷ (BadRows when any_above_one flags) ∷ []
 
--- 02, E1: after 13, 27 where a tilt of the seed is NaN or beyond 0.5 in size
+-- After 13: 27 where a tilt of the seed is NaN or beyond 0.5 in size.
 unfoldable pub solved_refusal : ScheimpflugParams → List Float → List ℕ → Result ⊤ Refusal
 solved_refusal sensor rows flags = first_refusal (row_checks rows flags ++ ((BeyondHalf when (beyond_half sensor.tilt_x || beyond_half sensor.tilt_y)) ∷ []))
 
@@ -42,7 +42,7 @@ finding_refusal Failed sensor rows flags = Ok tt
 finding_refusal (Solved c) sensor rows flags = solved_refusal sensor rows flags
 
 -- ---- the outcome
--- 02, E1: sine and cosine of the seed's tilts, by the series
+-- sine and cosine of the seed's tilts, by the series
 unfoldable pub trig_of : ScheimpflugParams → TiltTrig
 trig_of t = record {
   sin_x = series_of sines t.tilt_x;
@@ -62,11 +62,11 @@ errors_with s rows flags = error_sum (damped_camera s.camera) (tilt_matrix s.tri
 unfoldable pub mean_with : SolvedCamera → List Float → List ℕ → Float
 mean_with s rows flags = mean_of (errors_with s rows flags)
 
--- 02, E11: counted times 100 is at least the share, a whole per cent, times all rows
+-- enough count: counted times 100 is at least the share, a whole per cent, times all rows
 unfoldable pub enough : ℕ → ℕ → ℕ → Bool
 enough share counted all = leb (share * all) (counted * 100)
 
--- All rows are asked for their share, those behind the camera and those with an error that isn't finite among them: each has a flag.
+-- The share is of all rows, also of those behind the camera and of those whose error isn't finite: each has a flag.
 unfoldable pub enough_with : ℕ → SolvedCamera → List Float → List ℕ → Bool
 enough_with share s rows flags = enough share (errors_with s rows flags).count (length flags)
 
@@ -77,19 +77,19 @@ scoring_of s sensor center rows flags =
     let mean = mean_with s rows flags in
     record { camera = camera; mean = mean; score = score_of mean camera sensor center }
 
--- 02, E3: a score that isn't a number is reason 4; an infinite one is a score
+-- a score that isn't a number is reason 4; an infinite one is a score
 unfoldable pub scored_as : Scoring → Outcome
 scored_as g = cond (is_nan g.score) (Err NoNumber) (Ok g)
 
--- 01, 'The run': the camera is damped, then checked (reason 2), and the rows are projected; a mean that isn't finite is reason 3, and so is, by 02, E11,
--- one over too few of the rows.
+-- The camera is damped, then checked (reason 2), and the rows are projected. A mean over too few of the rows is reason
+-- 3, and so is one that isn't finite.
 unfoldable pub evaluated : ℕ → SolvedCamera → ScheimpflugParams → Pt2 → List Float → List ℕ → Outcome
 evaluated share s sensor center rows flags =
     cond (not (valid_camera (damped_camera s.camera))) (Err BadCamera)
     (cond (not (enough_with share s rows flags)) (Err NoMean)
     (cond (not (is_finite (mean_with s rows flags))) (Err NoMean) (scored_as (scoring_of s sensor center rows flags))))
 
--- Reason 1: the host Failed. A solved camera is looked at with the seed's own tilts.
+-- Failed is reason 1. A solved camera is evaluated with the seed's tilts.
 unfoldable pub outcome_of : ℕ → Finding → ScheimpflugParams → Pt2 → List Float → List ℕ → Outcome
 outcome_of share Failed sensor center rows flags = Err HostFailed
 outcome_of share (Solved c) sensor center rows flags = evaluated share (solved_at c sensor) sensor center rows flags

@@ -1,4 +1,4 @@
--- 02, E11: what it is to rest on a share of the rows, and 01's outcome, which asks for none. Definitions only.
+-- What it is to rest on a share of the rows, and the outcome that asks for no share. Definitions only.
 use Rattle.std.specs.Prelude.{ℕ, ◌*◌, ◌≤◌, ◌≡◌, not, cond, List, length, Float, Err}
 use Rattle.float.specs.Float.{is_finite}
 use Rattle.camera_models.specs.declared.math.Pt2.{Pt2}
@@ -16,7 +16,7 @@ pub record RestsOn (share : ℕ) (s : SolvedCamera) (rows : List Float) (flags :
   pub mean_is : mean ≡ mean_with s rows flags
   pub enough_counted : share * length flags ≤ (errors_with s rows flags).count * 100
 
--- ---- 01's outcome, with the reason 4 of 02, E3: it asks for no share
+-- ---- the outcome that asks for no share
 abbrev pub evaluated01 : SolvedCamera → ScheimpflugParams → Pt2 → List Float → List ℕ → Outcome
 evaluated01 s sensor center rows flags =
     cond (not (valid_camera (damped_camera s.camera))) (Err BadCamera)

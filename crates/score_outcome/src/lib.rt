@@ -1,4 +1,4 @@
-// What a finding of the host is worth: what is refused of it, and its outcome.
+// A finding of the host: what is refused of it, and its outcome.
 // Each function equals its rule for every input.
 
 #![tactic(auto)]
@@ -18,8 +18,7 @@ use score_camera::penalties::candidate_score;
 use score_camera::pinhole::{PinholeCamera, damped_camera, validate_camera};
 use score_rows::{ErrorSum, mean_reproj_error, reproj_error_sum};
 
-// What the host found for a seed: the camera's nine numbers, or nothing.
-// Kept: the interface names the two kinds of finding, Failed and Solved.
+// What the host found for a seed: Solved with the camera's nine numbers, or Failed. The interface names both.
 #[derive(Clone, Copy)]
 pub enum Finding {
     Failed,
@@ -62,7 +61,7 @@ impl From<SkipReason> for u8 {
     }
 }
 
-// Of any other number there is no reason, and no line of the journal has it.
+// Any other number is no reason's, and is refused: no line of the journal has it.
 impl TryFrom<u8> for SkipReason {
     type Error = Refusal;
 
@@ -89,8 +88,8 @@ fn any_above_one(flags: &[u8]) -> bool
     flags.iter().any(|flag| *flag > 1)
 }
 
-// Kept: rows and flags are two lists, here, below and in Answer: C lends them apart, and `Rows` of score_rows says that there are four numbers to a flag,
-// which is known only where nothing is refused. A struct of finding, rows and flags would fit only the functions that take a finding.
+// Rows and flags are two lists, here, below and in Answer: C lends them apart, and `Rows` of score_rows has four
+// numbers for each flag, which is known only where nothing is refused.
 #[tactic(auto, unfolding(crate::specs::Evaluation::solved_refusal))]
 fn solved_refusal(sensor: ScheimpflugParams, rows: &[f64], flags: &[u8]) -> Result<(), Refusal>
     ensures { result ≡ solved_refusal sensor rows.now flags.now }
@@ -139,8 +138,9 @@ fn trig_of(sensor: ScheimpflugParams) -> TiltTrig
     }
 }
 
-// Whether the counted are at least this share, in per cent, of all rows. Of a share above 100 there are enough only where there are no rows. Else
-// the least number that is enough: of the whole hundreds of rows and of the rest, which is rounded up, so that no product wraps.
+// Whether the counted rows are at least this share, in per cent, of all rows. For a share above 100 there are enough
+// only where there are no rows. Otherwise the least number that is enough is worked out from the whole hundreds of rows
+// and from the rest, rounded up, so that no product wraps.
 fn is_enough(share: usize, counted: u64, all: usize) -> bool
     requires { counted ≤ all }
     ensures { result ≡ enough share counted all }
@@ -153,8 +153,7 @@ fn is_enough(share: usize, counted: u64, all: usize) -> bool
     of_hundreds + of_rest <= counted as usize
 }
 
-// The outcome of a camera with a finite mean error.
-// Kept: tilts and centre are two values, here and below: the tilts are the seed's, the centre the run's.
+// The outcome of a camera with a finite mean error. The tilts are the seed's, and the centre is the run's.
 #[tactic(auto, unfolding(crate::specs::Evaluation::scored_as))]
 fn scored_outcome(
     mean: f64,
@@ -222,7 +221,7 @@ pub fn finding_outcome(
     evaluate_candidate(share, solved, sensor, center, rows, flags)
 }
 
-// Sum and count of the errors that the mean of a solved camera divides, damped as it is for its outcome.
+// Sum and count of the errors that a solved camera's mean is worked out from. The camera is damped as for its outcome.
 #[tactic(auto, unfolding(crate::specs::Evaluation::error_count_of, crate::specs::Evaluation::errors_with, score_rows::specs::Rows::tilt_matrix))]
 pub fn count_errors(
     camera: PinholeCamera,

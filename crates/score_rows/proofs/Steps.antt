@@ -144,7 +144,7 @@ rows_next s c h ns fs j = rw (add-one j)
 
 pub ruleset turns = (rows_none, rows_next)
 
--- ---- the same by their flags alone
+-- ---- no error, and one more of them, added by the rows' flags alone
 pub errors_none : (s : ErrorSum) (fs : List ℕ) (es : List Float) → add_errors s fs es 0 ≡ s
 unfolding add_errors
 errors_none s fs es = refl
@@ -235,10 +235,10 @@ pub front_next : (fs : List ℕ) (j : ℕ) → in_front fs (j + 1) ≡ in_front 
 unfolding in_front
 front_next fs j = rw (add-one j)
 
--- of a list's part, whose flags they are
+-- what the loop over the flags of a block rests on
 pub ruleset front_turns = (front_none, front_next, one_at_most, front_at_most, get_or-take, get_or-drop)
 
--- all of them: so does each
+-- where all of them lie in front, each does
 all_step : (v : Bool) (m j : ℕ) → m ≤ j → m + cond v 1 0 ≡ suc j → (v ≡ true) × (m ≡ j)
 all_step true m j l e = (refl, omega (arith, e))
 all_step false m j l e = absurd (omega (arith, e))
@@ -250,7 +250,7 @@ front_each fs (suc m) j all h =
     let step = all_step (slice_index fs m == 1) (in_front fs m) m (front_at_most fs m) all in
     ⊎_elim (λ e. rw e step.0) (λ l. front_each fs m j step.1 l) (eq-or-lt_of_le {n = j} {m = m} (omega arith))
 
--- none of them: nothing is added
+-- where none of them does, nothing is added
 none_step : (v : Bool) (m : ℕ) → m + cond v 1 0 ≡ 0 → (v ≡ false) × (m ≡ 0)
 none_step true m e = absurd (omega (arith, e))
 none_step false m e = (refl, omega (arith, e))
@@ -312,7 +312,7 @@ pub all_rows : (c : PinholeCamera) (h : Matrix) (ns : List Float) (fs : List ℕ
 unfolding counted_errors summed
 all_rows c h ns fs n e small = rw e (rw drop-length at (passed c h ns fs (length (rows_of ns fs)) (omega arith) (rw e at small)).rest)
 
--- of lists that are cut to their rows, from a sum of nothing
+-- the same for lists of equally many rows, from a sum and count of 0
 pub cut_rows : (s : ErrorSum) (c : PinholeCamera) (h : Matrix) (ns : List Float) (fs : List ℕ) (n : ℕ) → s.sum ≡ plus_zero → s.count ≡ 0 → length ns ≡ 4 * length fs → n ≡ length fs → n < 2 ^ 64
     → add_rows s c h ns fs n ≡ error_sum c h (rows_of ns fs)
 cut_rows s c h ns fs n p q four e small =

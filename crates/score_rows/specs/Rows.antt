@@ -16,7 +16,7 @@ use Rattle.camera_tilt.specs.declared.sensor.TiltTrig.{TiltTrig}
 use Rattle.score_rows.specs.declared.Row.{Row}
 use Rattle.score_rows.specs.declared.ErrorSum.{ErrorSum}
 
--- 01, 'The run': a row is x, y (the ideal point), u, v (the seen pixel) and a flag. The rows end where one of the lists does.
+-- A row is x, y (the ideal point), u, v (the seen pixel) and a flag. The rows end where one of the lists does.
 unfoldable pub rows_of : List Float → List ℕ → List Row
 rows_of [] flags = []
 rows_of (x ∷ []) flags = []
@@ -34,11 +34,11 @@ tilt_matrix t = tilt_projection_matrix t
 unfoldable pub projected : PinholeCamera → Matrix → Pt2 → Pt2
 projected c h p = sensor_to_pixel c.k (apply_homography h (distorted c.dist p))
 
--- 01, 'The run': a row's error lies between its projected and its seen pixel.
+-- A row's error is the distance between its projected and its seen pixel.
 unfoldable pub row_error : PinholeCamera → Matrix → Row → Float
 row_error c h r = distance_of (projected c h r.ideal) r.seen
 
--- 01, 'The run': flag 0 and non-finite errors aren't counted.
+-- A row counts if its flag is 1 and its error is finite.
 unfoldable pub is_counted : PinholeCamera → Matrix → Row → Bool
 is_counted c h r = r.flag == 1 && is_finite (row_error c h r)
 
@@ -58,6 +58,6 @@ summed s (e ∷ es) = summed (record { sum = s.sum +₆₄ e; count = s.count + 
 unfoldable pub error_sum : PinholeCamera → Matrix → List Row → ErrorSum
 error_sum c h rows = summed no_errors (counted_errors c h rows)
 
--- 01, 'The run': the mean divides by the counted; none counted is infinity.
+-- The mean is the sum divided by how many errors count, and infinity where none does.
 unfoldable pub mean_of : ErrorSum → Float
 mean_of s = cond (s.count == 0) infinity (s.sum /₆₄ of_int binary64 (pos s.count))

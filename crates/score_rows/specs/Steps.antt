@@ -1,4 +1,4 @@
--- How the code goes through the rows, and that it reaches the rules' sum and count. Assumes nothing.
+-- How the code goes through the rows: the steps that its loops are proved equal to. Definitions only.
 use Rattle.std.specs.Prelude.{◌≡◌, ℕ, zero, suc, ◌+◌, ◌*◌, ◌%◌, ◌^◌, ◌<◌, Bool, cond, List, length, ◌==◌, slice_index, slice_index_or, Float}
 use Rattle.std.specs.Float.{nan}
 use Rattle.float.specs.Binary64.{◌+₆₄◌, ◌/₆₄◌}
@@ -36,7 +36,7 @@ add_rows s c h numbers flags (suc j) = with_row c h (add_rows s c h numbers flag
 abbrev pub add_all_rows : ErrorSum → Projection → Rows → ErrorSum
 add_all_rows s by rows = add_rows s by.camera by.h rows.numbers.now rows.flags.now (length rows.flags.now)
 
--- the same by their flags alone, where their errors are known
+-- the first n errors added by the rows' flags alone
 unfoldable pub add_errors : ErrorSum → List ℕ → List Float → ℕ → ErrorSum
 add_errors s flags errors zero = s
 add_errors s flags errors (suc j) = add_error (add_errors s flags errors j) (slice_index flags j == 1) (slice_index_or errors j nan)
@@ -56,7 +56,7 @@ Tilted c h numbers n xs ys zs =
     let p = distorted c.dist (point_at numbers (4 * j)) in
     (slice_index_or xs j nan ≡ homogeneous h p 0) × (slice_index_or ys j nan ≡ homogeneous h p 1) × (slice_index_or zs j nan ≡ homogeneous h p 2)
 
--- and their depths
+-- depths starts with those of the first n points
 abbrev pub Depths : ℕ → List Float → List Float → Type 0
 Depths n zs depths = (j : ℕ) → j < n → slice_index_or depths j nan ≡ forward_depth (slice_index_or zs j nan)
 

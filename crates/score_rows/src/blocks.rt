@@ -12,13 +12,12 @@ use camera_models::math::Pt2;
 use camera_tilt::sensor::{forward_depth, row_at};
 use point_normalise::linalg;
 
-// The rows' points on the tilted sensor, each coordinate in a list of its own: the first two not yet divided, the third not yet a depth.
-// Here and below no row waits for another, and what compares floats has a loop of its own: the compiler sets a fence
-// (llvm.arithmetic.fence) before each comparison of floats, and LLVM vectorises no loop that has one, and the others for two rows a turn.
-// Kept: numbers by their places, here and in the loops below that fill a list for a proof: after a loop over `iter_mut().zip(..)`
-// nothing is known of what the list holds.
-// Kept: a list for each coordinate, here and below, and no list of points: in a model of these loops in C the three numbers side by side
-// took 137 ns a block, and three lists 126.
+// Writes the rows' points on the tilted sensor, each coordinate to a list of its own: the first two not yet divided,
+// the third not yet a depth. Here and below no row waits for another, and comparisons of floats have loops of their
+// own: the compiler sets a fence (llvm.arithmetic.fence) before each comparison, LLVM doesn't vectorise a loop that has
+// one, and it vectorises the others for two rows a turn. The loops index the lists that they fill, since after a loop
+// over `iter_mut().zip(..)` a proof knows nothing of what a list holds. Each coordinate has a list of its own because
+// in a model of these loops in C a block took 126 ns so, and 137 ns with a list of points.
 fn tilt_points(
     xs: &mut [f64; 16],
     ys: &mut [f64; 16],
@@ -37,7 +36,7 @@ fn tilt_points(
     }
 }
 
-// Their depths.
+// Writes the depths of these points.
 fn forward_depths(depths: &mut [f64; 16], zs: &[f64; 16])
     ensures { Depths 16 zs.now depths.new }
 {
@@ -46,7 +45,7 @@ fn forward_depths(depths: &mut [f64; 16], zs: &[f64; 16])
     }
 }
 
-// The errors, from the points and their depths.
+// Writes the errors of a block's rows, from the points and their depths.
 fn point_errors(
     errors: &mut [f64],
     xs: &[f64; 16],
@@ -68,7 +67,7 @@ fn point_errors(
     }
 }
 
-// The errors of a block's rows.
+// Writes the errors of a block's rows.
 fn block_errors(errors: &mut [f64], by: Projection, block: Block)
     requires { length errors.old ≡ length block.rows.flags.now }
     ensures { Errors by.camera by.h block.entry.rows.numbers.now (length block.entry.rows.flags.now) errors.new }
@@ -90,9 +89,8 @@ fn one_in_front(flag: u8) -> u8
     (flag == 1).into()
 }
 
-// How many of a block's rows lie in front of the camera.
-// Kept: a loop over the flags: with `filter` and `count`, which was proved too, 900 rows take 18,246 instructions more, and 12,344 more
-// where none lies in front.
+// How many of a block's rows lie in front of the camera. With `filter` and `count` instead of the loop 900 rows take
+// 18,246 instructions more, and 12,344 more where none lies in front.
 #[tactic(auto, using(crate::proofs::Steps::front_turns))]
 fn in_front(block: Block) -> u8
     ensures { result ≡ in_front block.entry.rows.flags.now (length block.entry.rows.flags.now) }
@@ -104,8 +102,8 @@ fn in_front(block: Block) -> u8
     count
 }
 
-// A block's rows, from their errors, in their order, by their flags alone. No flag is looked at where ALL of them are known to lie in
-// front.
+// Adds the errors of a block's rows, in their order, by the flags alone. No flag is looked at where ALL rows are known
+// to lie in front of the camera.
 #[tactic(auto, using(crate::proofs::Steps::errors_turns))]
 fn add_flagged<const ALL: bool>(total: ErrorSum, flags: &[u8], errors: &[f64]) -> ErrorSum
     requires length { length errors.now ≡ length flags.now }
@@ -120,7 +118,7 @@ fn add_flagged<const ALL: bool>(total: ErrorSum, flags: &[u8], errors: &[f64]) -
     sum
 }
 
-// The same, for rows in front of the camera or not.
+// Adds the errors of a block's rows, whichever of them lie in front of the camera.
 fn add_errors(total: ErrorSum, block: Block, errors: &[f64]) -> ErrorSum
     requires { length errors.now ≡ length block.rows.flags.now }
     ensures { result ≡ add_errors total block.entry.rows.flags.now errors.now (length block.entry.rows.flags.now) }
@@ -132,7 +130,8 @@ fn add_errors(total: ErrorSum, block: Block, errors: &[f64]) -> ErrorSum
     add_flagged::<false>(total, flags, errors)
 }
 
-// A block's rows, their errors all at once. Where the sum is finite, each error that was added is, and counts. Else there is none.
+// Adds a block's rows, with all their errors worked out first. Where the sum is finite, each error that was added is,
+// and so it counts. Otherwise there is no sum.
 fn add_dense(total: ErrorSum, by: Projection, block: Block, errors: &mut [f64]) -> Option<ErrorSum>
     requires { length errors.old ≡ length block.rows.flags.now }
     ensures { IfSome result (λ s. s ≡ add_all_rows total by block.entry.rows) }
@@ -145,7 +144,7 @@ fn add_dense(total: ErrorSum, by: Projection, block: Block, errors: &mut [f64]) 
     Some(sum)
 }
 
-// A block's rows, one by one. Where none lies in front of the camera, they are passed over.
+// Adds a block's rows one by one, and leaves the block out where none of them lies in front of the camera.
 #[tactic(auto, using(crate::proofs::Steps::none_counted))]
 fn add_sparse(total: ErrorSum, by: Projection, block: Block) -> ErrorSum
     ensures { result ≡ add_all_rows total by block.entry.rows }
@@ -156,7 +155,7 @@ fn add_sparse(total: ErrorSum, by: Projection, block: Block) -> ErrorSum
     add_rows(total, by, block.rows)
 }
 
-// A block's rows, whichever way is faster: the list has a place for each.
+// Adds a block's rows, whichever way is faster. `errors` has a place for each row.
 fn add_block(total: ErrorSum, by: Projection, block: Block, errors: &mut [f64]) -> ErrorSum
     requires { length errors.old ≡ length block.rows.flags.now }
     ensures { result ≡ add_all_rows total by block.entry.rows }
@@ -169,7 +168,7 @@ fn add_block(total: ErrorSum, by: Projection, block: Block, errors: &mut [f64]) 
     add_sparse(total, by, block)
 }
 
-// All rows, 16 at a time.
+// Adds all rows, 16 at a time.
 pub fn add_blocks(total: ErrorSum, by: Projection, rows: Rows) -> ErrorSum
     ensures { result ≡ add_all_rows total by rows.entry }
 {

@@ -20,8 +20,8 @@ use camera_tilt::sensor::{TiltTrig, apply_homography, tilt_projection_matrix};
 use point_normalise::linalg;
 use score_camera::pinhole::PinholeCamera;
 
-// An ideal point, the pixel where it was seen, and 1 if it lies in front of the camera, 0 if not. The rules are said of lists of such
-// rows; the host sends their numbers and their flags as two lists.
+// An ideal point, the pixel where it was seen, and 1 if it lies in front of the camera, 0 if not. The rules are about
+// lists of such rows; the host sends their numbers and their flags as two lists.
 #[derive(Clone, Copy)]
 pub struct Row {
     pub ideal: Pt2,
@@ -54,7 +54,8 @@ pub fn mean_reproj_error(total: ErrorSum) -> f64
     total.sum / std::num::nearest_u64_to_f64(total.count)
 }
 
-// The pixel of an ideal point. No short cut for radial coefficients of 0: their factor is NaN where a power of the radius overflows.
+// The pixel of an ideal point. There is no short cut for radial coefficients of 0, since their factor is NaN where a
+// power of the radius overflows.
 #[tactic(auto, unfolding(crate::specs::Rows::projected))]
 fn project_point(by: Projection, ideal: Pt2) -> Pt2
     ensures { result ≡ projected by.camera by.h ideal }
@@ -65,7 +66,7 @@ fn project_point(by: Projection, ideal: Pt2) -> Pt2
     )
 }
 
-// One more error, counted or not.
+// Adds one more error, if it counts.
 #[tactic(auto, unfolding(crate::specs::Steps::add_error))]
 fn add_error(total: ErrorSum, counted: bool, err: f64) -> ErrorSum
     ensures { result ≡ add_error total counted err }
@@ -102,7 +103,8 @@ fn add_row(total: &mut ErrorSum, by: Projection, row: Row)
     *total = with_row(*total, by, row);
 }
 
-// Some rows, one by one. There are as many flags as fours: they are cut to that, so that one test a row ends the compiled loop.
+// Adds some rows one by one. There are as many flags as fours; the flags are cut to that length all the same, so that
+// one test a row ends the compiled loop.
 #[tactic(auto, using(crate::proofs::Steps::turns))]
 fn add_rows(total: ErrorSum, by: Projection, rows: Rows) -> ErrorSum
     ensures { result ≡ add_all_rows total by rows.entry }
@@ -120,7 +122,7 @@ fn add_rows(total: ErrorSum, by: Projection, rows: Rows) -> ErrorSum
     sum
 }
 
-// Sum and count of the errors of all rows. Few rows are added one by one: for them it isn't worth while to make a block ready.
+// Sum and count of the errors of all rows. Fewer than 8 rows are added one by one: a block isn't worth while for them.
 // Inlined, so that camera and matrix aren't copied for a call.
 #[tactic(auto, using(crate::proofs::Steps::cut_rows))]
 #[inline(always)]

@@ -11,7 +11,7 @@ pub struct Rows<'a> {
     ghost fours: { length numbers.now ≡ 4 * length flags.now },
 }
 
-// At most 16 of them, side by side.
+// At most 16 rows, side by side.
 #[derive(Clone, Copy)]
 pub struct Block<'a> {
     pub rows: Rows<'a>,

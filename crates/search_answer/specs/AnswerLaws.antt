@@ -97,7 +97,7 @@ pub record Answerable (r : Run) (n : ℕ) : Type 0 where
   pub waits : r.waiting.is_waiting ≡ true
   pub demand_fits : r.place.demand ≤ n
 
--- (what is refused of the run alone comes before the finding's refusals)
+-- what is refused of the run alone comes before the finding's refusals
 none_of_run : (x y : Result ⊤ Refusal) → ◌≡◌ {A = Result ⊤ Refusal} (elim x [ Ok _ ↦ y | Err refusal ↦ Err refusal ]) (Ok tt) → x ≡ Ok tt
 none_of_run (Ok _) y h = refl
 none_of_run (Err e) y h = cc
@@ -140,7 +140,7 @@ module _ (r : Run) (f : Finding) (rows : List Float) (flags : List ℕ) (l : Lis
   pub answer_refused : (e : Refusal) → answer_refusal r (length l) f rows flags ≡ Err e → answer_def r f rows flags l ≡ record { reply = record { reply = Err e; run = r }; list = l }
   answer_refused e h = by (Err e) h
 
-  -- (o is the outcome)
+  -- where o is the outcome
   pub answer_enters : (o : Outcome) → o ≡ outcome_for r f rows flags → answer_refusal r (length l) f rows flags ≡ Ok tt
       → answer_def r f rows flags l ≡ record { reply = record { reply = Ok (reply_of o); run = (enter_def r l o).run }; list = (enter_def r l o).list }
   answer_enters o is h = by (Ok tt) h ∙ rw (← is)

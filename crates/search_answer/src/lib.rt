@@ -15,7 +15,7 @@ use score_outcome::{Finding, Outcome, SkipReason};
 use search_record::run::{Options, Reply, Run, ended, entered, is_sound, next_step, opened};
 use seed_grids::local_seed_grid;
 
-// Kept: an outcome's two answers, Scored and Skipped, have these names in the papers.
+// What Answer replies to a finding that it takes: Scored with the score, or Skipped with the reason.
 #[derive(Clone, Copy)]
 pub enum Answered {
     Scored(f64),
@@ -35,8 +35,8 @@ impl From<Outcome> for Answered {
 
 pub type AnswerReply = Reply<Answered>;
 
-// Answer's refusals, of which the first that holds is returned.
-// Kept: the record and its list are two values, here and below: C keeps them apart. A check reads no more of the list than its length.
+// Answer's refusals, of which the first that holds is returned. The record and its list are two parameters, here and
+// below, since C keeps them apart; the refusals read no more of the list than its length.
 fn answer_refusal(
     run: Run,
     list_len: usize,
@@ -53,7 +53,8 @@ fn answer_refusal(
     score_outcome::finding_refusal(finding, run.waiting.seed.sensor, rows, flags)
 }
 
-// Writes the seeds at this step around the tilts, with the camera, and says how many there are. About one axis the y offset is 0 alone.
+// Writes the seeds at this step around the tilts, with the camera, and returns how many they are. A one-axis run has 0
+// alone for the y offset.
 #[tactic(auto, unfolding(seed_rules::specs::Rules::offsets, seed_rules::specs::Rules::y_offsets))]
 fn next_seeds(
     options: Options,
@@ -81,14 +82,14 @@ fn next_seeds(
     )
 }
 
-// The end of a round: the next list that has a seed, or the end of the run. An empty list ends its round at once.
+// Closes a round: the next list that has a seed opens its round, or the run ends. An empty list ends its round at once.
 fn close_round(mut run: Run, list: &mut [f64]) -> Run
     requires round_bound { (run.place.round ≤ run.options.refine_rounds) × (run.options.refine_rounds ≤ 16) }
     requires in_bounds { 54 ≤ length list.old }
     ensures value { result ≡ (close_round (run.options.refine_rounds - run.place.round) run list.old).run }
     ensures list_after { list.new ≡ (close_round (run.options.refine_rounds - run.place.round) run list.old).list }
 {
-    // Kept: `opened` counts the round in the record, by which the next step is chosen; a `for` would count it a second time.
+    // `opened` counts the round in the record, by which the next step is chosen; a `for` would count it a second time.
     while run.place.round < run.options.refine_rounds {
         let Some(best) = run.round_best.or(run.run_best).candidate() else {
             break;

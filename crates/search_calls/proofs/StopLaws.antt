@@ -90,7 +90,7 @@ stop_floor r l o e x h =
     let z : ◌≡◌ {A = Option Float} None (Some x) = ap (λ (p : Outlook). p.floor) q ∙ h in
     cc)
 
--- 02, E9: no candidate from the seeds left can score below the floor, whichever camera the host finds
+-- no candidate from the seeds left can score below the floor, whichever camera the host finds
 pub none_below : (r : Run) (l : List Float) (o : Outlook) → stop_def r l ≡ Ok o → (x : Float) → o.floor ≡ Some x → {s : CandidateSeed} → Memᴰ s (left_seeds r l)
     → (share : ℕ) (f : Finding) (center : Pt2) (rows : List Float) (flags : List ℕ) (g : Scoring) → outcome_of share f s.sensor center rows flags ≡ Ok g → lt g.score x ≡ false
 none_below r l o e x h {s} m share f center rows flags g k =

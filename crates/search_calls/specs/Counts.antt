@@ -5,6 +5,6 @@ use Rattle.journal_line.specs.Counts.{no_counts}
 use Rattle.search_record.specs.Record.{sound}
 use Rattle.search_record.specs.declared.run.Run.{Run}
 
--- 02, E6: how many candidates were scored, and how many skipped for each reason; none in a record that no call made
+-- how many candidates were scored, and how many skipped for each reason; zeros for a record that isn't sound
 unfoldable pub counts_def : Run → Counts
 counts_def r = cond (sound r) r.counts no_counts

@@ -15,7 +15,7 @@ has_line r = sound r && r.last.found && leb r.last.skipped 4
 unfoldable pub recorded_in : LastAnswer → Option Recorded
 recorded_in a = result_ok (recorded_with a.skipped a.scored)
 
--- 02, E2: the last answered line's fields, or nothing before the first answer
+-- the fields of the last answered candidate's line, or nothing before the first answer
 unfoldable pub last_def : Run → Option Line
 last_def r =
     let a = r.last in

@@ -10,8 +10,8 @@ use Rattle.search_record.specs.declared.run.Run.{Run}
 use Rattle.search_calls.specs.declared.next.Handed.{Handed}
 use Rattle.search_calls.specs.declared.next.Handed.TheVariants.{Candidate, Over}
 
--- 01, 'Next': 9 a seed is waiting, 10 the list is shorter than Start's 8 demands, 11 the run ended with no candidate scored. Before them
--- 11 for a record that isn't sound.
+-- 9 where a seed is waiting, 10 where the list is shorter than the run demands, 11 where the run ended with no
+-- candidate scored. Before them, 11 for a record that isn't sound.
 abbrev pub next_checks : Run → ℕ → List Check
 next_checks r n =
     (NothingScored when not (sound r))
@@ -28,7 +28,8 @@ abbrev pub reply_by : Result ⊤ Refusal → Bool → ℕ → Result Handed Refu
 reply_by (Ok _) over number = Ok (cond over Over (Candidate number))
 reply_by (Err refusal) over number = Err refusal
 
--- The list's next seed is handed out under the next number, and the run keeps its six numbers. Once the run has a result: Over. A refused Next leaves the run.
+-- The list's next seed is handed out under the next number, and the run keeps its six numbers. Once the run is over
+-- with a winner, the reply is Over. A refused Next leaves the run.
 unfoldable pub next_def : Run → List Float → Reply Handed
 next_def r l = elim (next_refusal r (length l)) [
   | Ok _ ↦ cond r.place.over

@@ -4,7 +4,8 @@ use Rattle.search_record.specs.Record.{sound}
 use Rattle.search_record.specs.declared.run.Run.{Run}
 use Rattle.search_calls.specs.declared.progress.ProgressReply.{ProgressReply}
 
--- 02, E10: the bar's total for the current round is the length of its list. Once the run is over these are the last round's numbers.
+-- The total for a round is the length of its list. Once the run is over these are the last round's numbers. All are 0
+-- for a record that isn't sound.
 unfoldable pub progress_def : Run → ProgressReply
 progress_def r =
     let p = r.place in

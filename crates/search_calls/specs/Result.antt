@@ -7,7 +7,7 @@ use Rattle.score_best.specs.declared.Candidate.{Candidate}
 use Rattle.search_record.specs.Record.{sound}
 use Rattle.search_record.specs.declared.run.Run.{Run}
 
--- 01, 'Result': 14 the run isn't over, 11 it ended with no candidate scored. Before them 11 for a record that isn't sound.
+-- 14 where the run isn't over, 11 where no candidate was scored. Before them, 11 for a record that isn't sound.
 abbrev pub result_refusal : Run → Result ⊤ Refusal
 result_refusal r =
     first_refusal

@@ -1,4 +1,4 @@
--- 02, E9: the stop call, as a function of the run's record and the lent list, for every record and list. Definitions only.
+-- The stop call, as a function of the run's record and the lent list, for every record and list. Definitions only.
 use Rattle.std.specs.Prelude.{◌+◌, false, not, cond, List, [], ◌∷◌, ltb, length, Float, Option, Some, None, Result, Ok, Err}
 use Rattle.std.specs.Float.Ieee.{lt}
 use Rattle.common.specs.declared.Refusal.{Refusal}
@@ -32,7 +32,8 @@ unfoldable pub outlook_of : Option Candidate → List CandidateSeed → Outlook
 outlook_of b [] = nothing_left b
 outlook_of b (s ∷ ss) = with_floor b (floor_of (s ∷ ss))
 
--- 10 the list is shorter than Start's 8 demands. A record that no call returned is answered as a run that ended with nothing scored.
+-- 10 where the list is shorter than the run demands. A record that isn't sound is answered as a run that ended with
+-- nothing scored.
 unfoldable pub stop_def : Run → List Float → Result Outlook Refusal
 stop_def r l =
     cond (sound r)

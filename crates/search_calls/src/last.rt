@@ -1,4 +1,4 @@
-// The last answered candidate as a line of the journal. The host writes it before its next answer, since the run keeps one only.
+// The last answered candidate as a line of the journal. The host writes it before its next answer: the run keeps one.
 
 ghost use Rattle.std.specs.Prelude.{◌≡◌};
 ghost use Rattle.search_calls.specs.Last.{recorded_in, last_def};
@@ -15,8 +15,8 @@ fn recorded_in(last: LastAnswer) -> Option<Recorded>
     recorded_with(last.skipped, last.scored).ok()
 }
 
-// The run keeps a line where a candidate was answered, and scored or skipped for reason 1 to 4.
-// Kept: the line is made field by field: a TryFrom of the answer would name a refusal that None drops, and only this call makes one of it.
+// The run keeps a line where a candidate was answered, and scored or skipped for reason 1 to 4. The line is made field
+// by field, since a TryFrom of the answer would name a refusal that None drops.
 #[tactic(auto, using(crate::proofs::LastLaws::line_by_record))]
 pub fn last_line(run: Run) -> Option<Line>
     ensures { result ≡ last_def run }

@@ -2,7 +2,7 @@
 
 ghost use Rattle.search_calls.specs.Theorem.{StopFloorHolds};
 
-/// No seed that is left can score below the floor of the stop call's reply.
+/// Whichever camera the host finds, no candidate from the seeds left scores below the floor that the stop call replies.
 #[tactic(auto, using(crate::proofs::StopLaws::stop_floor_holds))]
 pub fn stop_floor_law()
     ensures { StopFloorHolds }

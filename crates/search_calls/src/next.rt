@@ -6,8 +6,8 @@ ghost use Rattle.search_calls.specs.Next.{next_refusal, next_def, seed_lent, see
 use common::Refusal;
 use search_record::run::{Reply, Run, awaiting, is_sound};
 
-// What Next hands out: the candidate's number, or Over (01's term: the run is over and has a result).
-// Kept: the papers name Over, which is a reply and no absence.
+// What Next hands out: the candidate's number, or Over, where the run is over and has a winner. It is no Option, since
+// Over is a reply.
 #[derive(Clone, Copy)]
 pub enum Handed {
     Candidate(usize),
@@ -16,8 +16,8 @@ pub enum Handed {
 
 pub type NextReply = Reply<Handed>;
 
-// Next's refusals, of which the first that holds is returned.
-// Kept: the record and its list are two values, here and below: C keeps them apart. A check reads no more of the list than its length.
+// Next's refusals, of which the first that holds is returned. The record and its list are two parameters, here and
+// below, since C keeps them apart; the refusals read no more of the list than its length.
 fn next_refusal(run: Run, list_len: usize) -> Result<(), Refusal>
     ensures { result ≡ next_refusal run list_len }
 {
@@ -63,8 +63,7 @@ fn is_seed_lent(run: Run, list_len: usize) -> bool
     is_sound(run) & run.waiting.is_waiting & run.list_refusal(list_len).is_ok()
 }
 
-// The waiting seed's six numbers as they stand in the caller's list, or an empty part.
-// Kept: 01 names the empty part, which C gets as 0 numbers: with an Option the C call would make that part of None again.
+// The waiting seed's six numbers as they stand in the caller's list, or an empty part, which C gets as 0 numbers.
 pub fn seed(run: Run, list: &[f64]) -> &[f64]
     ensures { result.now ≡ seed_part run list.now }
 {

@@ -5,7 +5,8 @@ ghost use Rattle.search_calls.specs.Progress.{progress_def};
 
 use search_record::run::{Run, is_sound};
 
-// The round and the rounds that are asked for after round 0; of this round's list the answered seeds and all of them; and the answered ones over the run.
+// The round, and how many later rounds are asked for; how many seeds of this round's list are answered, and how many it
+// has; and how many are answered over the run.
 #[repr(C)]
 #[derive(Clone, Copy, Default)]
 pub struct ProgressReply {

@@ -48,8 +48,8 @@ fn with_floor(best: Option<Candidate>, floor: f64) -> Outlook
     }
 }
 
-// The floor of the seeds left: the waiting one as the run keeps it, the others as they stand in the list.
-// Kept: the record and its list are two values, here and below: C keeps them apart.
+// The floor of the seeds left: the waiting one as the run keeps it, the others as they stand in the list. The record
+// and its list are two parameters, here and below, since C keeps them apart.
 fn floor_left(run: Run, list: &[f64]) -> f64
     requires { (run.place.at < run.place.len) × (6 * run.place.len ≤ length list.now) }
     ensures { result ≡ floor_of (left_seeds run list.now) }

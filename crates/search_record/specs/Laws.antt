@@ -21,7 +21,7 @@ pub add_up_true : (c : Counts) (n : ℕ) → n ≤ 656 → total c ≡ n → add
 unfolding add_up
 add_up_true c n h e = simp (le-leb n 656 h, eq-eqb (total c) n e)
 
--- a sum that is theirs where either is at most 656
+-- a sum that is the total where one of the two is at most 656 can stand for it
 pub add_up_by : (c : Counts) (n sum : ℕ) → ltb 656 sum ≡ ltb 656 (total c) → (sum ≤ 656 → sum ≡ total c) → (leb n 656 && eqb sum n) ≡ add_up c n
 unfolding add_up
 add_up_by c n sum e f =

@@ -25,7 +25,7 @@ use Rattle.search_record.specs.declared.run.Run.{Run}
 unfoldable pub has_place : Place → Waiting → Bool
 has_place p w = cond p.over (not w.is_waiting) (ltb p.at p.len)
 
--- 02, E6: the five counts add up to the number of answers
+-- the five counts add up to the number of answers, of which a run has at most 656
 unfoldable pub add_up : Counts → ℕ → Bool
 add_up c n = leb n 656 && eqb (total c) n
 
@@ -43,7 +43,7 @@ sound r =
     && leb p.demand 3072
     && has_place p r.waiting)
 
--- ---- 10: a list of n numbers is shorter than Start's 8 demands
+-- ---- 10 where a list of n numbers is shorter than the run demands
 abbrev pub list_refusal : Run → ℕ → Result ⊤ Refusal
 list_refusal r n = first_refusal ((ShortList when ltb n r.place.demand) ∷ [])
 

@@ -9,8 +9,8 @@ use journal_line::total::total_if_small;
 use journal_line::{Counts, Recorded};
 use score_outcome::SkipReason;
 
-// One more skip for this reason.
-// Kept: the bound on the counts is asked for, here and below, and is no ghost field of theirs: C hands in counts of any size.
+// One more skip for this reason. The bound on the counts is asked for, here and below, and is no ghost field of theirs,
+// since C hands in counts of any size.
 #[tactic(auto, unfolding(journal_line::specs::Report::total))]
 fn with_skip(counts: Counts, reason: SkipReason) -> Counts
     requires { total counts ≤ 656 }

@@ -14,8 +14,8 @@ use score_best::{Best, Candidate};
 use score_outcome::Outcome;
 use seed_rules::CandidateSeed;
 
-// What the search was asked for. The first three are the Rust's options, by their names. A run about one axis has no tilt about y. `min_counted` is the
-// share of an answer's rows, in per cent, that a mean has to rest on.
+// What the search was asked for. The first three are the published Rust's options, by their names. A one-axis run has
+// no tilt about y. `min_counted` is the share of an answer's rows, in per cent, that a mean has to rest on.
 #[derive(Clone, Copy, Default)]
 pub struct Options {
     pub refine_rounds: usize,
@@ -25,10 +25,10 @@ pub struct Options {
     pub min_counted: usize,
 }
 
-// How far the run has come. `demand` is how many numbers the lent list must have. `step` is the one that the current list was made with,
-// 0 in round 0. Of the list's `len` seeds the first `at` are answered. `number` is the next candidate's, counted over the run.
-// `round` is 01's, from 0; `over` says that the run is over, with a result or with 11.
-// Kept: lengths and places in a list that isn't here, here and below, since the record holds numbers alone and the list is lent (no heap).
+// How far the run has come. `demand` is how many numbers the lent list must have. `round` counts from 0. `step` is the
+// one that the current list was made with, 0 in round 0. Of the list's `len` seeds the first `at` are answered.
+// `number` is the next candidate's, counted over the run. `over` says that the run is over, with a winner or without.
+// The list itself is lent for each call, so the record has its lengths and places alone.
 #[derive(Clone, Copy, Default)]
 pub struct Place {
     pub demand: usize,
@@ -40,17 +40,17 @@ pub struct Place {
     pub over: bool,
 }
 
-// The seed that waits (01's term): handed out and not answered yet. Its numbers are 0 where there is none.
-// Kept: a flag beside the seed, and no Option, since C hands the record in and gets every number of it back, also where the flag is 0.
+// The waiting seed: handed out and not answered yet. Its numbers are 0 where there is none. It is no Option, since the
+// C interface hands the record in and out, and its numbers have to stay as they are also where the flag is 0.
 #[derive(Clone, Copy, Default)]
 pub struct Waiting {
     pub is_waiting: bool,
     pub seed: CandidateSeed,
 }
 
-// The last answered candidate, as a journal's line records it: `skipped` is 0 where it was scored, else the reason, and then `scored` is 0.
-// Nothing is found before the first answer.
-// Kept: flags and numbers beside their values, and no Option or Result, since C hands the record in and gets every number of it back.
+// The last answered candidate, as a journal's line records it: `skipped` is 0 where it was scored, else the reason, and
+// then `scored` is 0. Nothing is found before the first answer. It has flags and numbers, and no Option or Result, for
+// the reason that `Waiting` has.
 #[derive(Clone, Copy, Default)]
 pub struct LastAnswer {
     pub found: bool,
@@ -61,7 +61,7 @@ pub struct LastAnswer {
     pub scored: ScoredFields,
 }
 
-// The run's record (01's term), which each call takes, and which Start, Next and Answer return.
+// The run's record, which each call takes, and which Start, Next and Answer return.
 #[derive(Clone, Copy, Default)]
 pub struct Run {
     pub options: Options,

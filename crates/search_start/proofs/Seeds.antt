@@ -3,7 +3,7 @@ use Rattle.std.proofs.Common.{◌≡◌, refl, ap, Bool, ◌&&◌, List, [], ◌
 use Rattle.std.specs.List.{list_all}
 use Rattle.common.specs.Each.{every}
 
--- a test of each element, in this project's word
+-- std's test of each element is `every`
 pub list_all_every : {A : Type 0} (p : A → Bool) (xs : List A) → list_all p xs ≡ every p xs
 unfolding every
 list_all_every p [] = refl

@@ -35,7 +35,7 @@ good_seed max s =
     && is_finite s.sensor.tilt_y
     && in_bound max s.sensor
 
--- 02, E8: the typed y tilts of a one-axis run are a single value, a zero of either sign
+-- the typed y tilts of a one-axis run are a single value, a zero of either sign
 unfoldable pub only_zero : List Float → Bool
 only_zero ys = eqb (length ys) 1 && eq (get_or ys 0 nan) plus_zero
 
@@ -63,9 +63,9 @@ opening_of options center demand n = record {
   counts = no_counts;
 }
 
--- 01, 'Start', and then 02, in their order: the refusals that need only the options and the lengths of the lists, those of 01 that need more, and 02's:
--- a bound above 0.5 (E1), and typed y tilts or a decomposition seed that a one-axis run can't have (E8);
--- a share of counted rows above 100 per cent (E11)
+-- The refusals in their order: those that need only the options and the lengths of the lists; those that need the
+-- lists' numbers or the lent list; a bound above 0.5; typed y tilts or a decomposition seed that a one-axis run can't
+-- have; and a share above 100 per cent.
 abbrev pub options_checks : ℕ → Options → ℕ → ℕ → ℕ → List Check
 options_checks views options x y d =
     (TooFewViews when ltb views 3)

@@ -63,7 +63,7 @@ neither : (r l : Result ⊤ Refusal) → ◌≡◌ {A = Result ⊤ Refusal} (eli
 neither (Ok _) l h = (refl, h)
 neither (Err e) l h = cc
 
--- ---- refusals before others: theirs where they refuse, else those of the rest
+-- ---- checks in front of others: their refusal where they refuse, else the others'
 refused_first : (cs ds : List Check) (e : Refusal) → first_refusal cs ≡ Err e → first_refusal (cs ++ ds) ≡ Err e
 refused_first [] ds e h = cc
 refused_first ((r when true) ∷ cs) ds e h = h

@@ -16,10 +16,9 @@ use common::Refusal;
 use search_record::run::{Options, Place, Run};
 use seed_rules::CandidateSeed;
 
-// What Start takes: how many views there are, the options, the typed tilts, the decomposition's seeds in sixes, the camera that typed tilts get, and
-// the centre that scores take.
-// Kept: the definitions take the seven one by one, as 01 names them. They are of lists; this record borrows slices, whose references are no part of
-// what Start gives, and a third record, of lists, would have to be made of this one in each clause.
+// What Start takes: how many views there are, the options, the typed tilts, the decomposition seeds in sixes, the base
+// camera, and the observed centre. The definitions take these seven one by one, since they are of lists: this record
+// borrows slices, and a record of lists would have to be made of it in each clause.
 #[derive(Clone, Copy)]
 pub struct Inputs<'a> {
     pub views: usize,
@@ -145,7 +144,7 @@ fn last_refusal(inputs: Inputs) -> Result<(), Refusal>
     Ok(())
 }
 
-// Start's refusals of 02: a bound above 0.5, and then the last ones.
+// Start's refusals after those of the lent list: a bound above 0.5, and then the last ones.
 fn further_refusal(inputs: Inputs) -> Result<(), Refusal>
     ensures { let i = inputs.entry in result ≡ first_refusal (further_checks i.options i.tilt_y_seeds.now i.decomposition.now) }
 {
@@ -156,8 +155,8 @@ fn further_refusal(inputs: Inputs) -> Result<(), Refusal>
     last_refusal(inputs)
 }
 
-// Start's refusals after those of the options, of a lent list with this many numbers, where a run demands this many.
-// Kept: a length and no list, here and below: no more of it is read.
+// Start's refusals after those of the options, for a lent list with this many numbers, where a run demands this many.
+// No more than its length is read of the list.
 fn lists_refusal(inputs: Inputs, demand: usize, list_len: usize) -> Result<(), Refusal>
     requires { demand ≡ start_demand inputs.views inputs.options inputs.tilt_x_seeds.now inputs.tilt_y_seeds.now inputs.decomposition.now }
     ensures { let i = inputs.entry in result ≡ first_refusal (lists_checks i.views i.options i.tilt_x_seeds.now i.tilt_y_seeds.now i.decomposition.now list_len) }

@@ -1,5 +1,6 @@
--- With a bound of at most 0.5 and a step from 1e-11 to 1, the tilts that the bound keeps of -s, 0 and s around any centre are apart. Beyond 0.75 it keeps one at most,
--- since the centre and what lies farther out go. Assumes nothing.
+-- With a bound of at most 0.5 and a step from 1e-11 to 1, the tilts that the bound keeps of -s, 0 and s around any
+-- centre are apart. Around a centre beyond 0.75 it keeps one at most, since the centre itself and the tilt farther out
+-- aren't within the bound. Assumes nothing.
 use Rattle.std.specs.Prelude.{◌≡◌, refl, Bool, true, false, [], ◌∷◌, ℕ, ◌+◌, ◌*◌, ◌≤◌, leb, ℤ, pos, Float}
 use Rattle.std.proofs.Common.{sym, ◌∙◌, true≢false, mul-pos, mul-one, mul_assoc, mul-le-mul_right, arith, leb-true, leb-false}
 use Rattle.std.specs.Float.{nan, inf, fin, binary64}
@@ -20,7 +21,7 @@ use Rattle.seed_counts.specs.Admissible.{admitted}
 use Rattle.seed_counts.specs.Theorem.{TiltsApart}
 use Rattle.seed_counts.proofs.Offsets.{centred, Step, step, offsets_apart}
 
--- ---- what isn't below 0.75 in size goes
+-- ---- what isn't below 0.75 in size isn't within the bound
 three_quarters : lt half₆₄ (round binary64 false 3 4) ≡ true
 unfolding lt of_bits round
 three_quarters = refl

@@ -1,5 +1,5 @@
--- Cases by computing: the bound counts after rounding, both axes count by themselves, far out the product isn't the length, and neither is it for a step below 1e-11.
--- Assumes nothing.
+-- Computed cases: the bound is asked of the rounded sum, and each axis counts by itself. Around a centre far from 0,
+-- and for a step below 1e-11, the product isn't the length. Assumes nothing.
 use Rattle.std.specs.Prelude.{◌≡◌, refl, [], ◌∷◌, length}
 use Rattle.std.specs.Float.{binary64}
 use Rattle.std.specs.Float.Ieee.{of_bits, add, sub, neg, lt, le, eq}
@@ -39,7 +39,7 @@ pub far_merges : length (next_list (offsets least_step) (offsets least_step) (ti
 unfolding next_list offsets neg add sub abs_of le lt eq within in_bound of_bits keep pairs has_near push merged_into near tilt_near camera_near closer
 far_merges = refl
 
--- ---- centre (0.3, 0), step 1e-12, bound 0.5, one axis: a step that small can merge, since the rounding of the sums takes its share
+-- ---- centre (0.3, 0), step 1e-12, bound 0.5, one axis: at so small a step seeds merge, since the sums are rounded
 pub small_admissible : seed_count (offsets tilt_limit) (plus_zero ∷ []) (tilts to30 plus_zero) half₆₄ ≡ 3
 unfolding seed_count admitted keep offsets neg add abs_of le lt eq within of_bits
 small_admissible = refl

@@ -1,6 +1,6 @@
--- 02, E10: with a bound of at most 0.5 and a step from 1e-11 to 1, a later round's list has exactly as many seeds as there are admissible x tilts times admissible y
--- tilts, in two-axis and in one-axis runs, around any centre and with any camera. Both are instances of one law over any two lists of offsets, `exact_length`
--- (Counts.antt). Assumes nothing.
+-- With a bound of at most 0.5 and a step from 1e-11 to 1, a later round's list has exactly as many seeds as there are
+-- admissible x tilts times admissible y tilts, in two-axis and in one-axis runs, around any centre and with any camera.
+-- Both are instances of one law over any two lists of offsets, `exact_length` (Counts.antt). Assumes nothing.
 use Rattle.std.specs.Prelude.{◌≡◌, Bool, true, false, [], ◌∷◌, length, Float}
 use Rattle.std.specs.Float.Ieee.{lt, le}
 use Rattle.float.specs.Float.{within}

@@ -1,4 +1,5 @@
--- 02, E10: how many seeds a later round has. Admissible is a tilt that lies within the bound after the rounded addition. Definitions only.
+-- How many seeds a later round has. A tilt is admissible if it lies within the bound after the rounded addition.
+-- Definitions only.
 use Rattle.std.specs.Prelude.{ℕ, ◌*◌, List, length, Float}
 use Rattle.float.specs.Float.{within}
 use Rattle.float.specs.Literals.{one₆₄, ten_to_minus11}

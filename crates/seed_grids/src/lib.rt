@@ -16,9 +16,10 @@ use camera_tilt::sensor::ScheimpflugParams;
 use seed_lists::{Entries, Entry};
 use seed_rules::CandidateSeed;
 
-// ---- the pairs of two axes. The tilts along an axis are what a closure gives for its numbers: typed tilts as they are, or offsets added to a centre's tilt.
+// ---- the pairs of two axes. The tilts along an axis are what a closure gives for its numbers: typed tilts as they
+// are, or offsets added to a centre's tilt.
 
-// One x tilt with every y tilt, each pair within the bound as an entry.
+// Offers one x tilt with every y tilt, each pair within the bound as an entry.
 fn push_row<E: Entry, Y: Fn(f64) -> f64>(
     list: &mut Entries<E>,
     beside: E::Beside,
@@ -43,7 +44,7 @@ fn push_row<E: Entry, Y: Fn(f64) -> f64>(
     }
 }
 
-// Every x tilt with every y tilt, x outer: those within the bound, merged. Says how many there are.
+// Writes the pairs of every x tilt with every y tilt, x outer, that lie within the bound, merged. Returns their number.
 fn push_pairs<E: Entry, X: Fn(f64) -> f64, Y: Fn(f64) -> f64>(
     numbers: &mut [f64],
     beside: E::Beside,
@@ -74,7 +75,8 @@ fn push_pairs<E: Entry, X: Fn(f64) -> f64, Y: Fn(f64) -> f64>(
 
 // ---- a later round's list
 
-// The offsets around a centre, x outer, with the camera found there: those within the bound, merged. Says how many there are.
+// Writes the seeds at the offsets around a centre, x outer, with the camera found there, that lie within the bound,
+// merged. Returns how many they are.
 pub fn local_seed_grid(
     reference_k: FxFyCxCy,
     center: ScheimpflugParams,
@@ -99,7 +101,7 @@ pub fn local_seed_grid(
 
 // ---- round 0's list
 
-// The typed tilts, x outer: those within the bound, merged by tilt alone.
+// Writes the pairs of typed tilts, x outer, that lie within the bound, merged by tilt alone. Returns how many they are.
 fn seed_grid(x_seeds: &[f64], y_seeds: &[f64], max_abs_tilt: f64, grid: &mut [f64]) -> usize
     requires { 2 * (length x_seeds.now * length y_seeds.now) ≤ length grid.old }
     ensures { Leaves two 2 (seed_grid x_seeds.now y_seeds.now max_abs_tilt) grid.old grid.new result }
@@ -115,7 +117,7 @@ fn seed_grid(x_seeds: &[f64], y_seeds: &[f64], max_abs_tilt: f64, grid: &mut [f6
     )
 }
 
-// Offers the decomposition's seeds, in their order.
+// Offers the decomposition seeds in their order.
 fn push_solved(list: &mut Entries<CandidateSeed>, decomposition: &[f64])
     requires { 6 * (list.old.count + length decomposition.now / 6) ≤ length list.old.numbers.now }
     ensures { Pushed six 6 (merged_into rules.near (seeds_of list.old.count list.old.numbers.now) (all_seeds decomposition.now)) list.old list.new }
@@ -125,8 +127,8 @@ fn push_solved(list: &mut Entries<CandidateSeed>, decomposition: &[f64])
     }
 }
 
-// Offers typed tilts, which are apart, as seeds with the base camera, in their order. Then those of them that are kept are no nearer, and
-// only the seeds that were kept before them are looked at.
+// Offers typed tilts, none of which is near another, as seeds with the base camera, in their order. Seeds that were
+// kept of them aren't near a later one either, so only the seeds that were kept before them are compared.
 fn push_typed(list: &mut Entries<CandidateSeed>, grid: &[f64], number: usize, base_k: FxFyCxCy)
     requires room { (2 * number ≤ length grid.now) × (6 * (list.old.count + number) ≤ length list.old.numbers.now) }
     requires apart { TiltsApart (tilts_of number grid.now) }
@@ -139,8 +141,9 @@ fn push_typed(list: &mut Entries<CandidateSeed>, grid: &[f64], number: usize, ba
     }
 }
 
-// The decomposition's seeds, then the typed tilts with the base camera, merged. Says how many there are.
-// The grid is merged by tilt in memory of its own first: a pair of tilts dropped there is gone, also where the one that it fell to is dropped here.
+// Writes the decomposition seeds, then the typed tilts with the base camera, merged. Returns how many they are. The
+// grid is merged by tilt first, in an array of its own: a pair that is dropped there doesn't come back, even where the
+// pair that it was near is dropped here.
 pub fn initial_seed_grid(
     decomposition: &[f64],
     x_seeds: &[f64],

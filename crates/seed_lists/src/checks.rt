@@ -9,7 +9,7 @@ use camera_models::intrinsics::FxFyCxCy;
 use camera_tilt::sensor::ScheimpflugParams;
 use seed_rules::CandidateSeed;
 
-// Kept: no `float::abs`: for -0 it compares once more than is needed here, in the inner loop of a list of seeds.
+// `float::abs` isn't used: for -0 it compares once more, which isn't needed here, in the inner loop over a list.
 fn closer(limit: f64, x: f64, y: f64) -> bool
     ensures { result ≡ rules.closer limit x y }
 {
@@ -18,8 +18,8 @@ fn closer(limit: f64, x: f64, y: f64) -> bool
     size < limit
 }
 
-// Whether two tilts about one axis are nearer than 1e-12. Mostly they are far apart, and their squares tell, since a rounded square
-// keeps the order of sizes: no sign is looked at.
+// Whether two tilts about one axis are nearer than 1e-12. Most are far apart, and then one comparison of squares
+// decides, without a test of the sign: a rounded square keeps the order of sizes.
 #[tactic(auto, using(crate::proofs::Far::far), unfolding(seed_rules::specs::Rules::closer))]
 fn tilt_closer(x: f64, y: f64) -> bool
     ensures { result ≡ rules.closer tilt_limit x y }
@@ -48,7 +48,7 @@ fn camera_near(k: FxFyCxCy, l: FxFyCxCy) -> bool
         & closer(1e-9, k.cy, l.cy)
 }
 
-// The tilts first: seeds of one list mostly differ there.
+// Compares the tilts first, since seeds of one list mostly differ there.
 #[tactic(auto, unfolding(seed_rules::specs::Rules::near))]
 pub fn near(s: CandidateSeed, t: CandidateSeed) -> bool
     ensures { result ≡ rules.near s t }

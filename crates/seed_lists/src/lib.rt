@@ -24,7 +24,7 @@ use std::marker::PhantomData;
 
 // What lies entry after entry at the front of a list of numbers: seeds, of six numbers each, or pairs of tilts, of two.
 pub trait Entry: Copy {
-    // What an entry has beside its tilts: a seed its camera.
+    // What an entry has beside its tilts; for a seed this is its camera.
     type Beside: Copy;
 
     // How many numbers an entry has, and which.
@@ -146,8 +146,7 @@ impl Entry for ScheimpflugParams {
     }
 }
 
-// A list of entries at the front of lent numbers.
-// Kept: no heap: a list in lent memory is the numbers and how many entries they have.
+// A list of entries at the front of lent numbers, and how many there are. The library has no heap.
 #[derive(Drop)]
 pub struct Entries<'a, E> {
     pub numbers: &'a mut [f64],
@@ -168,8 +167,9 @@ impl<'a, E: Entry> Entries<'a, E> {
         }
     }
 
-    // The newest of the first kept entries, as many as `among`, that is near this one: a decomposition's seeds lie close to their predecessors.
-    // Its place is given, though push asks only whether there is one: 02's E4 names the newest, and a yes or no would be the same from either end.
+    // The place of the newest of the first `among` kept entries that is near this one. The search goes from the last
+    // one back, since decomposition seeds lie close to their predecessors. `push_among` asks only whether there is one;
+    // the place is returned because the rule names it (docs/SPECIFICATION.md, 4.4).
     fn find_near(&self, entry: E, among: usize) -> Option<usize>
         requires { E.width * among ≤ length self.now.numbers.now }
         ensures { result ≡ newest_near E.near 0 (read_from E.first E.width among self.now.numbers.now) entry }
@@ -179,8 +179,8 @@ impl<'a, E: Entry> Entries<'a, E> {
             .find(|i| E::at(self.numbers, *i).is_near(entry))
     }
 
-    // Puts an entry behind the kept ones, unless one of them is near it. Only the first of them, as many as `among`, are looked at: the
-    // others are known not to be near.
+    // Puts an entry behind the kept ones, unless one of them is near it. Only the first `among` of them are compared:
+    // the others are known not to be near.
     pub fn push_among(&mut self, entry: E, among: usize)
         requires room { E.width * self.old.count + E.width ≤ length self.old.numbers.now }
         requires kept { among ≤ self.old.count }
@@ -203,7 +203,7 @@ impl<'a, E: Entry> Entries<'a, E> {
         self.push_among(entry, all);
     }
 
-    // The same for tilts, dropped too where they lie beyond the bound.
+    // Pushes a pair of tilts, with what is beside it, unless it lies beyond the bound.
     pub fn push_in_bound(&mut self, beside: E::Beside, tilts: ScheimpflugParams, max_abs_tilt: f64)
         requires { E.width * self.old.count + E.width ≤ length self.old.numbers.now }
         ensures { Pushed E.numbers E.width (merged_into E.near (read_from E.first E.width self.old.count self.old.numbers.now) (entries_within (E.tilted beside) max_abs_tilt (tilts ∷ []))) self.old self.new }

@@ -43,7 +43,7 @@ module _ {A : Type 0} where
   keep_all P p [] h = tt
   keep_all P p (x ∷ xs) h = cond_all (λ z. P z × (p z ≡ true)) (p x) x (keep p xs) (λ e. (h.0, e)) (keep_all P p xs h.1)
 
-  -- none passes, or all do
+  -- where none passes, and where all do
   pub keep_none : (p : A → Bool) (xs : List A) → All (λ x. p x ≡ false) xs → keep p xs ≡ []
   unfolding keep
   keep_none p [] h = refl
@@ -77,7 +77,7 @@ module _ {A : Type 0} where
     newest_found i [] s = refl
     newest_found i (k ∷ ks) s = found_in (newest_near near (suc i) ks s) (near k s) i ∙ ap (λ (b : Bool). near k s || b) (newest_found (suc i) ks s)
 
-    -- which is all that merging asks: pushing by what the search says is pushing by the rule, so the same seeds are kept
+    -- Merging asks only that, so pushing by what the search says keeps what the rule keeps.
     pub same_kept : (ks : List A) (s : A) → cond (is_some (newest_near near 0 ks s)) ks (ks ++ (s ∷ [])) ≡ push near ks s
     unfolding push
     same_kept ks s = rw (newest_found 0 ks s)
@@ -116,7 +116,7 @@ module _ {A : Type 0} where
             })
             (λ c. let f : None ≡ Some j = simp c at g in let z : ◌≡◌ {A = ℕ} 0 1 = cc in absurd (omega arith))
 
-    -- one more kept one is looked at first
+    -- a kept one that is added at the end is looked at first
     pub newest_snoc : (i : ℕ) (ks : List A) (k s : A)
         → newest_near near i (ks ++ (k ∷ [])) s ≡ cond (near k s) (Some (i + length ks)) (newest_near near i ks s)
     unfolding newest_near

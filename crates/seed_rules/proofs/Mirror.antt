@@ -1,5 +1,6 @@
--- Round 0's list takes no side: with every tilt of Start's inputs negated, the typed ones and those of the decomposition, it is the same list with each tilt negated.
--- This is about round 0's list alone. From round 1 on the offsets come in the order -s, 0, s, and equal scores fall to the earlier seed. Assumes nothing.
+-- Round 0's list prefers no sign: with every tilt of Start's inputs negated, the typed ones and those of the
+-- decomposition seeds, it is the same list with each tilt negated. This holds of round 0's list alone: from round 1 on
+-- the offsets come in the order -s, 0, s, and of equal scores the earlier one wins. Assumes nothing.
 use Rattle.std.specs.Prelude.{◌≡◌, refl, Bool, ◌&&◌, List, [], ◌∷◌, ◌++◌, map, Float}
 use Rattle.std.proofs.Common.{sym, ap, ◌∙◌}
 use Rattle.std.proofs.lemmas.List.{map-append}
@@ -15,7 +16,7 @@ use Rattle.seed_rules.proofs.MergeLaws.{keep_map, merged_map}
 use Rattle.seed_rules.specs.Rules.{closer, tilt_limit, tilt_near, camera_near, near, in_bound, tilts, pairs, seed_with, seed_grid, initial_list}
 use Rattle.seed_rules.specs.Theorem.{opposite, mirrored}
 
--- ---- nearness and the bound do not see the side
+-- ---- nearness and the bound prefer no sign
 closer_neg : (limit x y : Float) → closer limit (neg x) (neg y) ≡ closer limit x y
 unfolding closer
 closer_neg limit x y = ap (λ (d : Float). lt d limit) (abs_sub_neg binary64 x y)

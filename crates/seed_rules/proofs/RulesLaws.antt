@@ -33,7 +33,7 @@ pairs_one : (x : Float) (ys : List Float) → pairs (x ∷ []) ys ≡ map (tilts
 unfolding pairs
 pairs_one x ys = append-nil (map (tilts x) ys)
 
--- ---- one more number of an axis, typed or an offset: f says which tilt it is
+-- ---- one more number of an axis, typed or an offset: f gives its tilt
 along_more : {B : Type 0} (f : Float → B) (ds : List Float) (j : ℕ) → j < length ds → map f (take (suc j) ds) ≡ map f (take j ds) ++ (f (get_or ds j nan) ∷ [])
 along_more f ds j h = ap (map f) (take-suc ds j nan h) ∙ map-append f (take j ds) (get_or ds j nan ∷ [])
 

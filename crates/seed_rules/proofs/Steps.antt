@@ -40,7 +40,7 @@ module _ {A : Type 0} {numbers : A → List Float} {first : List Float → A} {w
         list_is = q ∙ stored y n l s h;
       })
 
--- what is left, read back
+-- the records that an operation left are read back
 pub leaves_read : {A : Type 0} {numbers : A → List Float} {first : List Float → A} {w : ℕ} (y : Layout numbers first w)
     (xs : List A) (l m : List Float) (n : ℕ) → Leaves numbers w xs l m n → read_from first w n m ≡ xs
 leaves_read {first} {w} y xs l m n a =

@@ -1,5 +1,5 @@
--- A later round's list over any two lists of offsets: its length, the bound, what it hands out, and what merging drops. A round of a two-axis run and one of a
--- one-axis run are the two instances, and what holds of each rests on the one statement. Assumes nothing.
+-- The seed that two offsets make, and the most seeds that a later round has: a round of a two-axis run and one of a
+-- one-axis run are instances of one law over any two lists of offsets (specs/Theorem.antt). Definitions only.
 use Rattle.std.specs.Prelude.{Bool, cond, ℕ, Float}
 use Rattle.float.specs.Binary64.{◌+₆₄◌}
 use Rattle.camera_models.specs.declared.intrinsics.FxFyCxCy.{FxFyCxCy}
@@ -12,6 +12,6 @@ abbrev pub offset_seed : ScheimpflugParams → FxFyCxCy → Float → Float → 
 offset_seed centre camera dx dy = seed_with camera (tilts (centre.tilt_x +₆₄ dx) (centre.tilt_y +₆₄ dy))
 
 -- ---- the two instances
--- the most seeds of a later round: three offsets by three, or by one
+-- the most seeds of a later round: three offsets of x, times three offsets of y or one
 abbrev pub most_seeds : Bool → ℕ
 most_seeds one_axis = cond one_axis 3 9

@@ -14,7 +14,7 @@ module _ {A : Type 0} where
     has_near [] s = false
     has_near (k ∷ ks) s = near k s || has_near ks s
 
-    -- 02, E4: the place of the newest kept one that lies near s, places counted from i: one behind the first, or else the first
+    -- the place of the newest kept one that is near s, counted from i: the places behind the first come before it
     unfoldable pub newest_near : ℕ → List A → A → Option ℕ
     newest_near i [] s = None
     newest_near i (k ∷ ks) s = option_or (newest_near (suc i) ks s) (cond (near k s) (Some i) None)

@@ -1,4 +1,4 @@
--- 01's rules about seeds, on lists of values: nearness, the bound, round 0's list, a later round's list. Definitions only.
+-- The rules about seeds, on lists of values: nearness, the bound, round 0's list, a later list. Definitions only.
 use Rattle.std.specs.Prelude.{Bool, ◌&&◌, cond, List, [], ◌∷◌, ◌++◌, map, Float}
 use Rattle.std.specs.Float.Ieee.{neg, lt, eq}
 use Rattle.float.specs.Float.{abs_of, within}
@@ -9,8 +9,9 @@ use Rattle.camera_tilt.specs.declared.sensor.ScheimpflugParams.{ScheimpflugParam
 use Rattle.seed_rules.specs.declared.CandidateSeed.{CandidateSeed}
 use Rattle.seed_rules.specs.Merge.{keep, merged}
 
--- ---- 01: a seed is dropped if a kept one is nearer than 1e-12 in both tilts and 1e-9 in all four camera numbers.
--- The rounded difference decides, and the limit itself is not near; NaN is near nothing, nor are two infinities of one sign.
+-- ---- nearness: two seeds are near if they are nearer than 1e-12 in both tilts and nearer than 1e-9 in all four
+-- intrinsics. The rounded difference decides, and the limit itself isn't near. NaN is near nothing, and two infinities
+-- of one sign aren't near each other.
 unfoldable pub closer : Float → Float → Float → Bool
 closer limit x y = lt (abs_of (x -₆₄ y)) limit
 
@@ -30,11 +31,11 @@ camera_near k l = closer camera_limit k.fx l.fx && closer camera_limit k.fy l.fy
 unfoldable pub near : CandidateSeed → CandidateSeed → Bool
 near s t = tilt_near s.sensor t.sensor && camera_near s.reference_k t.reference_k
 
--- ---- 01: beyond ±max_abs_tilt is outside; the bound itself is inside, and NaN is not
+-- ---- the bound: a pair is within it if both tilts are at most max_abs_tilt in size; NaN is within nothing
 unfoldable pub in_bound : Float → ScheimpflugParams → Bool
 in_bound max t = within max t.tilt_x && within max t.tilt_y
 
--- ---- 02, E8: no tilt about y, which is a zero of either sign
+-- ---- no tilt about y: a zero of either sign
 unfoldable pub untilted_y : ScheimpflugParams → Bool
 untilted_y t = eq t.tilt_y plus_zero
 
@@ -56,16 +57,17 @@ entries_within of max ts = map of (keep (in_bound max) ts)
 abbrev pub seeds_within : Float → FxFyCxCy → List ScheimpflugParams → List CandidateSeed
 seeds_within max k ts = entries_within (seed_with k) max ts
 
--- ---- 01: round 0's grid. Typed tilts beyond the bound are skipped, and the rest merged by tilt alone.
+-- ---- round 0's grid: pairs of typed tilts beyond the bound are left out, and the others are merged by tilt alone.
 unfoldable pub seed_grid : List Float → List Float → Float → List ScheimpflugParams
 seed_grid xs ys max = merged tilt_near (keep (in_bound max) (pairs xs ys))
 
--- 01: round 0's list is the decomposition's seeds, then the grid with the base camera, merged in this order.
+-- Round 0's list is the decomposition seeds, then the grid with the base camera, merged in this order.
 unfoldable pub initial_list : List CandidateSeed → List Float → List Float → FxFyCxCy → Float → List CandidateSeed
 initial_list decomposition xs ys base max = merged near (decomposition ++ map (seed_with base) (seed_grid xs ys max))
 
--- ---- 01: a later round's offsets are added to the centre, those then beyond the bound go, and the rest merge by the same rule, the earlier kept.
--- The offsets are any two lists; 01's are -s, 0, s for both, and those of 02, E8, for a one-axis run are 0 alone for y.
+-- ---- a later round's list: the offsets are added to the centre's tilts, pairs that are then beyond the bound are left
+-- out, and the others are merged, the earlier kept. The offsets are any two lists. A run has -s, 0 and s for both axes;
+-- a one-axis run has 0 alone for y.
 unfoldable pub offsets : Float → List Float
 offsets s = neg s ∷ plus_zero ∷ s ∷ []
 

@@ -1,4 +1,5 @@
--- The lists of seeds, as types: what merging keeps, that every typed tilt is tried, that no side is taken, what a later round's list is over any two lists of offsets.
+-- What holds of the lists of seeds, as types: what merging keeps, that every typed tilt is tried, that no sign is
+-- preferred, and what a later round's list is over any two lists of offsets.
 -- `proofs/MergeLaws.antt`, `Newest.antt`, `Tried.antt`, `Mirror.antt`, `AnyOffsets.antt` and `Facts.antt` prove them. Definitions only.
 use Rattle.std.specs.Prelude.{◌≡◌, Bool, true, false, ℕ, ◌+◌, ◌*◌, ◌≤◌, ◌<◌, ◌⊎◌, Some, is_some, T, length, Float}
 use mathlib.Core.List.{List, [], ◌∷◌, ◌++◌, map, Memᴰ}
@@ -21,7 +22,7 @@ Apart near [] = Unit {0}
 Apart near (x ∷ xs) = All (λ y. near x y ≡ false) xs × Apart near xs
 
 module _ {A : Type 0} (near : A → A → Bool) where
-  -- the one it names is near, and none behind it is
+  -- the kept one that the search names is near s, and none behind it is
   pub record Newest (i : ℕ) (ks : List A) (s : A) (j : ℕ) : Type 0 where
     pub earlier : List A
     pub named : A
@@ -58,12 +59,12 @@ pub record NamesNewer : Type 0 where
   pub seeds_kept : merged near (map seeded (apart ++ (between ∷ []))) ≡ map seeded apart
   pub seed_named : newest_near near 0 (map seeded apart) (seeded between) ≡ Some 1
 
--- of one kind of entry under its nearness
+-- what merging does with one kind of entry under its nearness
 pub record Merging {A : Type 0} (near : A → A → Bool) : Type 0 where
   -- each one offered is kept, or near a kept one; none is near an earlier one
   pub covers : (ss : List A) {s : A} → Memᴰ s ss → Covered near (merged near ss) s
   pub fresh : (ss before : List A) (s : A) (behind : List A) → merged near ss ≡ before ++ s ∷ behind → has_near near before s ≡ false
-  -- the near search finds one exactly where there is one, and the one that it names is near, and none behind it is
+  -- the search finds a near one exactly where there is one, and the one that it names is near, and none behind it is
   pub newest_found : (i : ℕ) (ks : List A) (s : A) → is_some (newest_near near i ks s) ≡ has_near near ks s
   pub newest_named : (i j : ℕ) (ks : List A) (s : A) → newest_near near i ks s ≡ Some j → Newest near i ks s j
 
@@ -92,7 +93,7 @@ pub record TypedTilts : Type 0 where
   pub initial_most : (ds : List CandidateSeed) (xs ys : List Float) (base : FxFyCxCy) (max : Float)
       → length ds ≤ 256 → length xs ≤ 16 → length ys ≤ 16 → length (initial_list ds xs ys base max) ≤ 256 + 256
 
--- ---- no side is taken
+-- ---- no sign is preferred
 -- both tilts negated, the camera kept
 abbrev pub opposite : ScheimpflugParams → ScheimpflugParams
 opposite t = tilts (neg t.tilt_x) (neg t.tilt_y)

@@ -10,7 +10,7 @@ ghost use Rattle.seed_rules.specs.Layout.{six, seed_at};
 use camera_models::intrinsics::FxFyCxCy;
 use camera_tilt::sensor::ScheimpflugParams;
 
-// Where a candidate starts: a camera, and the sensor's tilts.
+// A seed, from which the host begins to solve: the camera's intrinsics and the pair of tilts.
 #[repr(C)]
 #[derive(Clone, Copy, Default)]
 pub struct CandidateSeed {

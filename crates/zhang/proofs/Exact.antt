@@ -1,4 +1,5 @@
--- Exact cases of the closed form: a camera of whole numbers up to 256, times a power of two, comes back from its conic, and from the negated one. Assumes nothing.
+-- Exact cases of the closed form: a camera of whole numbers up to 256, times a power of two, comes back from its conic,
+-- and from the negated one. Assumes nothing.
 use Rattle.std.specs.Prelude.{◌≡◌, Bool, not, ℕ, ◌+◌, ◌*◌, ◌^◌, ◌≤◌, ◌<◌, T, Float, Ok}
 use Rattle.std.proofs.Math.Path.{refl, ap}
 use Rattle.std.proofs.Common.{sym, ◌∙◌, subst, true≢false, add-zero, zero-add, zero-mul, mul-one, mul_assoc, mul_comm, add-mul, arith, pow-add, pow_pos}
@@ -50,7 +51,7 @@ pub unlike_first : (t : Bool) → unlike false t ≡ t
 unlike_first true = refl
 unlike_first false = refl
 
--- a sign that is taken twice is gone
+-- a sign that is applied twice has no effect
 unlike_twice : (s t : Bool) → unlike s (unlike s t) ≡ t
 unlike_twice true true = refl
 unlike_twice true false = refl
@@ -75,7 +76,7 @@ one_large : lt least_b11 (round binary64 false 1 1) ≡ true
 unfolding lt of_bits round
 one_large = refl
 
--- ---- a whole number above 0 in size is larger than 1e-12
+-- ---- a whole number other than 0 is above 1e-12 in size
 positive_large : (x : Float) (n : ℕ) → 0 < n → Is x false n → lt least_b11 (abs_of x) ≡ true
 positive_large x n p v = rw (abs_is x n p v) (lt_le_trans least_b11 (round binary64 false 1 1) x one_large (one_least x n p v))
 

@@ -7,7 +7,8 @@ use Rattle.zhang.specs.declared.Conic.{Conic}
 use Rattle.common.specs.declared.Refusal.{Refusal}
 use Rattle.zhang.specs.Zhang.{from_homographies}
 
--- ---- μ K⁻ᵀ K⁻¹ for a camera K of p 2^k, q 2^k, ±x 2^k and ±y 2^k, where μ is p² q² 2^2k, or where s is true the negative of that
+-- μ K⁻ᵀ K⁻¹ for a camera K of p 2^k, q 2^k, ±x 2^k and ±y 2^k, where μ is p² q² 2^2k, or, where s is true, the negative
+-- of that
 pub record Conic-of (p q x y k : ℕ) (sx sy s : Bool) (b : Conic) : Type 0 where
   pub b11 : Num b.b11 s (q * q) 0
   pub b12 : Num b.b12 s 0 0
@@ -16,7 +17,8 @@ pub record Conic-of (p q x y k : ℕ) (sx sy s : Bool) (b : Conic) : Type 0 wher
   pub b23 : Num b.b23 (unlike s (not sy)) (y * (p * p)) k
   pub b33 : Num b.b33 s (x * x * (q * q) + y * y * (p * p) + p * p * (q * q)) (k + k)
 
--- The reply is a camera whose four numbers equal those of f, as IEEE 754 compares: they are the same but for the sign of a zero.
+-- The reply is a camera whose four numbers equal those of f, as IEEE 754 compares: they are the same but for the sign
+-- of a zero.
 pub record Recovered (f : FxFyCxCy) (r : Result FxFyCxCy Refusal) : Type 0 where
   pub camera : FxFyCxCy
   pub reply : r ≡ Ok camera

@@ -1,5 +1,5 @@
--- The camera of a conic, by the closed form of Zhang's paper (A flexible new technique for camera calibration, 2000, appendix B), each operation rounded.
--- The names are the paper's: v0, λ, α, β, γ, u0. Definitions only.
+-- The camera of a conic, by the closed form of Zhang's paper (A flexible new technique for camera calibration, 2000,
+-- appendix B), each operation rounded. The names are the paper's: v0, λ, α, β, γ, u0. Definitions only.
 use Rattle.std.specs.Prelude.{Bool, not, ◌&&◌, cond, Float, Result, Ok, Err}
 use Rattle.std.specs.Float.{binary64}
 use Rattle.std.specs.Float.Ieee.{neg, lt, le}
@@ -55,11 +55,13 @@ u0 b = gamma b *₆₄ v0 b /₆₄ beta b -₆₄ b.b13 *₆₄ alpha b *₆₄
 abbrev pub camera_of : Conic → FxFyCxCy
 camera_of b = record { fx = alpha b; fy = beta b; cx = u0 b; cy = v0 b }
 
--- The upper left 2 × 2 part is definite, and well so beside its size; b11 isn't nearly 0; and λ has its sign. A NaN in a test fails it.
+-- The upper left 2 × 2 part is definite, and clearly so for its size; b11 isn't nearly 0; and λ has the sign of b11. A
+-- NaN in a test fails it.
 unfoldable pub definite : Conic → Bool
 definite b = lt plus_zero (norm b) && (lt least_definite (denom b /₆₄ norm b) && (not (le (abs_of b.b11) least_b11) && lt plus_zero (lambda b /₆₄ b.b11)))
 
--- Where the conic isn't definite no camera has it, and it is refused. A camera that isn't finite is a reply like any other.
+-- A conic that isn't definite is no camera's, and is refused. A camera with numbers that aren't finite is a reply like
+-- any other.
 unfoldable pub from_homographies : Conic → Result FxFyCxCy Refusal
 unfolding definite
 from_homographies b = cond (definite b) (Ok (camera_of b)) (Err DegenerateViews)

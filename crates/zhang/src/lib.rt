@@ -12,7 +12,8 @@ ghost use Rattle.zhang.specs.Zhang.{camera_of, from_homographies};
 use camera_models::intrinsics::FxFyCxCy;
 use common::Refusal;
 
-// The conic B = μ K⁻ᵀ K⁻¹, a symmetric matrix known up to its scale μ, in the order in which the linear solve gives its numbers.
+// The conic B = μ K⁻ᵀ K⁻¹, a symmetric matrix known up to its scale μ, in the order in which the linear solve gives its
+// numbers.
 #[repr(C)]
 #[derive(Clone, Copy, Default)]
 pub struct Conic {
@@ -24,7 +25,7 @@ pub struct Conic {
     pub b33: f64,
 }
 
-// The camera of a definite conic. Its skew is found for the principal point, and dropped.
+// The camera of a definite conic. The skew gamma is used for the principal point, and isn't part of the reply.
 fn camera_of(b: Conic, denom: f64, v0: f64, lambda: f64) -> FxFyCxCy
     requires { (denom ≡ zhang.denom b) × (v0 ≡ zhang.v0 b) × (lambda ≡ zhang.lambda b) }
     ensures { result ≡ camera_of b }

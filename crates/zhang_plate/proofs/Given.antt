@@ -1,5 +1,6 @@
--- 02, E12: each camera whose four numbers share a power of two gets six numbers from which the closed form gives the four back; every other one is refused.
--- The six are computed exactly, and zhang's `recovered` does the rest. Assumes nothing.
+-- A plate with a known answer (docs/SPECIFICATION.md, 3.16): each camera whose four numbers are whole multiples of one
+-- unit gets six numbers from which the closed form gives the four back; every other one is refused. The six are
+-- computed exactly, and zhang's `recovered` does the rest. Assumes nothing.
 use Rattle.std.proofs.Common.{◌≡◌, ℕ, ◌+◌, ◌*◌, ◌^◌, ◌≤◌, Bool, false, not, pos, sym, refl, add-zero, mul-le-mul, zero-add, mul-one, arith, Float, Ok, Err}
 use Rattle.std.specs.Float.{binary64}
 use Rattle.std.specs.Float.Ieee.{unlike, of_bits, of_int, neg}
@@ -97,7 +98,7 @@ module _ (k : ℕ) (f : FxFyCxCy) (few : k ≤ 8) (a : Units k f) where
       a.p_range.0 a.q_range.0 a.p_range.1 a.q_range.1 a.x_range a.y_range (omega arith)
       f a.fx_is a.fy_is a.cx_is a.cy_is
 
--- ---- the whole
+-- ---- the theorem
 pub numbers_of : (f : FxFyCxCy) (u : ℕ) → unit_from 9 1 f ≡ some u → plate_of f ≡ Ok (conic_with (of_int binary64 (pos u)) f)
 unfolding plate_of
 numbers_of f u h = simp (plate_of, h)

@@ -1,4 +1,5 @@
--- The search for the lowest unit: what it finds is one, and where it finds none there is none. Assumes nothing.
+-- The search for the lowest unit: the four numbers share the unit that it finds, and where it finds none they share
+-- none. Assumes nothing.
 use Rattle.std.proofs.Common.{◌≡◌, ℕ, zero, suc, ◌+◌, ◌*◌, ◌^◌, ◌<◌, ◌≤◌, true, false, eqb, sym, ap, ◌∙◌, true≢false, add-one, arith, pow-add, eqb-true}
 use Rattle.std.proofs.Math.Option.{none, some, none-ne-some, some-injective}
 use borrow.Author.Tests.{eqb-false}

@@ -1,5 +1,5 @@
--- What the definition's tests mean: a number passes where it is ± n 2 ^ k with n at most 256, and four numbers where they are such numbers in their ranges.
--- Assumes nothing.
+-- What the definition's tests mean: a number passes where it is ± n 2 ^ k with n at most 256, and four numbers pass
+-- where they are such numbers in their ranges. Assumes nothing.
 use Rattle.std.proofs.Common.{◌≡◌, ℕ, zero, suc, ◌*◌, ◌/◌, ◌%◌, ◌^◌, ◌<◌, ◌≤◌, Bool, true, false, ◌&&◌, eqb, leb, sym, refl, ◌∙◌, true≢false, mul_assoc, mul-pos, arith, pow_pos, ltb-true, eq-eqb, eqb-true, le-leb, leb-true, Float}
 use Rattle.std.specs.Float.{nan, inf, fin}
 use Rattle.std.specs.Float.Ieee.{up, down, of_bits, lt}
@@ -46,7 +46,7 @@ passes k nan s n h v = absurd v
 passes k (inf t) s n h v = absurd v
 passes k (fin t m e) s n h v = times_of (m * up e) n (2 ^ k * down e) (mul-pos (pow_pos k) (down_pos e)) (v.1 ∙ mul_assoc n (2 ^ k) (down e)) h
 
--- ---- a focal length: what is above 0 has no minus
+-- ---- a focal length: a number above 0 has no minus sign
 record Positive (x : Float) (n k : ℕ) : Type 0 where
   least : 1 ≤ n
   is : Num x false n k

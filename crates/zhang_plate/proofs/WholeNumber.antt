@@ -1,4 +1,5 @@
--- The code's test of one number is the definition's: a whole number is tested by itself, and what has a fraction or is too large fails. Assumes nothing.
+-- The code's test of one number is the definition's: a whole number is tested as such, and a number with a fraction or
+-- a too large one fails. Assumes nothing.
 use Rattle.std.proofs.Common.{◌≡◌, ℕ, ◌+◌, ◌*◌, ◌/◌, ◌%◌, ◌^◌, ◌<◌, ◌≤◌, Bool, true, false, ◌&&◌, ◌||◌, T, eqb, leb, ℤ, pos, sym, refl, ap, ◌∙◌, true≢false, lt_of_lt_of_le, mul-le-mul_right, mul_assoc, div-lt_iff_lt-mul, mul-le-mul, mul-one, mul_right_comm, arith, le→leb, lt→ltb, pow_mono, ltb-false, ltb-true, eq-eqb, ne_eqb, eqb-true, leb-true, Float}
 use Rattle.std.specs.Float.{nan, inf, fin, binary64}
 use Rattle.std.specs.Float.Ieee.{up, down, of_bits, of_int, lt, eq, ne, to_unsigned, in_float}
@@ -142,7 +143,7 @@ module _ (u : ℕ) (high : u ≤ 256) where
       whole (m * up e) (down e) u (down_pos e) high n
       (equal_is (of_int binary64 (pos n)) n m e (float_is n (small_cut (fin s m e) h)) (not-false (eq (of_int binary64 (pos n)) (fin false m e)) k))
 
--- ---- the same over the code's values: a is the size, and n its whole part
+-- ---- the same for the code's values: a is the size, and n its whole part
 module _ (x a : Float) (is-abs : a ≡ abs_of x) where
   pub too_large : (u : ℕ) → u ≤ 256 → lt a limit ≡ false → false ≡ times_unit u x
   too_large u high h = sym (fails_large u high x (rw is-abs at h))

@@ -1,4 +1,5 @@
--- 02, E12: the six numbers of a camera that service chooses, or a refusal. Definitions only; specs/Theorem.antt says what they are good for.
+-- The six numbers of a chosen camera, or a refusal (docs/SPECIFICATION.md, 3.16). specs/Theorem.antt says that the
+-- camera comes back from them. Definitions only.
 use Rattle.std.specs.Prelude.{ℕ, zero, suc, ◌*◌, ◌/◌, ◌%◌, Bool, true, false, ◌&&◌, pos, ◌==◌, nat_le, Float, Result, Ok, Err}
 use Rattle.std.proofs.Math.Option.{Option, none, some}
 use Rattle.std.specs.Float.{nan, inf, fin, binary64}
@@ -25,7 +26,8 @@ unfoldable pub unit_from : ℕ → ℕ → FxFyCxCy → Option ℕ
 unit_from zero u k = none
 unit_from (suc n) u k = elim (shared_unit u k) [ true ↦ some u | false ↦ unit_from n (u * 2) k ]
 
--- With p = fx / u and q = fy / u: q², 0, p², −cx q², −cy p², cx² q² + cy² p² + fx² q². It is the conic K⁻ᵀ K⁻¹ times p² q² u², so that all six are whole numbers.
+-- With p = fx / u and q = fy / u: q², 0, p², −cx q², −cy p², cx² q² + cy² p² + fx² q². It is the conic K⁻ᵀ K⁻¹ times p²
+-- q² u², so that all six are whole numbers.
 unfoldable pub conic_with : Float → FxFyCxCy → Conic
 conic_with u k =
     let p = k.fx /₆₄ u in
@@ -39,6 +41,6 @@ conic_with u k =
       b33 = k.cx *₆₄ k.cx *₆₄ (q *₆₄ q) +₆₄ k.cy *₆₄ k.cy *₆₄ (p *₆₄ p) +₆₄ k.fx *₆₄ k.fx *₆₄ (q *₆₄ q);
     }
 
--- by the lowest of 1, 2, 4 .. 256 that the four share, and a refusal where there is none
+-- by the lowest unit of 1, 2, 4 .. 256 that the four share, and a refusal where there is none
 unfoldable pub plate_of : FxFyCxCy → Result Conic Refusal
 plate_of k = elim (unit_from 9 1 k) [ none ↦ Err NoPlate | some u ↦ Ok (conic_with (of_int binary64 (pos u)) k) ]

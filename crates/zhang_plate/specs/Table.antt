@@ -1,4 +1,5 @@
--- A table of cameras with what they get and what the closed form makes of it. `proofs/Cases.antt` proves it, by computing. Definitions only.
+-- A table of cameras, each with its six numbers and the camera that the closed form gives for them, or refused.
+-- `proofs/Cases.antt` proves it by computing. Definitions only.
 use Rattle.std.specs.Prelude.{◌≡◌, List, [], ◌∷◌, ℤ, pos, negsuc, Float, Ok, Err}
 use Rattle.std.specs.Float.{binary64}
 use Rattle.std.specs.Float.Ieee.{of_bits, of_int}

@@ -1,4 +1,5 @@
--- 02, E12: what a plate with a known answer is. `PlateRight` is proved in proofs/Given.antt, as `plate_right`. Definitions only.
+-- What a plate with a known answer is (docs/SPECIFICATION.md, 3.16), as a type. `proofs/Given.antt` proves it.
+-- Definitions only.
 use Rattle.std.specs.Prelude.{◌≡◌, ℕ, ◌≤◌, Bool, false, Ok, Err}
 use Rattle.float.specs.Whole.{Num}
 use Rattle.camera_models.specs.declared.intrinsics.FxFyCxCy.{FxFyCxCy}
@@ -10,8 +11,8 @@ use Rattle.zhang_plate.specs.Plate.{plate_of}
 use Rattle.common.specs.Each.{All}
 use Rattle.zhang_plate.specs.Table.{Holds, table}
 
--- The four numbers of a camera are whole numbers of 2 ^ k: p and q, 1 to 256, for the focal lengths, ±x and ±y, up to 256, for the centre.
--- (`Num a s n k`: a is n 2 ^ k, with a minus where s; a zero has either sign.)
+-- The four numbers of a camera are whole numbers of 2 ^ k: p and q, 1 to 256, for the focal lengths, ±x and ±y, up to
+-- 256, for the centre. (`Num a s n k`: a is n 2 ^ k, with a minus where s; a zero has either sign.)
 pub record Units (k : ℕ) (f : FxFyCxCy) : Type 0 where
   pub p : ℕ
   pub q : ℕ
@@ -28,13 +29,14 @@ pub record Units (k : ℕ) (f : FxFyCxCy) : Type 0 where
   pub cx_is : Num f.cx x_minus x k
   pub cy_is : Num f.cy y_minus y k
 
--- One power of two, 1 to 256, will do for all four.
+-- One unit, a power of two from 1 to 256, does for all four.
 pub record Shared (f : FxFyCxCy) : Type 0 where
   pub k : ℕ
   pub power : k ≤ 8
   pub units : Units k f
 
--- Each such camera gets six numbers from which the closed form gives the four back, a zero with either sign (`Recovered`); every other one is refused.
+-- Each such camera gets six numbers from which the closed form gives the four back, a zero with either sign
+-- (`Recovered`); every other one is refused.
 pub record PlateRight : Type 0 where
   pub gives : (f : FxFyCxCy) → Shared f → (b : Conic) × (plate_of f ≡ Ok b) × Recovered f (from_homographies b)
   pub refuses : (f : FxFyCxCy) → (Shared f → ⊥) → plate_of f ≡ Err NoPlate

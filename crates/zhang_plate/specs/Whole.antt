@@ -4,12 +4,12 @@ use Rattle.camera_models.specs.declared.intrinsics.FxFyCxCy.{FxFyCxCy}
 use Rattle.zhang_plate.specs.Plate.{times_unit}
 use Rattle.zhang_plate.specs.declared.WholeSizes.{WholeSizes}
 
--- a whole number is a number of units u, at most 256 of them; what isn't whole is none
+-- whether a size is a whole number of units u, at most 256 of them; one that isn't whole is none
 abbrev pub whole_times : ℕ → Option ℕ → Bool
 whole_times u None = false
 whole_times u (Some n) = n % u == 0 && nat_le (n / u) 256
 
--- by these sizes each of the four is such a number just where it is one itself
+-- the four numbers pass the definition's test exactly where these sizes do
 abbrev pub SizesOf : FxFyCxCy → WholeSizes → Type 0
 SizesOf k s =
     (u : ℕ) → u ≤ 256 →

@@ -2,13 +2,14 @@
 
 ghost use Rattle.zhang_plate.specs.Theorem.{PlateRight, CasesHold};
 
-/// A camera whose numbers share a power of two comes back from its plate, and every other one is refused.
+/// A camera whose four numbers are whole multiples of one unit comes back from its six numbers, and every other one is
+/// refused with 34.
 #[tactic(auto, using(crate::proofs::Given::plate_right))]
 pub fn plate_law()
     ensures { PlateRight }
 {}
 
-/// Each camera of the table gets what the table says.
+/// Each camera of the table gets the six numbers that the table gives, and comes back from them, or is refused.
 #[tactic(auto, using(crate::proofs::Cases::cases_hold))]
 pub fn plate_cases_law()
     ensures { CasesHold }

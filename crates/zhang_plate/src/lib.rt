@@ -1,5 +1,5 @@
-// A plate with a known answer: the six numbers of a conic from which the closed form gives a chosen camera back, or a refusal.
-// Each function equals its definition, for every input; specs/Theorem.antt has that the camera comes back.
+// A plate with a known answer: the six numbers of a conic from which the closed form gives a chosen camera back, or a
+// refusal. Each function equals its definition, for every input; specs/Theorem.antt says that the camera comes back.
 
 #![tactic(auto)]
 
@@ -11,7 +11,7 @@ use camera_models::intrinsics::FxFyCxCy;
 use common::Refusal;
 use zhang::Conic;
 
-// The size of x if x is a whole number below 65537 in size: a number of units that is at most 256, of a unit up to 256, is one.
+// The size of x if x is a whole number below 65537 in size. At most 256 units of at most 256 each are such a number.
 fn whole_size(x: f64) -> Option<u64>
     ensures { (unit : ℕ) → unit ≤ 256 → times_unit unit x ≡ whole_times unit result }
 {
@@ -27,7 +27,7 @@ fn whole_size(x: f64) -> Option<u64>
     Some(whole)
 }
 
-// The sizes of a camera's four numbers, as far as they are whole.
+// The sizes of those of a camera's four numbers that are whole.
 #[derive(Clone, Copy)]
 struct WholeSizes {
     fx: Option<u64>,

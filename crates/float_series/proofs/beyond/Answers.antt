@@ -1,4 +1,5 @@
--- `float_series::beyond` meets its contract: NaN, or above 0.5 in size, is what isn't at most 0.5 in size. Assumes nothing.
+-- `float_series::beyond` meets its contract: x is NaN or above 0.5 in size exactly where it isn't at most 0.5 in size.
+-- Assumes nothing.
 use Rattle.std.proofs.Common.{◌≡◌, refl, sym, ◌∙◌, true≢false, true, false, not, Float}
 use Rattle.std.specs.Float.{nan, inf, fin}
 use Rattle.std.specs.Float.Ieee.{of_bits, lt, le, mul, is_nan}

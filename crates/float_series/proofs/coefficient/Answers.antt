@@ -1,5 +1,5 @@
--- `float_series::coefficient` meets its contract: the table is the list of the definition's sixteen values, which antt computes, and one law reads it.
--- Assumes nothing.
+-- `float_series::coefficient` meets its contract: antt computes that the table is the list of the definition's sixteen
+-- values, and `table_at` reads a value of it. Assumes nothing.
 use Rattle.std.proofs.Common.{rules}
 use Rattle.std.specs.Float.{nan}
 use Rattle.std.specs.Float.Ieee.{of_bits, round}

@@ -1,4 +1,5 @@
--- `point_homography::any_off_line` meets its contract: the search among the pairs is that among the points. Assumes nothing.
+-- `point_homography::any_off_line` meets its contract: the search among the pairs is that among the points.
+-- Assumes nothing.
 use Rattle.std.proofs.Common.{rules, tests, ◌∙◌}
 use Rattle.std.proofs.lemmas.Iterator.{YieldsList-from_slice}
 use Rattle.std.proofs.lemmas.Iterator.Search.{any_from_yields_List}

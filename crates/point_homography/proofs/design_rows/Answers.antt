@@ -1,4 +1,5 @@
--- `point_homography::design_rows` meets its contract: what isn't refused has room for the rows, which are written. Assumes nothing.
+-- `point_homography::design_rows` meets its contract: where nothing is refused, there is room for the rows, and they
+-- are written. Assumes nothing.
 use Rattle.std.proofs.Common.{◌≡◌, sym, ◌∙◌, ◌*◌, ◌/◌, arith, length, Ok}
 use Rattle.point_normalise.specs.Linalg.{similarity_of}
 use Rattle.point_normalise.specs.Walk.{sets_front}

@@ -1,4 +1,5 @@
--- `point_homography::first_distinct` meets its contract: the search among the pairs is that among the points. Assumes nothing.
+-- `point_homography::first_distinct` meets its contract: the search among the pairs is that among the points.
+-- Assumes nothing.
 use Rattle.std.proofs.Common.{rules, tests, sym, ap, ◌∙◌, ◌-◌, arith, length, drop, length-drop}
 use lib.Seq.{take_all}
 use Rattle.std.proofs.lemmas.Iterator.{YieldsList-from_slice, YieldsList-from_map}

@@ -8,11 +8,11 @@ use Rattle.std.specs.Float.Ieee.Bits.{nan_bits_above}
 use Rattle.root_code.proofs.Rounds.{Answer, answer}
 use Rattle.root_code.proofs.rounded.Goals as goal
 
--- a pattern below the infinity's is no NaN's
+-- a pattern below that of the infinity is no NaN's
 no_nan : (b : ℕ) → b < 0x7ff0_0000_0000_0000 → T (not (nan_bits binary64 b))
 no_nan b h = subst (λ (z : Bool). T (not z)) (sym (nan_bits_above binary64 b)) (not_T (nat_lt (0x7ff * 2 ^ 52) (b % 2 ^ 63)) (λ y. omega (arith, ltb→lt (0x7ff * 2 ^ 52) (b % 2 ^ 63) y)))
 
--- what the pattern is
+-- the pattern that `rounded` makes is that of the root
 made : (c : goal.After-struct_known-1) → Answer c.args.s.significand c.args.s.half ((c.args.s.half - 26) * 2 ^ 52 + c.nearest_root-q.result)
 made c =
     let s = c.args.s in

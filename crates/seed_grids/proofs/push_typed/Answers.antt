@@ -26,7 +26,7 @@ push_among-requires-clause-kept c =
     let xs = map (seed_with a.base_k) (take c.loop-i.i (tilts_of a.number a.grid.now)) in
     omega (arith, c.loop-i.invariant.2.leaves.count_is, merged_longer near (seeds_of k l) xs, read_length (λ m. seed_at m 0) 6 k l)
 
--- and those behind them are typed, and apart from this one
+-- and those behind them are typed tilts, which aren't near this one
 pub push_among-requires-clause-others_far : goal.push_among-requires-clause-others_far
 push_among-requires-clause-others_far c =
     let a = c.args in

@@ -1,4 +1,4 @@
--- `seed_grids::seed_grid` meets its contract: typed tilts are what they are. Assumes nothing.
+-- `seed_grids::seed_grid` meets its contract: its closures give each typed tilt as it is. Assumes nothing.
 use Rattle.std.proofs.Common.{rules}
 use Rattle.std.proofs.lemmas.List.{map-id}
 use Rattle.seed_rules.specs.Rules.{seed_grid}

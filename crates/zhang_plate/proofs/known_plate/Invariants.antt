@@ -1,4 +1,5 @@
--- `zhang_plate::known_plate`: the loop's invariant: the lowest unit of those that are left, from here on, is the lowest of all.
+-- `zhang_plate::known_plate`: the loop's invariant: the search from this power on finds what the search from the first
+-- power on finds.
 use Rattle.std.proofs.Common.{◌≡◌, ◌-◌, ◌^◌}
 use Rattle.zhang_plate.specs.Plate.{unit_from}
 use Rattle.zhang_plate.proofs.known_plate.Given as goal

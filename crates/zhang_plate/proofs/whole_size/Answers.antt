@@ -1,4 +1,5 @@
--- `zhang_plate::whole_size` meets its contract: what the cast to a whole number and back wants of the size, and what each way out says of x. Assumes nothing.
+-- `zhang_plate::whole_size` meets its contract: the size meets what the casts to a whole number and back require, and
+-- each return says what the definition's test of x gives. Assumes nothing.
 use Rattle.std.proofs.Common.{sym}
 use Rattle.zhang_plate.proofs.WholeNumber.{castable, counted, too_large, has_fraction, counts}
 use Rattle.zhang_plate.proofs.whole_size.Goals as goal

@@ -1,4 +1,5 @@
--- `camera_tilt::sensor::forward_depth` meets its contract: 1e-12 is no NaN, so the maximum rests on the comparison alone. Assumes nothing.
+-- `camera_tilt::sensor::forward_depth` meets its contract: 1e-12 is no NaN, so the comparison alone decides the
+-- maximum. Assumes nothing.
 use Rattle.std.specs.Float.Ieee.{of_bits, is_nan}
 use Rattle.float.specs.Float.{max_of}
 use Rattle.camera_tilt.specs.Sensor.{forward_depth}

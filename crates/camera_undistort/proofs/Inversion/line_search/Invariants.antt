@@ -1,4 +1,5 @@
--- `camera_undistort::Inversion::line_search`: the loop's invariant: what is left of the trials, from this step, finds what all of them find from the first.
+-- `camera_undistort::Inversion::line_search`: the loop's invariant: the trials that are left, from this step on, find
+-- what all of them find from the first step on.
 use Rattle.std.proofs.Common.{◌≡◌, ◌-◌}
 use Rattle.camera_undistort.specs.Undistortion.{trials}
 use Rattle.camera_undistort.proofs.Inversion.line_search.Given as goal

@@ -1,4 +1,5 @@
--- `camera_undistort::Inversion::newton_undistort`: the loop's invariant: what is left of the turns, from this estimate, leads where all of them lead from the first.
+-- `camera_undistort::Inversion::newton_undistort`: the loop's invariant: the turns that are left, from this estimate
+-- on, end where all of them end from the first estimate on.
 use Rattle.std.proofs.Common.{◌≡◌, ◌-◌}
 use Rattle.camera_undistort.specs.Undistortion.{newton}
 use Rattle.camera_undistort.proofs.Inversion.newton_undistort.Given as goal

@@ -1,4 +1,5 @@
--- `point_homography::Pairs::put_rows`: the loop's invariant: the rows of the pairs that are left, written from here, give what the whole gives.
+-- `point_homography::Pairs::put_rows`: the loop's invariant: writing the rows of the pairs that are left, from this
+-- index on, gives what writing all rows gives.
 use Rattle.std.proofs.Common.{◌≡◌, ◌*◌, length, drop}
 use lib.Seq.{sets}
 use Rattle.point_normalise.specs.Chunks.{pairs_of}

@@ -1,4 +1,5 @@
--- `point_normalise::linalg::centroid` meets its contract: the fold over the pairs is that over the points. Assumes nothing.
+-- `point_normalise::linalg::centroid` meets its contract: the fold over the pairs is that over the points.
+-- Assumes nothing.
 use Rattle.std.proofs.Common.{rules, tests, ◌∙◌}
 use Rattle.camera_models.specs.declared.math.Pt2.{Pt2}
 use Rattle.point_normalise.specs.Linalg.{add_point, centroid_of}

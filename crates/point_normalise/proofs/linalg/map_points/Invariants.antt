@@ -1,4 +1,5 @@
--- `point_normalise::linalg::map_points`: the loop's invariant: what is yet to be written, written from here, gives what the whole gives.
+-- `point_normalise::linalg::map_points`: the loop's invariant: writing the points that are left, from this index on,
+-- gives what writing all of them gives.
 use Rattle.std.proofs.Common.{◌≡◌, ◌*◌, drop}
 use lib.Seq.{sets}
 use Rattle.camera_models.specs.declared.math.Pt2.{Pt2}

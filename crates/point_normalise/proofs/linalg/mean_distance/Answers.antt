@@ -1,4 +1,5 @@
--- `point_normalise::linalg::mean_distance` meets its contract: the fold over the pairs is that over the points. Assumes nothing.
+-- `point_normalise::linalg::mean_distance` meets its contract: the fold over the pairs is that over the points.
+-- Assumes nothing.
 use Rattle.std.proofs.Common.{rules, tests, ◌∙◌}
 use Rattle.float.specs.Literals.{plus_zero}
 use Rattle.point_normalise.specs.Linalg.{add_distance, mean_distance}

@@ -10,7 +10,7 @@ use Rattle.root.specs.Root.{root}
 use Rattle.root_code.proofs.Patterns.{at_nan, at_zero, at_minus_zero, root_top, root_neg}
 use Rattle.root_code.proofs.operand.decompose.Goals as goal
 
--- the argument is what its bits say
+-- reading the argument's bits gives the argument
 back : (x : Float) → fits binary64 x ≡ true → of_bits binary64 (to_bits binary64 x) ≡ x
 back x e = of_bits-to_bits binary64 x (passes _ e)
 

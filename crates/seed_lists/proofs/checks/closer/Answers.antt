@@ -1,4 +1,5 @@
--- `seed_lists::checks::closer` meets its contract: a negative difference counts by its negative, and the sign of a zero is nothing to a comparison. Assumes nothing.
+-- `seed_lists::checks::closer` meets its contract: a negative difference is negated, and a comparison doesn't depend on
+-- the sign of a zero. Assumes nothing.
 use Rattle.std.proofs.Common.{◌≡◌, refl, sym, ◌∙◌, ap, true, false, true≢false, zero, suc, ◌+◌, ◌*◌, arith, le-ltb, not, ℤ, Float}
 use Rattle.std.proofs.Math.Dec.{eqb-suc-zero}
 use Rattle.std.specs.Float.{nan, inf, fin}
