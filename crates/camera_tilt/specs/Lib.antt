@@ -1,3 +1,2 @@
 pub mod Matrix
 pub mod Sensor
-pub mod Verdict

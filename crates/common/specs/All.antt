@@ -1,8 +1,6 @@
 -- Laws of what holds of each element of a list. Assumes nothing.
-use Rattle.std.specs.Prelude.{ℕ, ◌≤◌, ◌≡◌, Bool, true, false, List, [], ◌∷◌, ◌++◌, map, length, drop}
-use Rattle.std.proofs.Math.Path.{ap}
-use Rattle.std.proofs.Common.{◌∙◌, drop_of_length-le}
-use Rattle.common.specs.Each.{All, every}
+use Rattle.std.specs.Prelude.{List, [], ◌∷◌, ◌++◌, map}
+use Rattle.common.specs.Each.{All}
 
 module _ {A : Type 0} (P : A → Type 0) where
   pub all_append : (xs ys : List A) → All P xs → All P ys → All P (xs ++ ys)
@@ -24,17 +22,3 @@ module _ {A : Type 0} (P : A → Type 0) where
 pub all_mapped : {A B : Type 0} (f : A → B) (P : B → Type 0) (xs : List A) → All (λ x. P (f x)) xs → All P (map f xs)
 all_mapped f P [] h = tt
 all_mapped f P (x ∷ xs) h = (h.0, all_mapped f P xs h.1)
-
--- ---- a test at each element from index i on, as a loop over the list makes it
-module _ {A : Type 0} (p : A → Bool) (xs : List A) (i : ℕ) where
-  pub every_here : (x : A) (ys : List A) → drop i xs ≡ x ∷ ys → p x ≡ false → every p (drop i xs) ≡ false
-  unfolding every
-  every_here x ys e h = simp (e, h)
-
-  pub every_next : (x : A) (ys : List A) → drop i xs ≡ x ∷ ys → p x ≡ true → every p (drop i xs) ≡ every p ys
-  unfolding every
-  every_next x ys e h = ap (every p) e ∙ simp h
-
-  pub every_end : length xs ≤ i → every p (drop i xs) ≡ true
-  unfolding every
-  every_end h = rw (drop_of_length-le xs h)

@@ -1,15 +1,7 @@
--- One condition of a list of refusals: where it holds, where it doesn't, and where nothing is refused. Assumes nothing.
+-- One condition of a list of refusals, where nothing is refused. Assumes nothing.
 use Rattle.std.specs.Prelude.{◌≡◌, refl, Bool, true, false, cond, List, [], ◌∷◌, ◌++◌, Result, Ok, Err, ⊤}
 use Rattle.common.specs.declared.Refusal.{Refusal}
 use Rattle.common.specs.Checks.{Check, ◌when◌, first_refusal}
-
--- where the condition holds, its refusal is the reply
-pub refuses : {b : Bool} → b ≡ true → (r : Refusal) (rest : Result ⊤ Refusal) → cond b (Err r) rest ≡ Err r
-refuses h r rest = rw h
-
--- where the condition doesn't hold, the rest decides
-pub passes : {b : Bool} → b ≡ false → (r : Refusal) (rest : Result ⊤ Refusal) → cond b (Err r) rest ≡ rest
-passes h r rest = rw h
 
 -- no refusal: the condition doesn't hold, and the rest refuses nothing
 pub refuses_none : (b : Bool) (r : Refusal) (rest : Result ⊤ Refusal) → cond b (Err r) rest ≡ Ok tt → (b ≡ false) × (rest ≡ Ok tt)

@@ -3,28 +3,12 @@ use Rattle.std.specs.Prelude.{◌≡◌, refl, Bool, true, false, List, Float}
 use Rattle.std.specs.List.{list_all}
 use Rattle.std.proofs.Common.{sym, true≢false}
 use Rattle.std.specs.Float.{nan, inf, fin}
-use Rattle.std.specs.Float.Ieee.{of_bits, lt, le, div, neg, is_nan}
-use Rattle.float.specs.Literals.{infinity}
+use Rattle.std.specs.Float.Ieee.{le, is_nan}
 use Rattle.float.specs.Float.{abs_of, is_finite}
 
 -- ---- a list of numbers
 abbrev pub all_finite : List Float → Bool
 all_finite numbers = list_all is_finite numbers
-
--- ---- what lies between the infinities
-pub below_infinity : (x : Float) → lt (neg infinity) x ≡ true → lt x infinity ≡ is_finite x
-unfolding lt neg div of_bits is_finite
-below_infinity nan h = refl
-below_infinity (inf true) h = absurd (true≢false (sym h))
-below_infinity (inf false) h = refl
-below_infinity (fin s m e) h = refl
-
-pub above_infinity : (x : Float) → lt (neg infinity) x ≡ false → lt (neg infinity) x ≡ is_finite x
-unfolding lt neg div of_bits is_finite
-above_infinity nan h = refl
-above_infinity (inf true) h = refl
-above_infinity (inf false) h = absurd (true≢false h)
-above_infinity (fin s m e) h = absurd (true≢false h)
 
 -- ---- a value whose size is at most a finite number is finite
 pub finite_within : (x m : Float) → is_finite m ≡ true → le (abs_of x) m ≡ true → is_finite x ≡ true

@@ -48,21 +48,6 @@ fits_zero s (pos zero) f = refl
 fits_zero s (pos (suc k)) f = absurd (let p = one_below k in let q = eqb→eq (2 ^ suc k * 1) 1 f in omega arith)
 fits_zero s (negsuc k) f = absurd (let p = one_below k in let q = eqb→eq (1 * 2 ^ suc k) 1 f in omega arith)
 
-pub abs_zero : (x : Float) → T (fits binary64 x) → eq x plus_zero ≡ true → plus_zero ≡ abs_of x
-unfolding eq abs_of of_bits
-abs_zero nan f h = absurd (true≢false (sym h))
-abs_zero (inf s) f h = absurd (true≢false (sym h))
-abs_zero (fin s zero e) f h = ap (fin false 0) (sym (fits_zero s e f))
-abs_zero (fin s (suc m) e) f h = absurd (true≢false (sym h ∙ eq_zero s (suc m) e ∙ eqb-suc-zero m))
-
-pub abs_positive : (x : Float) → lt x plus_zero ≡ false → eq x plus_zero ≡ false → x ≡ abs_of x
-unfolding lt eq abs_of of_bits
-abs_positive nan h k = refl
-abs_positive (inf true) h k = absurd (true≢false h)
-abs_positive (inf false) h k = refl
-abs_positive (fin false m e) h k = refl
-abs_positive (fin true m e) h k = absurd (true≢false (sym (lt_zero true m e ∙ ap not (sym (eq_zero true m e) ∙ k)) ∙ h))
-
 -- ---- no sign changes a magnitude: of a negated value, a rounded fraction, a difference with both terms negated
 pub abs_neg : (x : Float) → abs_of (neg x) ≡ abs_of x
 unfolding abs_of neg

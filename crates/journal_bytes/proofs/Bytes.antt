@@ -1,6 +1,5 @@
 -- What the parser's loops read. Assumes nothing.
-use Rattle.std.proofs.Common.{ℕ, zero, suc, ◌+◌, ◌*◌, ◌^◌, ◌-◌, ◌<◌, ◌≤◌, ◌≡◌, refl, sym, ap, ◌∙◌, Bool, true, false, cond, ◌&&◌, List, [], ◌∷◌, ◌++◌, append-nil, add-one, mul-le-mul_right, arith, eq-eqb, ne_eqb, eqb, length, get_or, take, drop, set, drop_of_length-le, drop-cons, take-suc-set, take_all, Float}
-use mathlib.Core.Bool.{and-true, and-false, and_assoc}
+use Rattle.std.proofs.Common.{ℕ, zero, suc, ◌+◌, ◌*◌, ◌^◌, ◌-◌, ◌<◌, ◌≤◌, ◌≡◌, refl, sym, ap, ◌∙◌, Bool, true, false, cond, ◌&&◌, List, [], ◌∷◌, ◌++◌, append-nil, add-one, mul-le-mul_right, arith, eqb, length, get_or, take, drop, set, take-suc-set, take_all, Float}
 use native.Mathlib.Nat.{pow-le-pow_right}
 use lib.Seq.{append_snoc}
 use Rattle.std.proofs.lemmas.List.{get_or-take}
@@ -40,24 +39,6 @@ starts_so [] s = refl
 starts_so (c ∷ w) [] = refl
 starts_so (c ∷ w) (d ∷ s) = ap (λ b. eqb c d && b) (starts_so w s)
 
-pub begins_short : (w s : List ℕ) → length s < length w → begins w s ≡ false
-unfolding begins
-begins_short [] s h = absurd (omega arith)
-begins_short (c ∷ w) [] h = refl
-begins_short (c ∷ w) (d ∷ s) h = rw (begins_short w s (omega arith)) (and-false (eqb c d))
-
--- so far the bytes are the same or not, and the rest is still to be compared
-pub begins_turn : (w s : List ℕ) (i : ℕ) (same : Bool) → i < length w → i < length s → (same && begins (drop i w) (drop i s)) ≡ begins w s
-    → ((same && eqb (get_or w i 0) (get_or s i 0)) && begins (drop (i + 1) w) (drop (i + 1) s)) ≡ begins w s
-unfolding begins
-begins_turn w s i same h k f =
-    let g : (same && (eqb (get_or w i 0) (get_or s i 0) && begins (drop (suc i) w) (drop (suc i) s))) ≡ begins w s = rw (drop-cons w i 0 h, drop-cons s i 0 k) at f in
-    rw add-one (and_assoc same (eqb (get_or w i 0) (get_or s i 0)) (begins (drop (suc i) w) (drop (suc i) s)) ∙ g)
-
-pub begins_all : (w s : List ℕ) (i : ℕ) (same : Bool) → length w ≤ i → (same && begins (drop i w) (drop i s)) ≡ begins w s → same ≡ begins w s
-unfolding begins
-begins_all w s i same h f = let g : (same && true) ≡ begins w s = rw (drop_of_length-le w h) at f in sym (and-true same) ∙ g
-
 -- ---- newlines
 pub newlines_counted : (s : List ℕ) → newlines s ≡ count_by (λ c. eqb c 10) s
 unfolding newlines
@@ -66,24 +47,6 @@ newlines_counted s = is_count_by newlines (λ c. eqb c 10) refl (λ c t. one_mor
     one_more : (b : Bool) (n : ℕ) → cond b 1 0 + n ≡ cond b (1 + n) n
     one_more true n = refl
     one_more false n = omega arith
-
-newlines_step : (s : List ℕ) (i : ℕ) → i < length s → newlines (drop i s) ≡ cond (eqb (get_or s i 0) 10) 1 0 + newlines (drop (i + 1) s)
-unfolding newlines
-newlines_step s i h = rw (add-one, drop-cons s i 0 h)
-
-pub newline_here : (s : List ℕ) (i : ℕ) → i < length s → get_or s i 0 ≡ 10 → newlines (drop i s) ≡ 1 + newlines (drop (i + 1) s)
-newline_here s i h e = newlines_step s i h ∙ simp (eq-eqb (get_or s i 0) 10 e)
-
-pub newline_not : (s : List ℕ) (i : ℕ) → i < length s → (get_or s i 0 ≡ 10 → ⊥) → newlines (drop i s) ≡ newlines (drop (i + 1) s)
-newline_not s i h e =
-    let g : newlines (drop i s) ≡ 0 + newlines (drop (i + 1) s) = newlines_step s i h ∙ simp (ne_eqb (get_or s i 0) 10 e) in
-    omega arith
-
-pub newlines_all : (s : List ℕ) (i n : ℕ) → length s ≤ i → n + newlines (drop i s) ≡ newlines s → n ≡ newlines s
-unfolding newlines
-newlines_all s i n h f =
-    let g : newlines (drop i s) ≡ 0 = rw (drop_of_length-le s h) in
-    omega arith
 
 -- ---- reals
 -- the first i stand in the list, and the rest is still to be read

@@ -1,5 +1,5 @@
 -- Runs of stores to a buffer, one after the other. Assumes nothing.
-use Rattle.std.proofs.Common.{ℕ, suc, ◌+◌, ◌-◌, ◌*◌, ◌/◌, ◌%◌, ◌<◌, ◌≤◌, ◌≡◌, refl, sym, ap, ◌∙◌, subst, List, [], ◌∷◌, ◌++◌, map, add-zero, zero-add, add-one, arith, length, set, get_or, drop, replicate, length-append, drop_of_length-le}
+use Rattle.std.proofs.Common.{ℕ, suc, ◌+◌, ◌-◌, ◌/◌, ◌%◌, ◌<◌, ◌≤◌, ◌≡◌, refl, sym, ap, ◌∙◌, subst, List, [], ◌∷◌, ◌++◌, map, add-zero, zero-add, add-one, arith, length, set, get_or, drop, length-append, drop_of_length-le}
 use lib.Seq.{sets, sets-eq, set_comm}
 use Rattle.std.proofs.lemmas.List.{at_drop_more}
 use Rattle.journal_line.specs.Line.{digit_byte, digits}
@@ -87,15 +87,3 @@ module _ {A : Type 0} (field : A → List ℕ) (xs : List A) (i : ℕ) where
       → length l ≡ length out → Stored out at (comma_fields (map field xs)) l
   unfolding comma_fields
   fields_stored l out at place h w e = record { now_is = rw (drop_of_length-le xs h) at w; same_long = e }
-
--- a turn of the loop that stores minus signs
-pub minus_turn : (l whole : List ℕ) (at i : ℕ) → i < 8 → sets l (at + 2 * i) (comma_fields (replicate (8 - i) (45 ∷ []))) ≡ whole
-    → sets (set (set l (at + 2 * i) 44) (at + 2 * i + 1) 45) (at + 2 * (i + 1)) (comma_fields (replicate (8 - (i + 1)) (45 ∷ []))) ≡ whole
-minus_turn l whole at i h w =
-    let e : suc (8 - (i + 1)) ≡ 8 - i = omega arith in
-    field_then (45 ∷ []) (replicate (8 - (i + 1)) (45 ∷ [])) l (at + 2 * i) (at + 2 * (i + 1)) (omega arith)
-    ∙ ap (λ (n : ℕ). sets l (at + 2 * i) (comma_fields (replicate n (45 ∷ [])))) e ∙ w
-
-pub no_minuses : (l whole : List ℕ) (p i : ℕ) → i ≡ 8 → sets l p (comma_fields (replicate (8 - i) (45 ∷ []))) ≡ whole → l ≡ whole
-unfolding comma_fields
-no_minuses l whole p i h w = rw h at w

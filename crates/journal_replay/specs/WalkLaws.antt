@@ -1,7 +1,6 @@
 -- One line of a walk: whether it is taken, what `enter` can rely on then, and how the walk goes on or stops there. Assumes nothing.
-use Rattle.std.specs.Prelude.{ℕ, suc, ◌+◌, ◌-◌, ◌≤◌, ◌≡◌, refl, Bool, true, false, not, ◌&&◌, cond, List, ◌∷◌, ltb, length, drop, Float, Option, Some, None, Result, Ok, Err, ⊤}
+use Rattle.std.specs.Prelude.{ℕ, suc, ◌+◌, ◌-◌, ◌≤◌, ◌≡◌, refl, Bool, true, false, not, ◌&&◌, List, ◌∷◌, ltb, length, drop, Float, Option, Some, None, Result, Ok, Err, ⊤}
 use Rattle.std.proofs.Common.{sym, ap, ◌∙◌, true≢false, arith, ltb-false, length-append, length-drop}
-use Rattle.std.proofs.Math.Bool.{and_assoc, and-true}
 use Rattle.std.proofs.lemmas.Bool.{not-false}
 use Rattle.std.proofs.lemmas.Option.{none-some, same_Some}
 use Rattle.common.specs.Tests.{case, both_true}
@@ -9,48 +8,23 @@ use Rattle.common.specs.declared.Refusal.{Refusal}
 use Rattle.common.specs.declared.Refusal.TheVariants.{NothingScored, SeedWaits, ShortList}
 use Rattle.common.specs.ChecksLaws.{refuses_none}
 use Rattle.seed_rules.specs.declared.CandidateSeed.{CandidateSeed}
-use Rattle.seed_rules.specs.Layout.{six, seed_at}
+use Rattle.seed_rules.specs.Layout.{seed_at}
 use Rattle.journal_line.specs.declared.Line.{Line}
 use Rattle.journal_line.specs.declared.Read.TheVariants.{Got, End, NotOfForm}
 use Rattle.journal_line.specs.Line.{line_bytes}
 use Rattle.journal_line.specs.Reading.{read_line, goes_on, read_all}
 use Rattle.journal_line.proofs.Unique.{line_bounds, one_line}
-use Rattle.journal_line.specs.Outcome.{outcome_in}
-use Rattle.score_outcome.specs.Reasons.{Outcome}
 use Rattle.search_record.specs.Record.{sound, has_place, awaiting}
 use Rattle.search_record.specs.declared.run.Run.{Run}
 use Rattle.search_record.specs.declared.run.Reply.{Reply}
-use Rattle.search_calls.specs.Next.{next_refusal, reply_by, next_def}
+use Rattle.search_calls.specs.Next.{next_refusal, next_def}
 use Rattle.search_calls.specs.NextLaws.{next_refused, next_over, next_hands}
 use Rattle.search_calls.specs.declared.next.Handed.{Handed}
-use Rattle.search_answer.specs.Answer.{Left, enter_def}
+use Rattle.search_answer.specs.Answer.{Left}
 use Rattle.journal_replay.specs.declared.Stop.{Stop}
 use Rattle.journal_replay.specs.declared.Stop.TheVariants.{AllTaken, NotTheRun}
 use Rattle.journal_replay.specs.declared.Stop.TheVariants as stop
-use Rattle.journal_replay.specs.Stand.{same_real, same_reals}
 use Rattle.journal_replay.specs.Walk.{answers_waiting, is_candidate, take_line, run_left, list_left, run_taken, list_taken, RunWalk, walk_lines, stop_at, walk_of, walked_as}
-
--- ---- a seed's six numbers, compared one by one
-pub same_seed : (s t : CandidateSeed)
-    → (same_real s.reference_k.fx t.reference_k.fx
-    && same_real s.reference_k.fy t.reference_k.fy
-    && same_real s.reference_k.cx t.reference_k.cx
-    && same_real s.reference_k.cy t.reference_k.cy
-    && same_real s.sensor.tilt_x t.sensor.tilt_x
-    && same_real s.sensor.tilt_y t.sensor.tilt_y)
-    ≡ same_reals (six s) (six t)
-unfolding same_reals
-same_seed s t =
-    let j = s.reference_k in
-    let k = t.reference_k in
-    nested (same_real j.fx k.fx) (same_real j.fy k.fy) (same_real j.cx k.cx) (same_real j.cy k.cy) (same_real s.sensor.tilt_x t.sensor.tilt_x) (same_real s.sensor.tilt_y t.sensor.tilt_y)
-  where
-    nested : (a b c d e f : Bool) → (a && b && c && d && e && f) ≡ (a && (b && (c && (d && (e && (f && true))))))
-    nested true b c d e f = middle b c d e f
-      where
-        middle : (b c d e f : Bool) → (b && c && d && e && f) ≡ (b && (c && (d && (e && (f && true)))))
-        middle b c d e f = rw (and-true f, and_assoc (b && c && d) e f, and_assoc (b && c) d (e && f), and_assoc b c (d && (e && f)))
-    nested false b c d e f = refl
 
 -- ---- Next hands out a seed only where a sound run isn't over: then it waits, and `enter` may be called
 sound_awaiting : (r : Run) (s : CandidateSeed) → r.place.over ≡ false → sound r ≡ true → sound (awaiting r s) ≡ true
@@ -70,11 +44,6 @@ awaiting_enterable r s n o h =
     let d = refuses_none (ltb n r.place.demand) ShortList _ q.1 in
     record { is_sound = sound_awaiting r s o (not-false (sound r) p.0); waits = refl; demand_fits = ltb-false n r.place.demand d.0 }
 
-no_candidate_lem : (x : Result ⊤ Refusal) (k : ℕ) (over : Bool) → (x ≡ Ok tt → over ≡ true) → is_candidate (reply_by x over k) ≡ false
-no_candidate_lem (Ok _) k true h = refl
-no_candidate_lem (Ok _) k false h = absurd (true≢false (sym (h refl)))
-no_candidate_lem (Err e) k over h = refl
-
 pub handed_enterable : (r : Run) (l : List Float) → is_candidate (next_def r l).reply ≡ true → Enterable (next_def r l).run (length l)
 handed_enterable r l h = by (next_refusal r (length l)) refl
   where
@@ -87,20 +56,6 @@ handed_enterable r l h = by (next_refusal r (length l)) refl
 
 -- ---- a line that isn't taken leaves the run and the list, and one that is leads to what is entered
 module _ (r : Run) (l : List Float) (m : Line) (a : Reply Handed) (x y : Bool) (next_is : a ≡ next_def r l) (x-is : x ≡ is_candidate a.reply) (y-is : y ≡ answers_waiting a.run m) where
-  take_is : take_line r l m ≡ cond (x && y) (Some (enter_def a.run l (outcome_in m.outcome))) None
-  unfolding take_line
-  take_is = rw (x-is, y-is, next_is)
-
-  pub line_stays : (x && y) ≡ false → (None ≡ run_taken r l m) × (l ≡ list_taken r l m)
-  line_stays h =
-      let e : take_line r l m ≡ None = rw h at take_is in
-      (sym (ap run_left e), sym (ap (λ (o : Option Left). list_left o l) e))
-
-  pub line_enters : (o : Outcome) (s : Run) (k : List Float) → (x && y) ≡ true → o ≡ outcome_in m.outcome → s ≡ (enter_def a.run l o).run → k ≡ (enter_def a.run l o).list
-      → (Some s ≡ run_taken r l m) × (k ≡ list_taken r l m)
-  line_enters o s k h o_is s-is k-is =
-      let e : take_line r l m ≡ Some (enter_def a.run l (outcome_in m.outcome)) = rw h at take_is in
-      (ap Some (s-is ∙ ap (λ (q : Outcome). (enter_def a.run l q).run) o_is) ∙ sym (ap run_left e), k-is ∙ ap (λ (q : Outcome). (enter_def a.run l q).list) o_is ∙ sym (ap (λ (q : Option Left). list_left q l) e))
 
   pub line_enterable : (x && y) ≡ true → Enterable a.run (length l)
   line_enterable h = rw next_is (handed_enterable r l (ap (λ (b : Reply Handed). is_candidate b.reply) (sym next_is) ∙ sym x-is ∙ (both_true x y h).0))

@@ -1,5 +1,5 @@
 -- What is known of lists that `design_rows` doesn't refuse, and how rows are written, pair by pair. Assumes nothing.
-use Rattle.std.specs.Prelude.{◌≡◌, refl, false, not, List, ◌++◌, ℕ, ◌+◌, ◌*◌, ◌/◌, ◌≤◌, ◌<◌, eqb, ltb, length, drop, Float, Result, Ok, Err, ⊤}
+use Rattle.std.specs.Prelude.{◌≡◌, refl, false, not, List, ℕ, ◌+◌, ◌*◌, ◌/◌, ◌≤◌, ◌<◌, eqb, ltb, length, drop, Float, Result, Ok, ⊤}
 use Rattle.std.proofs.Common.{sym, ap, ◌∙◌, arith}
 use borrow.Author.Tests.{ltb-false, eqb-true, not-false}
 use Rattle.std.proofs.lemmas.List.Edits.{sets}
@@ -10,10 +10,10 @@ use Rattle.common.specs.ChecksLaws.{refuses_none}
 use Rattle.camera_models.specs.declared.math.Pt2.{Pt2}
 use Rattle.point_normalise.specs.declared.linalg.Similarity.{Similarity}
 use Rattle.point_normalise.specs.Points.{point_at, bad_length}
-use Rattle.point_normalise.specs.Linalg.{move_by, similarity_of}
+use Rattle.point_normalise.specs.Linalg.{move_by}
 use Rattle.point_normalise.specs.Hartley.{good_length}
 use Rattle.point_homography.specs.Line.{collinear_of}
-use Rattle.point_homography.specs.Rows.{all_finite, pair_rows, moved_rows, design_rows, design_conditions, rows_refusal, rows_reply, rows_into}
+use Rattle.point_homography.specs.Rows.{all_finite, pair_rows, moved_rows, design_rows, design_conditions, rows_refusal}
 use Rattle.point_normalise.specs.Walk.{pair_next, pair_length, sets_append}
 
 eighteen : (p q : Pt2) → length (pair_rows p q) ≡ 18
@@ -67,14 +67,3 @@ fine src dst room h0 =
   where
     from : ℕ → Result ⊤ Refusal
     from k = first_refusal (drop k (design_conditions src dst room))
-
--- ---- the reply, and what is written
-module _ (src dst a : List Float) where
-  pub refused : (r : Refusal) → rows_refusal src dst (length a) ≡ Err r → (Err r ≡ rows_reply src dst (length a)) × (a ≡ rows_into src dst a)
-  unfolding rows_reply rows_into
-  refused r e = (sym e, rw (e, rows_into))
-
-  pub written : rows_refusal src dst (length a) ≡ Ok tt
-      → (Ok tt ≡ rows_reply src dst (length a)) × ((let w = design_rows (similarity_of src) (similarity_of dst) src dst in w ++ drop (length w) a) ≡ rows_into src dst a)
-  unfolding rows_reply rows_into
-  written e = (sym e, rw (e, rows_into))

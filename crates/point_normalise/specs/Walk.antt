@@ -1,16 +1,15 @@
 -- Functions over a list of points: one point further, at the end, and how many numbers they give; and numbers that are
 -- written one after the other. Assumes nothing.
-use Rattle.std.specs.Prelude.{◌≡◌, Bool, true, false, ℕ, suc, ◌+◌, ◌*◌, ◌/◌, ◌^◌, ◌≤◌, ◌<◌, T, pos, get_or, drop, set, Float}
+use Rattle.std.specs.Prelude.{◌≡◌, ℕ, suc, ◌+◌, ◌*◌, ◌/◌, ◌≤◌, ◌<◌, get_or, drop, set, Float}
 use Rattle.std.proofs.Math.Path.{refl, sym}
-use Rattle.std.proofs.Common.{ap, ◌∙◌, add-zero, zero-add, zero-mul, add_comm, suc-mul, add-one, le→leb, length-drop, drop-cons}
+use Rattle.std.proofs.Common.{ap, ◌∙◌, add-zero, zero-add, zero-mul, add_comm, suc-mul, add-one, length-drop, drop-cons}
 use mathlib.Core.List.{List, [], ◌∷◌, ◌++◌}
 use native.Mathlib.Omega.{arith}
 use Rattle.std.proofs.Math.ListN.{length, length-append}
 use Rattle.std.proofs.lemmas.List.Edits.{sets, sets-eq}
-use Rattle.std.specs.Float.{nan, binary64}
-use Rattle.std.specs.Float.Ieee.{in_float}
+use Rattle.std.specs.Float.{nan}
 use Rattle.camera_models.specs.declared.math.Pt2.{Pt2}
-use Rattle.point_normalise.specs.Points.{fold_points, find_point, each_point, mapped_xy, map_points, each_pair, point_at}
+use Rattle.point_normalise.specs.Points.{each_point, mapped_xy, map_points, each_pair, point_at}
 
 -- ---- the rest of a list from i on, where a point stands there, and where none does
 point_left : (s : List Float) (i : ℕ) → i + 1 < length s → drop i s ≡ get_or s i nan ∷ get_or s (i + 1) nan ∷ drop (i + 2) s
@@ -27,36 +26,6 @@ at_most_one : (P : List Float → Type 0) → P [] → ((x : Float) → P (x ∷
 at_most_one P none one [] h = none
 at_most_one P none one (x ∷ []) h = one x
 at_most_one P none one (x ∷ y ∷ s) h = absurd (omega arith)
-
--- ---- fold_points
-module _ {A : Type 0} (f : A → Pt2 → A) where
-  pub fold_next : (a : A) (s : List Float) (i : ℕ) → i + 1 < length s → fold_points f a (drop i s) ≡ fold_points f (f a (point_at s i)) (drop (i + 2) s)
-  unfolding fold_points
-  fold_next a s i h = rw (point_left s i h)
-
-  short : (a : A) (s : List Float) → length s ≤ 1 → fold_points f a s ≡ a
-  unfolding fold_points
-  short a = at_most_one (λ s. fold_points f a s ≡ a) refl (λ x. refl)
-
-  pub fold_end : (a : A) (s : List Float) (i : ℕ) → length s ≤ i + 1 → fold_points f a (drop i s) ≡ a
-  fold_end a s i h = short a (drop i s) (none_left s i h)
-
--- ---- find_point
-module _ {A : Type 0} (test : Pt2 → Bool) (found : Pt2 → A) (none : A) where
-  pub find_here : (s : List Float) (i : ℕ) → i + 1 < length s → test (point_at s i) ≡ true → find_point test found none (drop i s) ≡ found (point_at s i)
-  unfolding find_point
-  find_here s i h t = rw (point_left s i h, t)
-
-  pub find_next : (s : List Float) (i : ℕ) → i + 1 < length s → test (point_at s i) ≡ false → find_point test found none (drop i s) ≡ find_point test found none (drop (i + 2) s)
-  unfolding find_point
-  find_next s i h t = rw (point_left s i h, t)
-
-  not_found : (s : List Float) → length s ≤ 1 → find_point test found none s ≡ none
-  unfolding find_point
-  not_found = at_most_one (λ s. find_point test found none s ≡ none) refl (λ x. refl)
-
-  pub find_end : (s : List Float) (i : ℕ) → length s ≤ i + 1 → find_point test found none (drop i s) ≡ none
-  find_end s i h = not_found (drop i s) (none_left s i h)
 
 -- ---- each_point
 one_more : (n k : ℕ) → k + n / 2 * k ≡ suc (suc n) / 2 * k
@@ -99,9 +68,6 @@ module _ (f : Pt2 → Pt2 → List Float) where
   unfolding each_pair
   no_pair s d = at_most_one (λ l. each_pair f l d ≡ []) refl (λ x. refl) s
 
-  pub pair_end : (s d : List Float) (i : ℕ) → length s ≤ i + 1 → each_pair f (drop i s) (drop i d) ≡ []
-  pair_end s d i h = no_pair (drop i s) (drop i d) (none_left s i h)
-
   -- k numbers for each pair
   pub pair_length : (k : ℕ) → ((p q : Pt2) → length (f p q) ≡ k) → (s d : List Float) → length d ≡ length s → length (each_pair f s d) ≡ length s / 2 * k
   unfolding each_pair
@@ -119,9 +85,6 @@ module _ (f : Pt2 → Pt2 → List Float) where
 pub sets_two : (d : List Float) (i : ℕ) (a b : Float) (w : List Float) → sets (set (set d i a) (i + 1) b) (i + 2) w ≡ sets d i (a ∷ b ∷ w)
 sets_two d i a b w = let e : i + 2 ≡ suc (suc i) = omega arith in rw (add-one i, e)
 
-pub sets_one : (d : List Float) (n : ℕ) (w : List Float) (j : ℕ) → j < length w → sets (set d (n + j) (get_or w j nan)) (n + (j + 1)) (drop (j + 1) w) ≡ sets d (n + j) (drop j w)
-sets_one d n w j h = let e : n + (j + 1) ≡ suc (n + j) = omega arith in rw (e, add-one j, drop-cons w j nan h)
-
 pub sets_append : (d : List Float) (i : ℕ) (v w : List Float) → sets d i (v ++ w) ≡ sets (sets d i v) (i + length v) w
 sets_append d i [] w = rw add-zero
 sets_append d i (a ∷ v) w = sets_append (set d i a) (suc i) v w ∙ ap (λ (k : ℕ). sets (sets (set d i a) (suc i) v) k w) (let e : suc i + length v ≡ i + suc (length v) = omega arith in e)
@@ -129,8 +92,3 @@ sets_append d i (a ∷ v) w = sets_append (set d i a) (suc i) v w ∙ ap (λ (k 
 -- numbers written at the front, where there is room for them, leave the rest as it was
 pub sets_front : (d w : List Float) → length w ≤ length d → sets d 0 w ≡ w ++ drop (length w) d
 sets_front d w h = let l : 0 + length w ≤ length d = omega arith in sets-eq w d 0 l ∙ rw zero-add
-
--- ---- the number of points that an operation takes is a whole number that a float holds
-pub count_fits : (s : List Float) → length s ≤ 800 → T (in_float binary64 (pos (length s / 2)))
-unfolding in_float
-count_fits s h = le→leb (length s / 2) (2 ^ 53) (omega arith)

@@ -8,8 +8,7 @@ use Rattle.common.specs.All.{all_append, all_map}
 use Rattle.common.specs.Each.{All}
 use Rattle.common.specs.Tests.{case}
 use Rattle.score_best.specs.declared.Candidate.{Candidate}
-use Rattle.score_best.specs.declared.Best.{Best}
-use Rattle.score_best.specs.Best.{beats, Chosen, nothing, chosen, first_unbeaten, best_of, no_best, held, is_better}
+use Rattle.score_best.specs.Best.{beats, Chosen, nothing, chosen, first_unbeaten, best_of, no_best, held}
 use Rattle.score_best.specs.Theorem.{HasNumber, HasNan, Leads, IsNumber, WinnersRight}
 use Rattle.score_best.proofs.Order.{nan_never_beats, number_beats_nan, asym, cotrans, best_leads, best_none, led, lead_first}
 use Rattle.score_best.specs.Winners.{winner_of_two, winner_of_bests, present, winner_of, joined}
@@ -49,23 +48,6 @@ unfolding winner_of_bests winner_of_two no_best
 held_winner nothing b = refl
 held_winner (chosen w) nothing = refl
 held_winner (chosen w) (chosen v) = case (beats v w) (λ e. simp e) (λ e. simp e)
-
-module _ (a b : Best) where
-  pub first_missing : a.found ≡ false → winner_of_bests a b ≡ b
-  unfolding winner_of_bests
-  first_missing e = simp e
-
-  pub second_missing : a.found ≡ true → b.found ≡ false → winner_of_bests a b ≡ a
-  unfolding winner_of_bests
-  second_missing e f = simp (e, f)
-
-  pub second_better : a.found ≡ true → b.found ≡ true → is_better b.candidate a ≡ true → winner_of_bests a b ≡ b
-  unfolding winner_of_bests is_better
-  second_better e f g = let h : beats b.candidate a.candidate ≡ true = simp e at g in simp (e, f, h)
-
-  pub second_not_better : a.found ≡ true → is_better b.candidate a ≡ false → winner_of_bests a b ≡ a
-  unfolding winner_of_bests is_better
-  second_not_better e g = let h : beats b.candidate a.candidate ≡ false = simp e at g in case b.found (λ f. simp (e, f, h)) (λ f. simp (e, f))
 
 -- ---- two lists in a row
 module _ (ws vs : List Candidate) where

@@ -1,6 +1,6 @@
 -- What holds of every scored finding, and which reasons a skipped one has. Assumes nothing.
-use Rattle.std.specs.Prelude.{ℕ, ◌≤◌, ◌≡◌, refl, true, false, ◌&&◌, List, Float, Ok, Err}
-use Rattle.std.proofs.Common.{sym, subst, ◌∙◌, arith}
+use Rattle.std.specs.Prelude.{ℕ, ◌≡◌, refl, true, false, ◌&&◌, List, Float, Ok, Err}
+use Rattle.std.proofs.Common.{sym, subst, ◌∙◌}
 use Rattle.std.specs.Float.Ieee.{is_nan, lt, of_bits}
 use Rattle.common.specs.Tests.{case, both_true}
 use Rattle.common.specs.Results.{same_Err, err-ok}
@@ -77,12 +77,6 @@ scoring_facts s sensor center rows flags v f n =
     }
 
 -- ---- the reasons
--- Reason 1, 2, 3 or 4.
-pub reason_within : (r : SkipReason) → (1 ≤ reason_number r) × (reason_number r ≤ 4)
-reason_within HostFailed = (omega arith, omega arith)
-reason_within BadCamera = (omega arith, omega arith)
-reason_within NoMean = (omega arith, omega arith)
-reason_within NoNumber = (omega arith, omega arith)
 
 -- the reason of a reason's number is that reason
 pub reason_numbered_back : (r : SkipReason) → reason_numbered (reason_number r) ≡ Ok r
@@ -114,10 +108,6 @@ solved_reason share s sensor center rows flags h =
     (λ m. let q = same_Err NoMean HostFailed (sym (infinite_skips share s sensor center rows flags v m) ∙ h) in cc))
     (λ e. let q = same_Err NoMean HostFailed (sym (few_skips share s sensor center rows flags v e) ∙ h) in cc))
     (λ v. let q = same_Err BadCamera HostFailed (sym (invalid_skips share s sensor center rows flags v) ∙ h) in cc)
-
-pub skipped_reason : (share : ℕ) (f : Finding) (sensor : ScheimpflugParams) (center : Pt2) (rows : List Float) (flags : List ℕ) (r : SkipReason)
-    → outcome_of share f sensor center rows flags ≡ Err r → (1 ≤ reason_number r) × (reason_number r ≤ 4)
-skipped_reason share f sensor center rows flags r h = reason_within r
 
 -- Reason 1 for Failed alone.
 pub skipped_failed : (share : ℕ) (f : Finding) (sensor : ScheimpflugParams) (center : Pt2) (rows : List Float) (flags : List ℕ)

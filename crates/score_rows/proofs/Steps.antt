@@ -1,6 +1,6 @@
 -- The theorems on specs/Steps.antt: rows added one by one, some at a time, and by their flags. Assumes nothing.
 use Rattle.std.specs.Prelude.{◌≡◌, ℕ, zero, suc, ◌+◌, ◌*◌, ◌%◌, ◌^◌, ◌<◌, ◌≤◌, Bool, true, false, cond, ◌&&◌, List, [], ◌∷◌, ◌++◌, length, drop, take, ◌==◌, slice_index, slice_index_or, refl, Float}
-use Rattle.std.proofs.Common.{◌/◌, min, not, T, ltb, ltb→lt, nltb→le, sym, ap, ap₂, subst, ◌∙◌, arith, get_or, mod-eq_of_lt, add-one, drop-cons, ⊎_elim, eq-or-lt_of_le}
+use Rattle.std.proofs.Common.{◌/◌, min, sym, ap, ap₂, subst, ◌∙◌, arith, get_or, mod-eq_of_lt, add-one, drop-cons, ⊎_elim, eq-or-lt_of_le}
 use Rattle.std.proofs.Math.Seq.{drop-length}
 use Rattle.std.proofs.lemmas.List.{get_or-take, get_or-drop, take_all, take_at, drop_at}
 use Rattle.std.specs.Float.{nan, inf, fin, binary64}
@@ -37,31 +37,6 @@ rows_by_flags (x ∷ []) (f ∷ fs) h = absurd (omega arith)
 rows_by_flags (x ∷ y ∷ []) (f ∷ fs) h = absurd (omega arith)
 rows_by_flags (x ∷ y ∷ u ∷ []) (f ∷ fs) h = absurd (omega arith)
 rows_by_flags (x ∷ y ∷ u ∷ v ∷ ns) (f ∷ fs) h = ap suc (rows_by_flags ns fs (omega arith))
-
--- as many as the numbers' fours, where there is a flag for each
-pub rows_by_fours : (ns : List Float) (fs : List ℕ) (n : ℕ) → 4 * n ≤ length ns → length ns < 4 * n + 4 → n ≤ length fs → length (rows_of ns fs) ≡ n
-unfolding rows_of
-rows_by_fours [] fs n a b c = omega arith
-rows_by_fours (x ∷ []) fs n a b c = omega arith
-rows_by_fours (x ∷ y ∷ []) fs n a b c = omega arith
-rows_by_fours (x ∷ y ∷ u ∷ []) fs n a b c = omega arith
-rows_by_fours (x ∷ y ∷ u ∷ v ∷ ns) [] n a b c = absurd (omega arith)
-rows_by_fours (x ∷ y ∷ u ∷ v ∷ ns) (f ∷ fs) zero a b c = absurd (omega arith)
-rows_by_fours (x ∷ y ∷ u ∷ v ∷ ns) (f ∷ fs) (suc n) a b c = ap suc (rows_by_fours ns fs n (omega arith) (omega arith) (omega arith))
-
--- so as many as the fewer of them
-pub rows_fewer : (ns : List Float) (fs : List ℕ) → min (length ns / 4) (length fs) ≡ length (rows_of ns fs)
-rows_fewer ns fs = go (ltb (length ns / 4) (length fs)) (ltb→lt (length ns / 4) (length fs)) (nltb→le (length ns / 4) (length fs))
-  where
-    go : (t : Bool) → (T t → length ns / 4 < length fs) → (T (not t) → length fs ≤ length ns / 4) → min (length ns / 4) (length fs) ≡ length (rows_of ns fs)
-    go true x y =
-        let few = x tt in
-        let e : min (length ns / 4) (length fs) ≡ length ns / 4 = omega arith in
-        e ∙ sym (rows_by_fours ns fs (length ns / 4) (omega arith) (omega arith) (omega arith))
-    go false x y =
-        let few = y tt in
-        let e : min (length ns / 4) (length fs) ≡ length fs = omega arith in
-        e ∙ sym (rows_by_flags ns fs (omega arith))
 
 -- none where the numbers make no row, or there is no flag
 none_whole : (ns : List Float) (fs : List ℕ) → length ns < 4 → rows_of ns fs ≡ []

@@ -1,8 +1,8 @@
 -- What Answer can rely on where none of its refusals holds, how a round ends, and what is entered. Assumes nothing.
-use Rattle.std.specs.Prelude.{ℕ, zero, suc, ◌+◌, ◌-◌, ◌≤◌, ◌<◌, ◌≡◌, refl, Bool, true, false, not, ◌&&◌, cond, List, [], ◌∷◌, ltb, eqb, length, Float, Some, None, Result, Ok, Err, ⊤}
+use Rattle.std.specs.Prelude.{ℕ, zero, suc, ◌+◌, ◌-◌, ◌≤◌, ◌<◌, ◌≡◌, refl, true, false, not, ◌&&◌, List, [], ◌∷◌, ltb, length, Float, Some, None, Result, Ok, Err, ⊤}
 use Rattle.std.proofs.lemmas.Option.{none-some, same_Some}
 use Rattle.std.proofs.Common.{sym, ap, ◌∙◌, arith}
-use borrow.Author.Tests.{ltb-false, eqb-true, not-false, lt-ltb, le-ltb}
+use borrow.Author.Tests.{ltb-false, not-false, lt-ltb, le-ltb}
 use Rattle.common.specs.Tests.{case, both_true}
 use Rattle.common.specs.declared.Refusal.{Refusal}
 use Rattle.common.specs.declared.Refusal.TheVariants.{NoSeedWaits, ShortList}
@@ -19,14 +19,6 @@ use Rattle.score_best.specs.declared.Candidate.{Candidate}
 use Rattle.search_record.specs.Record.{sound, entered, next_step, round_opened, ended}
 use Rattle.search_answer.specs.Answer.{Left, left, run_refusal, answer_refusal, next_seeds, open_round, close_round, enter_def, outcome_for, reply_of, answer_def}
 use Rattle.search_record.specs.declared.run.Run.{Run}
-
--- ---- a number that is given where it isn't 0
-pub unless_zero : (n : ℕ) → cond (not (eqb n 0)) n 0 ≡ n
-unless_zero n = go (eqb n 0) refl
-  where
-    go : (b : Bool) → eqb n 0 ≡ b → cond (not (eqb n 0)) n 0 ≡ n
-    go true h = rw h (sym (eqb-true n 0 h))
-    go false h = rw h
 
 -- ---- the seeds at the next round's step are its list
 pub next_seeds_are : (r : Run) (c : Candidate) (s : Float) (l m : List Float) (n : ℕ) → s ≡ next_step r

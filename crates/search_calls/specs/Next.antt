@@ -23,11 +23,6 @@ next_checks r n =
 abbrev pub next_refusal : Run → ℕ → Result ⊤ Refusal
 next_refusal r n = first_refusal (next_checks r n)
 
--- the reply: a refusal, Over, or the next candidate's number
-abbrev pub reply_by : Result ⊤ Refusal → Bool → ℕ → Result Handed Refusal
-reply_by (Ok _) over number = Ok (cond over Over (Candidate number))
-reply_by (Err refusal) over number = Err refusal
-
 -- The list's next seed is handed out under the next number, and the run keeps its six numbers. Once the run is over
 -- with a winner, the reply is Over. A refused Next leaves the run.
 unfoldable pub next_def : Run → List Float → Reply Handed

@@ -1,6 +1,6 @@
 -- What Next and the seed call can rely on: the seed in place lies within the list. And how Next goes. Assumes nothing.
-use Rattle.std.specs.Prelude.{ℕ, ◌+◌, ◌*◌, ◌≤◌, ◌≡◌, refl, true, false, not, ◌&&◌, cond, List, leb, ltb, length, Float, Result, Ok, Err, ⊤}
-use Rattle.std.proofs.Common.{sym, ap, ◌∙◌, leb-true, ltb-false}
+use Rattle.std.specs.Prelude.{ℕ, ◌+◌, ◌*◌, ◌≤◌, ◌≡◌, true, false, not, ◌&&◌, cond, List, leb, ltb, length, Float, Result, Ok, Err, ⊤}
+use Rattle.std.proofs.Common.{ap, ◌∙◌, leb-true, ltb-false}
 use Rattle.std.proofs.lemmas.Bool.{not-false}
 use Rattle.common.specs.declared.Refusal.{Refusal}
 use Rattle.common.specs.declared.Refusal.TheVariants.{NothingScored, SeedWaits, ShortList}
@@ -9,7 +9,7 @@ use Rattle.common.specs.ChecksLaws.{refuses_none}
 use Rattle.seed_rules.specs.Layout.{seed_at}
 use Rattle.search_record.specs.Record.{sound, awaiting}
 use Rattle.search_record.specs.Laws.{bounds, open_at, waiting_at, in_list}
-use Rattle.search_calls.specs.Next.{next_refusal, reply_by, next_def, seed_lent}
+use Rattle.search_calls.specs.Next.{next_refusal, next_def, seed_lent}
 use Rattle.search_calls.specs.declared.next.Handed.TheVariants.{Candidate, Over}
 use Rattle.search_record.specs.declared.run.Run.{Run}
 
@@ -45,12 +45,6 @@ module _ (r : Run) (l : List Float) where
   pub next_hands : next_refusal r (length l) ≡ Ok tt → r.place.over ≡ false
       → next_def r l ≡ record { reply = Ok (Candidate r.place.number); run = awaiting r (seed_at l r.place.at) }
   next_hands h o = by (Ok tt) h ∙ rw o
-
-  -- otherwise the run stays as it is
-  pub next_keeps : (x : Result ⊤ Refusal) → x ≡ next_refusal r (length l) → (x ≡ Ok tt → r.place.over ≡ true)
-      → next_def r l ≡ record { reply = reply_by x r.place.over r.place.number; run = r }
-  next_keeps (Ok _) is h = let o : r.place.over ≡ true = h refl in next_over (sym is) o ∙ rw o
-  next_keeps (Err e) is h = next_refused e (sym is)
 
 pub seed_in_list : (r : Run) (n : ℕ) → seed_lent r n ≡ true → 6 * r.place.at + 6 ≤ n
 unfolding seed_lent

@@ -59,10 +59,6 @@ first_five false false false true e p q r s t rest = refl
 first_five false false false false true p q r s t rest = refl
 first_five false false false false false p q r s t rest = refl
 
-neither : (r l : Result ⊤ Refusal) → ◌≡◌ {A = Result ⊤ Refusal} (elim r [ Ok _ ↦ l | Err refusal ↦ Err refusal ]) (Ok tt) → (r ≡ Ok tt) × (l ≡ Ok tt)
-neither (Ok _) l h = (refl, h)
-neither (Err e) l h = cc
-
 -- ---- checks in front of others: their refusal where they refuse, else the others'
 refused_first : (cs ds : List Check) (e : Refusal) → first_refusal cs ≡ Err e → first_refusal (cs ++ ds) ≡ Err e
 refused_first [] ds e h = cc

@@ -56,36 +56,6 @@ module _ {A : Type 0} (of : ScheimpflugParams → A) (max : Float) (f : Float �
       ∙ within_append of max (pairs (map f (take i ds)) ys) (pairs (x ∷ []) ys)
       ∙ ap (λ (zs : List ScheimpflugParams). entries_within of max (pairs (map f (take i ds)) ys) ++ entries_within of max zs) (pairs_one x ys)
 
--- ---- one more of the typed tilts, and one more of the offsets
-pub row_more : (max x : Float) (ys : List Float) (j : ℕ) → j < length ys
-    → keep (in_bound max) (map (tilts x) (take (suc j) ys)) ≡ keep (in_bound max) (map (tilts x) (take j ys)) ++ keep (in_bound max) (tilts x (get_or ys j nan) ∷ [])
-row_more max x ys j h =
-    ap (keep (in_bound max)) (along_more (tilts x) ys j h)
-    ∙ keep_append (in_bound max) (map (tilts x) (take j ys)) (tilts x (get_or ys j nan) ∷ [])
-
-pub grid_more : (max : Float) (xs ys : List Float) (i : ℕ) → i < length xs
-    → keep (in_bound max) (pairs (take (suc i) xs) ys) ≡ keep (in_bound max) (pairs (take i xs) ys) ++ keep (in_bound max) (map (tilts (get_or xs i nan)) ys)
-grid_more max xs ys i h =
-    let x = get_or xs i nan in
-    ap (λ (zs : List Float). keep (in_bound max) (pairs zs ys)) (take-suc xs i nan h)
-    ∙ ap (keep (in_bound max)) (pairs_append (take i xs) (x ∷ []) ys)
-    ∙ keep_append (in_bound max) (pairs (take i xs) ys) (pairs (x ∷ []) ys)
-    ∙ ap (λ (zs : List ScheimpflugParams). keep (in_bound max) (pairs (take i xs) ys) ++ keep (in_bound max) zs) (pairs_one x ys)
-
-moved_more : (centre : Float) (ds : List Float) (j : ℕ) → j < length ds → moved centre (take (suc j) ds) ≡ moved centre (take j ds) ++ ((centre +₆₄ get_or ds j nan) ∷ [])
-moved_more centre ds j h = along_more (λ d. centre +₆₄ d) ds j h
-
-module _ (max : Float) (k : FxFyCxCy) where
-  pub local_row_more : (x centre : Float) (ds : List Float) (j : ℕ) → j < length ds
-      → seeds_within max k (map (tilts x) (moved centre (take (suc j) ds)))
-      ≡ seeds_within max k (map (tilts x) (moved centre (take j ds))) ++ seeds_within max k (tilts x (centre +₆₄ get_or ds j nan) ∷ [])
-  local_row_more x centre ds j h = axis_row_more (seed_with k) max (λ d. centre +₆₄ d) x ds j h
-
-  pub local_grid_more : (centre : Float) (ds ys : List Float) (i : ℕ) → i < length ds
-      → seeds_within max k (pairs (moved centre (take (suc i) ds)) ys)
-      ≡ seeds_within max k (pairs (moved centre (take i ds)) ys) ++ seeds_within max k (map (tilts (centre +₆₄ get_or ds i nan)) ys)
-  local_grid_more centre ds ys i h = axis_grid_more (seed_with k) max (λ d. centre +₆₄ d) ds ys i h
-
 -- ---- at most one seed for each pair
 pub grid_length : (xs ys : List Float) (max : Float) → length (seed_grid xs ys max) ≤ length xs * length ys
 unfolding seed_grid

@@ -1,30 +1,12 @@
--- Steps of the loops, for records of any width and any relation of nearness: a search from the last record back, and a merge in parts on a lent list. Assumes nothing.
-use Rattle.std.specs.Prelude.{◌≡◌, refl, Bool, true, false, ◌&&◌, cond, Some, None, is_some, List, [], ◌∷◌, ◌++◌, ℕ, suc, ◌+◌, ◌-◌, ◌*◌, ◌≤◌, ◌<◌, length, take, drop, Float}
+-- Steps of the loops, for records of any width and any relation of nearness: a merge in parts on a lent list. Assumes nothing.
+use Rattle.std.specs.Prelude.{◌≡◌, refl, Bool, true, false, is_some, List, [], ◌∷◌, ◌++◌, ℕ, ◌+◌, ◌*◌, ◌≤◌, length, drop, Float}
 use Rattle.std.proofs.Math.Path.{sym}
-use Rattle.std.proofs.Common.{ap, ◌∙◌, true≢false, zero-add, arith, length-append, length-take-le}
+use Rattle.std.proofs.Common.{ap, ◌∙◌, arith, length-append}
 use Rattle.std.proofs.lemmas.List.Edits.{sets}
 use Rattle.seed_rules.specs.Layout.{read_from, written_by, Leaves}
 use Rattle.seed_rules.specs.LayoutLaws.{Layout, read_length, read_written, written_own, written_over, stored}
 use Rattle.seed_rules.specs.Merge.{newest_near, push, merged_into}
-use Rattle.seed_rules.proofs.MergeLaws.{newest_snoc, same_kept, merged_append, merged_longer, merged_length}
-
--- ---- the search, with the first `left` records still to be looked at
-module _ {A : Type 0} (near : A → A → Bool) (ks : List A) (left : ℕ) (s : A) where
-  pub found_none : left ≡ 0 → newest_near near 0 (take left ks) s ≡ None
-  unfolding newest_near
-  found_none h = rw h
-
-  module _ (k : A) (some : 0 < left) (last : take (suc (left - 1)) ks ≡ take (left - 1) ks ++ (k ∷ [])) where
-    looks : newest_near near 0 (take left ks) s ≡ cond (near k s) (Some (0 + length (take (left - 1) ks))) (newest_near near 0 (take (left - 1) ks) s)
-    looks =
-        let e : left ≡ suc (left - 1) = omega arith in
-        ap (λ (n : ℕ). newest_near near 0 (take n ks) s) e ∙ ap (λ (l : List A). newest_near near 0 l s) last ∙ newest_snoc near 0 (take (left - 1) ks) k s
-
-    pub found_here : left ≤ length ks → near k s ≡ true → newest_near near 0 (take left ks) s ≡ Some (left - 1)
-    found_here h t = looks ∙ simp (t, length-take-le (left - 1) ks (omega arith), zero-add (left - 1))
-
-    pub found_before : near k s ≡ false → newest_near near 0 (take left ks) s ≡ newest_near near 0 (take (left - 1) ks) s
-    found_before t = looks ∙ simp t
+use Rattle.seed_rules.proofs.MergeLaws.{same_kept, merged_append, merged_longer, merged_length}
 
 -- ---- one record pushed, and the merge
 module _ {A : Type 0} {numbers : A → List Float} {first : List Float → A} {w : ℕ} (y : Layout numbers first w) (near : A → A → Bool) where
@@ -89,13 +71,3 @@ module _ {A : Type 0} {numbers : A → List Float} {first : List Float → A} {w
         few = let u = a.few in omega arith;
         same = same ∙ a.same;
       }
-
--- ---- a test that stops at its first part
-
-pub and_right : (a b : Bool) → a ≡ true → b ≡ (a && b)
-and_right true b h = refl
-and_right false b h = absurd (true≢false (sym h))
-
-pub and_left : (a b : Bool) → a ≡ false → a ≡ (a && b)
-and_left true b h = absurd (true≢false h)
-and_left false b h = refl

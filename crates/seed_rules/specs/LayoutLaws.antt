@@ -1,7 +1,7 @@
 -- Laws of records that lie in a list of numbers: what is written is read back, and what more is written to the same list. Assumes nothing.
 use Rattle.std.specs.Prelude.{◌≡◌, get_or, take, Float}
 use Rattle.std.proofs.Math.Path.{refl, sym, ap}
-use Rattle.std.proofs.Common.{◌∙◌, add-zero, mul-le-mul_left, mul-zero, take-append-drop, drop-cons, drop-drop, get_or-drop, take-add, take-suc}
+use Rattle.std.proofs.Common.{◌∙◌, mul-le-mul_left, mul-zero, take-append-drop, drop-cons, drop-drop, take-add, take-suc}
 use mathlib.Core.List.{List, [], ◌∷◌, ◌++◌, append_assoc, append-nil}
 use Prim.Native.Nat.{ℕ, zero, suc, ◌+◌, ◌*◌, ◌-◌, ◌≤◌, ◌<◌}
 use Rattle.std.proofs.Math.Nat.{mul-suc}
@@ -9,9 +9,8 @@ use native.Mathlib.Omega.{arith}
 use Rattle.std.proofs.Math.ListN.{length, drop, length-append, length-drop}
 use Rattle.std.proofs.Math.Seq.{drop_at, sets-eq}
 use Rattle.std.proofs.lemmas.List.Edits.{sets}
-use Rattle.camera_tilt.specs.declared.sensor.ScheimpflugParams.{ScheimpflugParams}
 use Rattle.seed_rules.specs.declared.CandidateSeed.{CandidateSeed}
-use Rattle.seed_rules.specs.Layout.{laid, read_from, written_by, six, flat, seed_at, seeds_of, two, tilts_at, tilts_of}
+use Rattle.seed_rules.specs.Layout.{laid, read_from, written_by, six, flat, seed_at, two, tilts_at}
 
 -- a way to lay records out, w numbers each, and to read the first one back
 pub record Layout {A : Type 0} (numbers : A → List Float) (first : List Float → A) (w : ℕ) : Type 0 where
@@ -124,20 +123,6 @@ tilts_layout = record { wide = λ t. refl; own = λ t l. refl; back = two_back }
     two_back (a ∷ b ∷ l) h = refl
 
 -- ---- the record in place i, as a loop over a list reads it
-seed_from : (l : List Float) (i : ℕ) → seed_at (drop (6 * i) l) 0 ≡ seed_at l i
-seed_from l i = simp (get_or-drop, add-zero)
 
 pub flat_length : (ss : List CandidateSeed) → length (flat ss) ≡ 6 * length ss
 flat_length ss = laid_length seeds_layout ss
-
-pub seeds_drop : (n i : ℕ) (l : List Float) → i < n → drop i (seeds_of n l) ≡ seed_at l i ∷ drop (suc i) (seeds_of n l)
-seeds_drop n i l h = read_drop (λ m. seed_at m 0) 6 n i l h ∙ ap (λ (s : CandidateSeed). s ∷ drop (suc i) (seeds_of n l)) (seed_from l i)
-
-pub seeds_take : (n i : ℕ) (l : List Float) → i < n → take (suc i) (seeds_of n l) ≡ take i (seeds_of n l) ++ (seed_at l i ∷ [])
-seeds_take n i l h = read_take (λ m. seed_at m 0) 6 n i l h ∙ ap (λ (s : CandidateSeed). take i (seeds_of n l) ++ (s ∷ [])) (seed_from l i)
-
-tilts_from : (l : List Float) (i : ℕ) → tilts_at (drop (2 * i) l) 0 ≡ tilts_at l i
-tilts_from l i = simp (get_or-drop, add-zero)
-
-pub tilts_take : (n i : ℕ) (l : List Float) → i < n → take (suc i) (tilts_of n l) ≡ take i (tilts_of n l) ++ (tilts_at l i ∷ [])
-tilts_take n i l h = read_take (λ m. tilts_at m 0) 2 n i l h ∙ ap (λ (t : ScheimpflugParams). take i (tilts_of n l) ++ (t ∷ [])) (tilts_from l i)
