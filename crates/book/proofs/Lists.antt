@@ -10,25 +10,25 @@ use Rattle.score_floor.specs.Floor.{seeds_from, seeds_between}
 use Rattle.book.specs.Book.{no_seed}
 
 -- ---- the seeds in the list
-past : (s : CandidateSeed) (ys : List Float) (k j : ℕ) → get_or (six s ++ ys) (6 * suc k + j) nan ≡ get_or ys (6 * k + j) nan
-past s ys k j = let e : 6 * suc k + j ≡ 6 + (6 * k + j) = omega arith in rw e (get_or-append-add (six s) ys (6 * k + j) nan)
+get_or_past_first_seed : (s : CandidateSeed) (ys : List Float) (k j : ℕ) → get_or (six s ++ ys) (6 * suc k + j) nan ≡ get_or ys (6 * k + j) nan
+get_or_past_first_seed s ys k j = let e : 6 * suc k + j ≡ 6 + (6 * k + j) = omega arith in rw e (get_or-append-add (six s) ys (6 * k + j) nan)
 
-past₀ : (s : CandidateSeed) (ys : List Float) (k : ℕ) → get_or (six s ++ ys) (6 * suc k) nan ≡ get_or ys (6 * k) nan
-past₀ s ys k = let e : 6 * suc k ≡ 6 + 6 * k = omega arith in rw e (get_or-append-add (six s) ys (6 * k) nan)
+get_or_past_first_seed_start : (s : CandidateSeed) (ys : List Float) (k : ℕ) → get_or (six s ++ ys) (6 * suc k) nan ≡ get_or ys (6 * k) nan
+get_or_past_first_seed_start s ys k = let e : 6 * suc k ≡ 6 + 6 * k = omega arith in rw e (get_or-append-add (six s) ys (6 * k) nan)
 
-pub seed_at_lem : (ss : List CandidateSeed) (t : List Float) (k : ℕ) → k < length ss → seed_at (flat ss ++ t) k ≡ get_or ss k no_seed
+pub seed_at_of_flat : (ss : List CandidateSeed) (t : List Float) (k : ℕ) → k < length ss → seed_at (flat ss ++ t) k ≡ get_or ss k no_seed
 unfolding laid
-seed_at_lem [] t k h = absurd (omega arith)
-seed_at_lem (s ∷ ss) t zero h = refl
-seed_at_lem (s ∷ ss) t (suc k) h = simp (past s (flat ss ++ t) k, past₀ s (flat ss ++ t) k) (seed_at_lem ss t k (omega arith))
+seed_at_of_flat [] t k h = absurd (omega arith)
+seed_at_of_flat (s ∷ ss) t zero h = refl
+seed_at_of_flat (s ∷ ss) t (suc k) h = simp (get_or_past_first_seed s (flat ss ++ t) k, get_or_past_first_seed_start s (flat ss ++ t) k) (seed_at_of_flat ss t k (omega arith))
 
-pub part_at : (ss : List CandidateSeed) (t : List Float) (k : ℕ) → k < length ss → take 6 (drop (6 * k) (flat ss ++ t)) ≡ six (get_or ss k no_seed)
+pub six_of_flat : (ss : List CandidateSeed) (t : List Float) (k : ℕ) → k < length ss → take 6 (drop (6 * k) (flat ss ++ t)) ≡ six (get_or ss k no_seed)
 unfolding laid
-part_at [] t k h = absurd (omega arith)
-part_at (s ∷ ss) t zero h = refl
-part_at (s ∷ ss) t (suc k) h =
+six_of_flat [] t k h = absurd (omega arith)
+six_of_flat (s ∷ ss) t zero h = refl
+six_of_flat (s ∷ ss) t (suc k) h =
     let e : 6 * suc k ≡ 6 + 6 * k = omega arith in
-    rw (e, drop-append-add (six s) (flat ss ++ t) (6 * k)) (part_at ss t k (omega arith))
+    rw (e, drop-append-add (six s) (flat ss ++ t) (6 * k)) (six_of_flat ss t k (omega arith))
 
 -- ---- the seeds ss stand in front of l, which has at least `demand` numbers
 pub record Front (demand : ℕ) (ss : List CandidateSeed) (l : List Float) : Type 0 where
@@ -37,21 +37,21 @@ pub record Front (demand : ℕ) (ss : List CandidateSeed) (l : List Float) : Typ
   pub long : demand ≤ length l
   pub fits : 6 * length ss ≤ demand
 
-take_front : (xs ys : List Float) (n : ℕ) → length xs ≤ n → take n (xs ++ ys) ≡ xs ++ take (n - length xs) ys
-take_front xs ys n h =
+take_past_first_list : (xs ys : List Float) (n : ℕ) → length xs ≤ n → take n (xs ++ ys) ≡ xs ++ take (n - length xs) ys
+take_past_first_list xs ys n h =
     let e : length xs + (n - length xs) ≡ n = omega arith in
     ap (λ (m : ℕ). take m (xs ++ ys)) (sym e) ∙ take-append-add xs ys (n - length xs)
 
-pub lend : (d : ℕ) (ss : List CandidateSeed) (l : List Float) (n : ℕ) → Front d ss l → d ≤ n → Front d ss (take n l)
-lend d ss l n f h = record {
+pub front_of_lent_part : (d : ℕ) (ss : List CandidateSeed) (l : List Float) (n : ℕ) → Front d ss l → d ≤ n → Front d ss (take n l)
+front_of_lent_part d ss l n f h = record {
   tail = take (n - length (flat ss)) f.tail;
-  list_is = rw f.list_is (take_front (flat ss) f.tail n (let q = flat_length ss in let r = f.fits in omega arith));
+  list_is = rw f.list_is (take_past_first_list (flat ss) f.tail n (let q = flat_length ss in let r = f.fits in omega arith));
   long = rw length-take (let p = f.long in omega arith);
   fits = f.fits;
 }
 
-pub give_back : (d : ℕ) (ss : List CandidateSeed) (k m : List Float) → Front d ss k → Front d ss (k ++ m)
-give_back d ss k m f = record {
+pub front_of_longer_list : (d : ℕ) (ss : List CandidateSeed) (k m : List Float) → Front d ss k → Front d ss (k ++ m)
+front_of_longer_list d ss k m f = record {
   tail = f.tail ++ m;
   list_is = rw f.list_is (append_assoc (flat ss) f.tail m);
   long = rw length-append (let p = f.long in omega arith);
@@ -59,19 +59,19 @@ give_back d ss k m f = record {
 }
 
 -- the seeds from place k on, read from the lent list
-seeds_from_lem : (ss : List CandidateSeed) (t : List Float) (k n : ℕ) → k + n ≡ length ss → seeds_from (flat ss ++ t) k n ≡ drop k ss
+seeds_from_of_flat : (ss : List CandidateSeed) (t : List Float) (k n : ℕ) → k + n ≡ length ss → seeds_from (flat ss ++ t) k n ≡ drop k ss
 unfolding seeds_from
-seeds_from_lem ss t k zero h = let e : k ≡ length ss = omega arith in rw e (sym (drop-length ss))
-seeds_from_lem ss t k (suc n) h =
+seeds_from_of_flat ss t k zero h = let e : k ≡ length ss = omega arith in rw e (sym (drop-length ss))
+seeds_from_of_flat ss t k (suc n) h =
     let l : k < length ss = omega arith in
-    rw (seed_at_lem ss t k l, seeds_from_lem ss t (suc k) n (omega arith)) (sym (drop-cons ss k no_seed l))
+    rw (seed_at_of_flat ss t k l, seeds_from_of_flat ss t (suc k) n (omega arith)) (sym (drop-cons ss k no_seed l))
 
-pub seeds_there : {d : ℕ} (ss : List CandidateSeed) (l : List Float) (k : ℕ) → Front d ss l → k ≤ length ss → seeds_between l k (length ss) ≡ drop k ss
-seeds_there ss l k f h = rw f.list_is (seeds_from_lem ss f.tail k (length ss - k) (omega arith))
+pub seeds_between_of_front : {d : ℕ} (ss : List CandidateSeed) (l : List Float) (k : ℕ) → Front d ss l → k ≤ length ss → seeds_between l k (length ss) ≡ drop k ss
+seeds_between_of_front ss l k f h = rw f.list_is (seeds_from_of_flat ss f.tail k (length ss - k) (omega arith))
 
 -- writing a list puts it in front
-pub write_front : (d : ℕ) (ts : List CandidateSeed) (l : List Float) → d ≤ length l → 6 * length ts ≤ d → Front d ts (written ts l)
-write_front d ts l h k =
+pub front_of_written : (d : ℕ) (ts : List CandidateSeed) (l : List Float) → d ≤ length l → 6 * length ts ≤ d → Front d ts (written ts l)
+front_of_written d ts l h k =
     let q = flat_length ts in
     record {
       tail = drop (6 * length ts) l;
@@ -80,13 +80,13 @@ write_front d ts l h k =
       fits = k;
     }
 
-pub no_front : (d : ℕ) (ss : List CandidateSeed) (l : List Float) → Front d ss l → Front d [] l
+pub front_of_no_seeds : (d : ℕ) (ss : List CandidateSeed) (l : List Float) → Front d ss l → Front d [] l
 unfolding laid
-no_front d ss l f = record { tail = l; list_is = refl; long = f.long; fits = omega arith }
+front_of_no_seeds d ss l f = record { tail = l; list_is = refl; long = f.long; fits = omega arith }
 
 -- Of a long enough list, a front of n numbers is too short exactly where n is.
-pub short : (d : ℕ) (l : List Float) (n : ℕ) → d ≤ length l → ltb (length (take n l)) d ≡ ltb n d
-short d l n h = go (ltb n d) refl
+pub lent_part_too_short : (d : ℕ) (l : List Float) (n : ℕ) → d ≤ length l → ltb (length (take n l)) d ≡ ltb n d
+lent_part_too_short d l n h = go (ltb n d) refl
   where
     go : (x : Bool) → ltb n d ≡ x → ltb (length (take n l)) d ≡ x
     go true e = lt-ltb (length (take n l)) d (rw length-take (let p = ltb-true n d e in omega arith))

@@ -13,78 +13,78 @@ use Rattle.book.specs.Book.{Inputs, Entry, Book, entries, round_best_of, run_bes
 use Rattle.book.specs.Rounds.{of_round, up_to, centre_of}
 use Rattle.book.proofs.Planned.{Planned}
 
-pub data Made (b : Book) : Type 0 where
-  first : b.round ≡ 0 → Made b
-  later : (w : Candidate) → centre_of b.round b.earlier ≡ chosen w → b.list ≡ list_around b.inputs b.round w → Made b
+pub data ListByRule (b : Book) : Type 0 where
+  first : b.round ≡ 0 → ListByRule b
+  later : (w : Candidate) → centre_of b.round b.earlier ≡ chosen w → b.list ≡ list_around b.inputs b.round w → ListByRule b
 
 -- ---- the entries of a book by their rounds
 module _ (r : ℕ) (es : List Entry) where
   -- entries of rounds before r, of round r, and of the round after it
-  pub none_of : All (λ e. e.round < r) es → of_round r es ≡ []
-  none_of h = keep_none (λ e. eqb e.round r) es (all_map (λ e. e.round < r) (λ e. eqb e.round r ≡ false) (λ e p. ne_eqb e.round r (λ q. omega arith)) es h)
+  pub of_round_none : All (λ e. e.round < r) es → of_round r es ≡ []
+  of_round_none h = keep_none (λ e. eqb e.round r) es (all_map (λ e. e.round < r) (λ e. eqb e.round r ≡ false) (λ e p. ne_eqb e.round r (λ q. omega arith)) es h)
 
-  pub all_of : All (λ e. e.round ≡ r) es → of_round r es ≡ es
-  all_of h = keep_whole (λ e. eqb e.round r) es (all_map (λ e. e.round ≡ r) (λ e. eqb e.round r ≡ true) (λ e p. eq-eqb e.round r p) es h)
+  pub of_round_all : All (λ e. e.round ≡ r) es → of_round r es ≡ es
+  of_round_all h = keep_whole (λ e. eqb e.round r) es (all_map (λ e. e.round ≡ r) (λ e. eqb e.round r ≡ true) (λ e p. eq-eqb e.round r p) es h)
 
-  pub all_to : All (λ e. e.round < suc r) es → up_to r es ≡ es
-  all_to h = keep_whole (λ e. leb e.round r) es (all_map (λ e. e.round < suc r) (λ e. leb e.round r ≡ true) (λ e p. le-leb e.round r (omega arith)) es h)
+  pub up_to_all : All (λ e. e.round < suc r) es → up_to r es ≡ es
+  up_to_all h = keep_whole (λ e. leb e.round r) es (all_map (λ e. e.round < suc r) (λ e. leb e.round r ≡ true) (λ e p. le-leb e.round r (omega arith)) es h)
 
-  none_behind : All (λ e. e.round ≡ suc r) es → (of_round r es ≡ []) × (up_to r es ≡ [])
-  none_behind h = (
+  next_round_not_among : All (λ e. e.round ≡ suc r) es → (of_round r es ≡ []) × (up_to r es ≡ [])
+  next_round_not_among h = (
     keep_none (λ e. eqb e.round r) es (all_map (λ e. e.round ≡ suc r) (λ e. eqb e.round r ≡ false) (λ e p. ne_eqb e.round r (λ q. omega arith)) es h),
     keep_none (λ e. leb e.round r) es (all_map (λ e. e.round ≡ suc r) (λ e. leb e.round r ≡ false) (λ e p. lt-leb e.round r (omega arith)) es h),
   )
 
 -- all entries are of rounds up to this one
-pub so_far : (b : Book) → Planned b → All (λ e. e.round < suc b.round) (entries b)
-so_far b h =
+pub entries_up_to_this_round : (b : Book) → Planned b → All (λ e. e.round < suc b.round) (entries b)
+entries_up_to_this_round b h =
     all_append (λ e. e.round < suc b.round) b.earlier b.answered
     (all_map (λ e. e.round < b.round) (λ e. e.round < suc b.round) (λ e p. omega arith) b.earlier h.past)
     (all_map (λ e. e.round ≡ b.round) (λ e. e.round < suc b.round) (λ e p. omega arith) b.answered h.this)
 
-this_round : (b : Book) → Planned b → of_round b.round (entries b) ≡ b.answered
-this_round b h =
+entries_of_this_round : (b : Book) → Planned b → of_round b.round (entries b) ≡ b.answered
+entries_of_this_round b h =
     keep_append (λ e. eqb e.round b.round) b.earlier b.answered
-    ∙ rw (none_of b.round b.earlier h.past, all_of b.round b.answered h.this)
+    ∙ rw (of_round_none b.round b.earlier h.past, of_round_all b.round b.answered h.this)
 
 -- The answers of round r don't change the candidate that its list lies around.
-same_centre : (r : ℕ) (es ds : List Entry) → All (λ e. e.round ≡ r) ds → centre_of r (es ++ ds) ≡ centre_of r es
+centre_kept_by_own_round : (r : ℕ) (es ds : List Entry) → All (λ e. e.round ≡ r) ds → centre_of r (es ++ ds) ≡ centre_of r es
 unfolding centre_of
-same_centre zero es ds h = refl
-same_centre (suc r) es ds h =
-    let n = none_behind r ds h in
+centre_kept_by_own_round zero es ds h = refl
+centre_kept_by_own_round (suc r) es ds h =
+    let n = next_round_not_among r ds h in
     let x : of_round r (es ++ ds) ≡ of_round r es = keep_append (λ e. eqb e.round r) es ds ∙ rw n.0 (append-nil (of_round r es)) in
     let y : up_to r (es ++ ds) ≡ up_to r es = keep_append (λ e. leb e.round r) es ds ∙ rw n.1 (append-nil (up_to r es)) in
     rw (x, y)
 
 -- ---- the steps that keep it
-pub await_made : (b : Book) → Made b → Made (with_waiting b)
+pub waiting_keeps_list_by_rule : (b : Book) → ListByRule b → ListByRule (with_waiting b)
 unfolding with_waiting
-await_made b (first z) = first z
-await_made b (later w c e) = later w c e
+waiting_keeps_list_by_rule b (first z) = first z
+waiting_keeps_list_by_rule b (later w c e) = later w c e
 
-pub end_made : (b : Book) → Made b → Made (with_end b)
+pub end_keeps_list_by_rule : (b : Book) → ListByRule b → ListByRule (with_end b)
 unfolding with_end
-end_made b (first z) = first z
-end_made b (later w c e) = later w c e
+end_keeps_list_by_rule b (first z) = first z
+end_keeps_list_by_rule b (later w c e) = later w c e
 
-pub entry_made : (b : Book) (o : Outcome) → Made b → Made (with_entry b o)
+pub entry_keeps_list_by_rule : (b : Book) (o : Outcome) → ListByRule b → ListByRule (with_entry b o)
 unfolding with_entry
-entry_made b o (first z) = first z
-entry_made b o (later w c e) = later w c e
+entry_keeps_list_by_rule b o (first z) = first z
+entry_keeps_list_by_rule b o (later w c e) = later w c e
 
-centre_after : (b : Book) → Planned b → centre_of (suc b.round) (entries b) ≡ or_else (round_best_of b) (run_best_of b)
+next_centre_is_best : (b : Book) → Planned b → centre_of (suc b.round) (entries b) ≡ or_else (round_best_of b) (run_best_of b)
 unfolding centre_of round_best_of run_best_of
-centre_after b h = rw (this_round b h, all_to b.round (entries b) (so_far b h))
+next_centre_is_best b h = rw (entries_of_this_round b h, up_to_all b.round (entries b) (entries_up_to_this_round b h))
 
-pub open_made : (b : Book) (w : Candidate) (ss : List CandidateSeed) → Planned b → or_else (round_best_of b) (run_best_of b) ≡ chosen w → list_around b.inputs (suc b.round) w ≡ ss
-    → Made (with_round b ss)
+pub next_round_list_by_rule : (b : Book) (w : Candidate) (ss : List CandidateSeed) → Planned b → or_else (round_best_of b) (run_best_of b) ≡ chosen w → list_around b.inputs (suc b.round) w ≡ ss
+    → ListByRule (with_round b ss)
 unfolding with_round
-open_made b w ss h c q = later w (centre_after b h ∙ c) (sym q)
+next_round_list_by_rule b w ss h c q = later w (next_centre_is_best b h ∙ c) (sym q)
 
-pub made_opened : (i : Inputs) → Made (opened i)
+pub opened_list_by_rule : (i : Inputs) → ListByRule (opened i)
 unfolding opened
-made_opened i = first refl
+opened_list_by_rule i = first refl
 
 -- ---- a later round
 pub record Around (b : Book) : Type 0 where
@@ -92,6 +92,6 @@ pub record Around (b : Book) : Type 0 where
   pub is_best : centre_of b.round (entries b) ≡ chosen centre
   pub list_is : b.list ≡ list_around b.inputs b.round centre
 
-pub around : (b : Book) → Planned b → Made b → 0 < b.round → Around b
-around b h (first z) p = absurd (omega arith)
-around b h (later w c e) p = record { centre = w; is_best = same_centre b.round b.earlier b.answered h.this ∙ c; list_is = e }
+pub later_list_around_centre : (b : Book) → Planned b → ListByRule b → 0 < b.round → Around b
+later_list_around_centre b h (first z) p = absurd (omega arith)
+later_list_around_centre b h (later w c e) p = record { centre = w; is_best = centre_kept_by_own_round b.round b.earlier b.answered h.this ∙ c; list_is = e }

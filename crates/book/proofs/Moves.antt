@@ -14,7 +14,7 @@ use Rattle.score_outcome.proofs.Facts.{scored_facts}
 use Rattle.score_best.specs.declared.Candidate.{Candidate}
 use Rattle.score_best.specs.Best.{nothing, chosen}
 use Rattle.book.specs.Calls.{Call, next, seed, answer, ask, progress, stop, last, counts}
-use Rattle.book.specs.Book.{Inputs, demand, Entry, Book, entries, number, current, round_best_of, run_best_of, or_else, list_around, with_waiting, with_entry, with_round, with_end, close_round, book_enter, book_outcome, Kept, book_next, book_seed, book_answer, book_result, book_progress, book_stop, book_call, after, book_last, book_counts}
+use Rattle.book.specs.Book.{Inputs, demand, Entry, Book, entries, number, current, round_best_of, run_best_of, or_else, list_around, with_waiting, with_entry, with_round, with_end, close_round, book_enter, book_outcome, BookLeft, book_next, book_seed, book_answer, book_result, book_progress, book_stop, book_call, after, book_last, book_counts}
 use Rattle.book.proofs.Cases.{case_chosen, case_list, case_result}
 
 -- the waiting candidate's entry
@@ -41,9 +41,9 @@ pub record Closing (P : ℕ → Book → Type 0) (Q : Book → Type 0) : Type 0 
       → list_around b.inputs (suc b.round) w ≡ s ∷ ss → P (suc k) b → Q (with_round b (s ∷ ss))
 
 module _ {P : ℕ → Book → Type 0} {Q : Book → Type 0} (c : Closing P Q) where
-  close_more : (k : ℕ) → ((b : Book) → P k b → Q (close_round k b)) → (b : Book) → P (suc k) b → Q (close_round (suc k) b)
+  close_round_by_suc : (k : ℕ) → ((b : Book) → P k b → Q (close_round k b)) → (b : Book) → P (suc k) b → Q (close_round (suc k) b)
   unfolding close_round
-  close_more k ih b h =
+  close_round_by_suc k ih b h =
       case_chosen (or_else (round_best_of b) (run_best_of b))
       (λ e. simp (close_round, e) (c.ends (suc k) b (inr e) h))
       (λ w e.
@@ -51,43 +51,43 @@ module _ {P : ℕ → Book → Type 0} {Q : Book → Type 0} (c : Closing P Q) w
       (λ q. simp (close_round, e, q) (ih (with_round b []) (c.skips k b w e q h)))
       (λ s ss q. simp (close_round, e, q) (c.opens k b w s ss e q h)))
 
-  pub close_by : (k : ℕ) (b : Book) → P k b → Q (close_round k b)
+  pub close_round_by : (k : ℕ) (b : Book) → P k b → Q (close_round k b)
   unfolding close_round
-  close_by zero b h = c.ends zero b (inl refl) h
-  close_by (suc k) b h = close_more k (close_by k) b h
+  close_round_by zero b h = c.ends zero b (inl refl) h
+  close_round_by (suc k) b h = close_round_by_suc k (close_round_by k) b h
 
 -- entering an outcome: the round goes on, or ends with its last seed
-pub enter_by : (Q : Book → Type 0) (b : Book) (o : Outcome)
+pub enter_by_round_end : (Q : Book → Type 0) (b : Book) (o : Outcome)
     → (ltb (length (with_entry b o).answered) (length (with_entry b o).list) ≡ true → Q (with_entry b o))
     → (ltb (length (with_entry b o).answered) (length (with_entry b o).list) ≡ false → Q (close_round ((with_entry b o).inputs.rounds - (with_entry b o).round) (with_entry b o)))
     → Q (book_enter b o)
 unfolding book_enter
-enter_by Q b o f g = case (ltb (length (with_entry b o).answered) (length (with_entry b o).list)) (λ e. simp e (f e)) (λ e. simp e (g e))
+enter_by_round_end Q b o f g = case (ltb (length (with_entry b o).answered) (length (with_entry b o).list)) (λ e. simp e (f e)) (λ e. simp e (g e))
 
 -- ---- the entries, and that no seed waits
-abbrev Holds : List Entry → Book → Type 0
-Holds es b = (entries b ≡ es) × (b.waits ≡ false)
+abbrev HasEntries : List Entry → Book → Type 0
+HasEntries es b = (entries b ≡ es) × (b.waits ≡ false)
 
-closing_holds : (es : List Entry) → Closing (λ k b. entries b ≡ es) (Holds es)
+closing_keeps_entries : (es : List Entry) → Closing (λ k b. entries b ≡ es) (HasEntries es)
 unfolding with_end with_round
-closing_holds es = record {
+closing_keeps_entries es = record {
   ends = λ k b r h. (h, refl);
   skips = λ k b w e q h. append-nil (entries b) ∙ h;
   opens = λ k b w s ss e q h. (append-nil (entries b) ∙ h, refl);
 }
 
-entry_holds : (b : Book) (o : Outcome) → Holds (entries b ++ entry b o ∷ []) (with_entry b o)
+entry_adds_entry : (b : Book) (o : Outcome) → HasEntries (entries b ++ entry b o ∷ []) (with_entry b o)
 unfolding with_entry
-entry_holds b o = (sym (append_assoc b.earlier b.answered (entry b o ∷ [])), refl)
+entry_adds_entry b o = (sym (append_assoc b.earlier b.answered (entry b o ∷ [])), refl)
 
-pub enter_holds : (b : Book) (o : Outcome) → Holds (entries b ++ entry b o ∷ []) (book_enter b o)
-enter_holds b o =
+pub enter_adds_entry : (b : Book) (o : Outcome) → HasEntries (entries b ++ entry b o ∷ []) (book_enter b o)
+enter_adds_entry b o =
     let es = entries b ++ entry b o ∷ [] in
-    enter_by (Holds es) b o (λ e. entry_holds b o) (λ e. close_by (closing_holds es) ((with_entry b o).inputs.rounds - (with_entry b o).round) (with_entry b o) (entry_holds b o).0)
+    enter_by_round_end (HasEntries es) b o (λ e. entry_adds_entry b o) (λ e. close_round_by (closing_keeps_entries es) ((with_entry b o).inputs.rounds - (with_entry b o).round) (with_entry b o) (entry_adds_entry b o).0)
 
-pub await_holds : (b : Book) → (entries (with_waiting b) ≡ entries b) × ((with_waiting b).waits ≡ true)
+pub waiting_keeps_entries : (b : Book) → (entries (with_waiting b) ≡ entries b) × ((with_waiting b).waits ≡ true)
 unfolding with_waiting
-await_holds b = (refl, refl)
+waiting_keeps_entries b = (refl, refl)
 
 -- ---- a call
 -- the entries that a call adds
@@ -106,21 +106,21 @@ entered_by b (stop n) = []
 entered_by b last = []
 entered_by b counts = []
 
-pub data Moves (b : Book) (c : Call) (k : Kept) : Type 0 where
+pub data Moves (b : Book) (c : Call) (k : BookLeft) : Type 0 where
   stays : k.book ≡ b → entered_by b c ≡ [] → Moves b c k
   hands : b.over ≡ false → b.waits ≡ false → k.book ≡ with_waiting b → entered_by b c ≡ [] → Moves b c k
   enters : (o : Outcome) → b.waits ≡ true → Stands b.inputs (current b).sensor o → k.book ≡ book_enter b o → entered_by b c ≡ entry b o ∷ [] → Moves b c k
 
-pub moves : (b : Book) (c : Call) → Moves b c (book_call b c)
+pub call_moves : (b : Book) (c : Call) → Moves b c (book_call b c)
 unfolding book_call book_next book_seed book_answer book_result book_progress book_stop entered_by book_last book_counts
-moves b (next n) =
+call_moves b (next n) =
     case b.waits (λ w. simp w (stays refl refl)) (λ w.
     case (ltb n (demand b.inputs)) (λ s. simp (w, s) (stays refl refl)) (λ s.
     case b.over
     (λ o. case_chosen (run_best_of b) (λ e. simp (w, s, o, e) (stays refl refl)) (λ v e. simp (w, s, o, e) (stays refl refl)))
     (λ o. simp (w, s, o) (hands o w refl refl))))
-moves b (seed n) = stays refl refl
-moves b (answer n f rows flags) =
+call_moves b (seed n) = stays refl refl
+call_moves b (answer n f rows flags) =
     case b.waits
     (λ w. case (ltb n (demand b.inputs))
     (λ s. simp (w, s) (stays refl (simp (w, s))))
@@ -128,20 +128,20 @@ moves b (answer n f rows flags) =
     (λ u z. simp (w, s, z) (enters (book_outcome b f rows flags) w (outcome_stands b.inputs f (current b).sensor rows flags) refl (simp (w, s, z))))
     (λ u z. simp (w, s, z) (stays refl (simp (w, s, z))))))
     (λ w. simp w (stays refl (simp w)))
-moves b ask = case b.over (λ o. case_chosen (run_best_of b) (λ e. simp (o, e) (stays refl refl)) (λ v e. simp (o, e) (stays refl refl))) (λ o. simp o (stays refl refl))
-moves b progress = stays refl refl
-moves b (stop n) = case (ltb n (demand b.inputs)) (λ s. simp s (stays refl refl)) (λ s. simp s (stays refl refl))
-moves b last = stays refl refl
-moves b counts = stays refl refl
+call_moves b ask = case b.over (λ o. case_chosen (run_best_of b) (λ e. simp (o, e) (stays refl refl)) (λ v e. simp (o, e) (stays refl refl))) (λ o. simp o (stays refl refl))
+call_moves b progress = stays refl refl
+call_moves b (stop n) = case (ltb n (demand b.inputs)) (λ s. simp s (stays refl refl)) (λ s. simp s (stays refl refl))
+call_moves b last = stays refl refl
+call_moves b counts = stays refl refl
 
 -- so the entries only grow
-pub grows : (b : Book) (c : Call) → entries (book_call b c).book ≡ entries b ++ entered_by b c
-grows b c = go (book_call b c) (moves b c)
+pub call_adds_entries : (b : Book) (c : Call) → entries (book_call b c).book ≡ entries b ++ entered_by b c
+call_adds_entries b c = go (book_call b c) (call_moves b c)
   where
-    go : (k : Kept) → Moves b c k → entries k.book ≡ entries b ++ entered_by b c
+    go : (k : BookLeft) → Moves b c k → entries k.book ≡ entries b ++ entered_by b c
     go k (stays e n) = rw (e, n) (sym (append-nil (entries b)))
-    go k (hands o w e n) = rw (e, n) ((await_holds b).0 ∙ sym (append-nil (entries b)))
-    go k (enters o w s e n) = rw (e, n) (enter_holds b o).0
+    go k (hands o w e n) = rw (e, n) ((waiting_keeps_entries b).0 ∙ sym (append-nil (entries b)))
+    go k (enters o w s e n) = rw (e, n) (enter_adds_entry b o).0
 
 -- ---- what Next and Answer keep holds after any calls
 pub record Steps (Q : Book → Type 0) : Type 0 where
@@ -150,15 +150,15 @@ pub record Steps (Q : Book → Type 0) : Type 0 where
   pub enters_by : (b : Book) (o : Outcome) → b.over ≡ false → Stands b.inputs (current b).sensor o → Q b → Q (book_enter b o)
 
 module _ {Q : Book → Type 0} (s : Steps Q) where
-  pub call_by : (b : Book) (c : Call) → Q b → Q (book_call b c).book
-  call_by b c q = go (book_call b c) (moves b c)
+  pub call_keeps : (b : Book) (c : Call) → Q b → Q (book_call b c).book
+  call_keeps b c q = go (book_call b c) (call_moves b c)
     where
-      go : (k : Kept) → Moves b c k → Q k.book
+      go : (k : BookLeft) → Moves b c k → Q k.book
       go k (stays e n) = rw e q
       go k (hands o w e n) = rw e (s.awaits b o q)
       go k (enters o w t e n) = rw e (s.enters_by b o (s.calm b q w) t q)
 
-  pub after_by : (b : Book) (cs : List Call) → Q b → Q (after b cs)
+  pub calls_keep : (b : Book) (cs : List Call) → Q b → Q (after b cs)
   unfolding after
-  after_by b [] q = q
-  after_by b (c ∷ cs) q = after_by (book_call b c).book cs (call_by b c q)
+  calls_keep b [] q = q
+  calls_keep b (c ∷ cs) q = calls_keep (book_call b c).book cs (call_keeps b c q)

@@ -82,23 +82,23 @@ module _ (b : Book) where
   unfolding run_of
   run_share = refl
 
-pub is_waiting_lem : (x : Bool) (s : CandidateSeed) → (waiting_of x s).is_waiting ≡ x
-is_waiting_lem true s = refl
-is_waiting_lem false s = refl
+pub is_waiting_of_waiting_of : (x : Bool) (s : CandidateSeed) → (waiting_of x s).is_waiting ≡ x
+is_waiting_of_waiting_of true s = refl
+is_waiting_of_waiting_of false s = refl
 
-pub is_found : (c : Chosen) → (held c).found ≡ not (is_nothing c)
+pub found_of_held : (c : Chosen) → (held c).found ≡ not (is_nothing c)
 unfolding no_best
-is_found nothing = refl
-is_found (chosen w) = refl
+found_of_held nothing = refl
+found_of_held (chosen w) = refl
 
-pub ruleset run-fields = (run_demand, run_over, run_len, run_at, run_number, run_round, run_rounds, run_center, run_waiting, run_counts, run_max, run_one_axis, run_share, is_waiting_lem)
+pub ruleset run-fields = (run_demand, run_over, run_len, run_at, run_number, run_round, run_rounds, run_center, run_waiting, run_counts, run_max, run_one_axis, run_share, is_waiting_of_waiting_of)
 
-pub ruleset run-bests = (run_round_best, run_run_best, is_found)
+pub ruleset run-bests = (run_round_best, run_run_best, found_of_held)
 
 -- ---- the record is sound
 module _ (i : Inputs) (b : Book) (g : Good i b) where
-  pub count_bound : number b ≤ 656
-  count_bound =
+  pub number_le_656 : number b ≤ 656
+  number_le_656 =
       let h = g.core in
       let n : number b ≡ length b.earlier + length b.answered = length-append b.earlier b.answered in
       let p = h.few in
@@ -106,9 +106,9 @@ module _ (i : Inputs) (b : Book) (g : Good i b) where
       let r = h.sized.few_rounds in
       case b.over (λ o. let m = g.full o in omega arith) (λ o. let m = g.room o in omega arith)
 
-  pub sound_run : sound (run_of b) ≡ true
+  pub run_of_sound : sound (run_of b) ≡ true
   unfolding sound has_place
-  sound_run =
+  run_of_sound =
       let h = g.core in
       let z = h.sized in
       let q = h.fits in
@@ -118,7 +118,7 @@ module _ (i : Inputs) (b : Book) (g : Good i b) where
         le-leb b.inputs.share 100 z.small_share,
         le-leb b.inputs.rounds 16 z.few_rounds,
         le-leb b.round b.inputs.rounds h.in_rounds,
-        add_up_true (tally (entries b)) (number b) count_bound (tally_total (entries b)),
+        add_up_true (tally (entries b)) (number b) number_le_656 (tally_total (entries b)),
         le-leb (length b.list) 512 (omega arith),
         le-leb (6 * length b.list) (demand b.inputs) q,
         le-leb 54 (demand b.inputs) z.least,

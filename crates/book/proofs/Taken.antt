@@ -5,10 +5,10 @@ use Rattle.std.specs.Float.{nan, inf, fin}
 use Rattle.std.specs.Float.Ieee.{lt, le, eq, is_nan}
 use Rattle.common.specs.Tests.{case, both_true}
 use Rattle.common.specs.Checks.{Check, ◌when◌, first_refusal}
-use Rattle.common.specs.declared.Refusal.TheVariants.{BeyondHalf}
+use Rattle.common.specs.declared.Refusal.TheVariants.{TiltTooLarge}
 use Rattle.float.specs.Float.{abs_of, within}
-use Rattle.float.specs.Order.{lt_cotrans, le_not_lt, le_number}
-use Rattle.float_series.specs.Answer.{beyond_half}
+use Rattle.float.specs.Order.{lt_cotrans, le_not_lt, le_second_is_not_nan}
+use Rattle.float_series.specs.Answer.{tilt_too_large}
 use Rattle.float.specs.Literals.{half₆₄}
 use Rattle.camera_tilt.specs.declared.sensor.ScheimpflugParams.{ScheimpflugParams}
 use Rattle.seed_rules.specs.Rules.{in_bound}
@@ -17,32 +17,32 @@ use Rattle.score_outcome.specs.declared.Finding.TheVariants.{Failed, Solved}
 use Rattle.score_outcome.specs.Evaluation.{row_checks, solved_refusal, finding_refusal}
 
 -- ---- a tilt within a bound of at most 0.5 isn't beyond 0.5
-number : (t max : Float) → le (abs_of t) max ≡ true → is_nan t ≡ false
+bounded_is_number : (t max : Float) → le (abs_of t) max ≡ true → is_nan t ≡ false
 unfolding le lt eq abs_of is_nan
-number nan max h = absurd (true≢false (sym h))
-number (inf s) max h = refl
-number (fin s m e) max h = refl
+bounded_is_number nan max h = absurd (true≢false (sym h))
+bounded_is_number (inf s) max h = refl
+bounded_is_number (fin s m e) max h = refl
 
-within_half : (max t : Float) → lt half₆₄ max ≡ false → within max t ≡ true → beyond_half t ≡ false
-unfolding within beyond_half
-within_half max t h w =
+within_bound_not_beyond_half : (max t : Float) → lt half₆₄ max ≡ false → within max t ≡ true → tilt_too_large t ≡ false
+unfolding within tilt_too_large
+within_bound_not_beyond_half max t h w =
     case (lt half₆₄ (abs_of t))
-    (λ e. absurd (true≢false (sym (lt_cotrans half₆₄ (abs_of t) max (le_number (abs_of t) max w) e (le_not_lt (abs_of t) max w)) ∙ h)))
-    (λ e. rw (number t max w, e))
+    (λ e. absurd (true≢false (sym (lt_cotrans half₆₄ (abs_of t) max (le_second_is_not_nan (abs_of t) max w) e (le_not_lt (abs_of t) max w)) ∙ h)))
+    (λ e. rw (bounded_is_number t max w, e))
 
 -- ---- so a finding can be refused for its rows alone
-none_refused : (ts us : List Check) → first_refusal ts ≡ Ok tt → first_refusal us ≡ Ok tt → first_refusal (ts ++ us) ≡ Ok tt
-none_refused [] us h k = k
-none_refused ((r when true) ∷ ts) us h k = h
-none_refused ((r when false) ∷ ts) us h k = none_refused ts us h k
+first_refusal_append_none : (ts us : List Check) → first_refusal ts ≡ Ok tt → first_refusal us ≡ Ok tt → first_refusal (ts ++ us) ≡ Ok tt
+first_refusal_append_none [] us h k = k
+first_refusal_append_none ((r when true) ∷ ts) us h k = h
+first_refusal_append_none ((r when false) ∷ ts) us h k = first_refusal_append_none ts us h k
 
-pub not_refused : (max : Float) (t : ScheimpflugParams) (f : Finding) (rows : List Float) (flags : List ℕ) → lt half₆₄ max ≡ false → in_bound max t ≡ true
+pub finding_not_refused : (max : Float) (t : ScheimpflugParams) (f : Finding) (rows : List Float) (flags : List ℕ) → lt half₆₄ max ≡ false → in_bound max t ≡ true
     → (f ≡ Failed) ⊎ (first_refusal (row_checks rows flags) ≡ Ok tt) → finding_refusal f t rows flags ≡ Ok tt
 unfolding finding_refusal solved_refusal in_bound
-not_refused max t Failed rows flags h w k = refl
-not_refused max t (Solved c) rows flags h w k =
+finding_not_refused max t Failed rows flags h w k = refl
+finding_not_refused max t (Solved c) rows flags h w k =
     let b = both_true (within max t.tilt_x) (within max t.tilt_y) w in
     ⊎_elim
     (λ e. let z : ◌≡◌ {A = ℕ} 0 1 = cc in absurd (omega arith))
-    (λ e. none_refused (row_checks rows flags) ((BeyondHalf when (beyond_half t.tilt_x || beyond_half t.tilt_y)) ∷ []) e (rw (within_half max t.tilt_x h b.0, within_half max t.tilt_y h b.1)))
+    (λ e. first_refusal_append_none (row_checks rows flags) ((TiltTooLarge when (tilt_too_large t.tilt_x || tilt_too_large t.tilt_y)) ∷ []) e (rw (within_bound_not_beyond_half max t.tilt_x h b.0, within_bound_not_beyond_half max t.tilt_y h b.1)))
     k

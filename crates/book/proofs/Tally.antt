@@ -2,7 +2,7 @@
 use Rattle.std.proofs.Common.{arith, ◌≡◌, refl, ap, ◌∙◌, List, [], ◌∷◌, ◌++◌, map, length}
 use mathlib.Core.List.{map-append}
 use Rattle.journal_line.specs.Counts.{kind_of, count_in, counts_in, with_count}
-use Rattle.journal_line.proofs.CountLaws.{counts_snoc, five_kinds}
+use Rattle.journal_line.proofs.CountLaws.{counts_snoc, each_kind_is_one_of_five}
 use Rattle.journal_line.specs.Outcome.{recorded_as}
 use Rattle.journal_line.specs.Report.{total}
 use Rattle.book.specs.Book.{Entry, line_of, tally}
@@ -16,6 +16,6 @@ pub tally_total : (es : List Entry) → total (tally es) ≡ length es
 unfolding tally count_in total
 tally_total [] = refl
 tally_total (e ∷ es) =
-    let x = five_kinds (kind_of (recorded_as e.outcome)) in
+    let x = each_kind_is_one_of_five (kind_of (recorded_as e.outcome)) in
     let y = tally_total es in
     omega arith

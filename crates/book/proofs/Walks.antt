@@ -5,8 +5,8 @@ use Rattle.book.specs.Calls.{Call, Reply}
 use Rattle.book.specs.Book.{Inputs, Entry, Book, entries, book_call, replies, after}
 use Rattle.book.specs.Walk.{run_call, walk}
 use Rattle.book.specs.Trace.{Handing, handed_by, handed, answers, run_after, list_after}
-use Rattle.book.proofs.Moves.{entered_by, grows, call_by}
-use Rattle.book.proofs.Good.{steps}
+use Rattle.book.proofs.Moves.{entered_by, call_adds_entries, call_keeps}
+use Rattle.book.proofs.Good.{calls_keep_good}
 use Rattle.book.specs.RunOf.{run_of}
 use Rattle.book.proofs.RunOf.{State}
 use Rattle.book.proofs.Simulation.{call_agrees}
@@ -20,16 +20,16 @@ pub record Walks (i : Inputs) (b : Book) (l : List Float) (cs : List Call) : Typ
   pub state : State i (after b cs) (list_after (run_of b) l cs)
 
 -- one call, and then the others
-walks_more : (i : Inputs) (b : Book) (l : List Float) (c : Call) (cs : List Call) → State i b l
+walks_cons : (i : Inputs) (b : Book) (l : List Float) (c : Call) (cs : List Call) → State i b l
     → ((k : List Float) → State i (book_call b c).book k → Walks i (book_call b c).book k cs) → Walks i b l (c ∷ cs)
 unfolding walk replies answers handed run_after list_after after
-walks_more i b l c cs t ih =
+walks_cons i b l c cs t ih =
     let x = run_call (run_of b) l c in
     let k = book_call b c in
     let a = call_agrees i b l c t in
-    let w = ih x.list (record { good = call_by (steps i) b c t.good; there = a.there }) in
+    let w = ih x.list (record { good = call_keeps (calls_keep_good i) b c t.good; there = a.there }) in
     let e : entries b ++ (entered_by b c ++ answers (run_of k.book) x.list cs) ≡ entries (after k.book cs) =
-    sym (append_assoc (entries b) (entered_by b c) (answers (run_of k.book) x.list cs)) ∙ ap (λ (z : List Entry). z ++ answers (run_of k.book) x.list cs) (sym (grows b c)) ∙ w.same_entries in
+    sym (append_assoc (entries b) (entered_by b c) (answers (run_of k.book) x.list cs)) ∙ ap (λ (z : List Entry). z ++ answers (run_of k.book) x.list cs) (sym (call_adds_entries b c)) ∙ w.same_entries in
     let g : handed_in b ++ (handed_by (run_of b) l c ++ handed (run_of k.book) x.list cs) ≡ handed_in (after k.book cs) =
     sym (append_assoc (handed_in b) (handed_by (run_of b) l c) (handed (run_of k.book) x.list cs)) ∙ ap (λ (z : List Handing). z ++ handed (run_of k.book) x.list cs) (hands_agree i b l c t) ∙ w.same_handed in
     record {
@@ -43,4 +43,4 @@ walks_more i b l c cs t ih =
 pub walks : (i : Inputs) (b : Book) (l : List Float) (cs : List Call) → State i b l → Walks i b l cs
 unfolding walk replies answers handed run_after list_after after
 walks i b l [] t = record { same_replies = refl; same_entries = append-nil (entries b); same_handed = append-nil (handed_in b); run_is = refl; state = t }
-walks i b l (c ∷ cs) t = walks_more i b l c cs t (λ k u. walks i (book_call b c).book k cs u)
+walks i b l (c ∷ cs) t = walks_cons i b l c cs t (λ k u. walks i (book_call b c).book k cs u)

@@ -6,7 +6,7 @@ use Rattle.std.proofs.Math.Option.{Option, none, some}
 use Rattle.std.specs.Float.Ieee.{lt}
 use Rattle.common.specs.Checks.{◌when◌, first_refusal}
 use Rattle.common.specs.declared.Refusal.{Refusal}
-use Rattle.common.specs.declared.Refusal.TheVariants.{SeedWaits, ShortList, NothingScored, NoSeedWaits, NotOver}
+use Rattle.common.specs.declared.Refusal.TheVariants.{SeedWaiting, ListShortened, NothingScored, NoSeedWaiting, NotOver}
 use Rattle.float.specs.Binary64.{◌*₆₄◌}
 use Rattle.float.specs.Literals.{plus_zero, half₆₄}
 use Rattle.camera_models.specs.declared.math.Pt2.{Pt2}
@@ -170,17 +170,17 @@ book_enter b o =
     cond (ltb (length c.answered) (length c.list)) c (close_round (c.inputs.rounds - c.round) c)
 
 -- ---- what the book replies to a call, and the book after it
-pub record Kept : Type 0 where
+pub record BookLeft : Type 0 where
   pub reply : Reply
   pub book : Book
 
-abbrev pub kept : Reply → Book → Kept
-kept a b = record { reply = a; book = b }
+abbrev pub book_left : Reply → Book → BookLeft
+book_left a b = record { reply = a; book = b }
 
 -- a refused call leaves the book as it was
-abbrev pub unless : Result ⊤ Refusal → Book → Kept → Kept
+abbrev pub unless : Result ⊤ Refusal → Book → BookLeft → BookLeft
 unless (Ok nothing_refused) b k = k
-unless (Err refusal) b k = kept (refused refusal) b
+unless (Err refusal) b k = book_left (refused refusal) b
 
 abbrev pub is_nothing : Chosen → Bool
 is_nothing nothing = true
@@ -188,20 +188,20 @@ is_nothing (chosen w) = false
 
 -- Next: 9 where a seed waits, 10 where the list is too short, 11 where the run is over and nothing was scored, Over
 -- where it is over and has a result; else the next number
-unfoldable pub book_next : Book → ℕ → Kept
+unfoldable pub book_next : Book → ℕ → BookLeft
 book_next b n =
     unless
     (first_refusal
-    ((SeedWaits when b.waits)
-    ∷ (ShortList when ltb n (demand b.inputs))
+    ((SeedWaiting when b.waits)
+    ∷ (ListShortened when ltb n (demand b.inputs))
     ∷ (NothingScored when (b.over && is_nothing (run_best_of b)))
     ∷ []))
     b
-    (cond b.over (kept over b) (kept (candidate (number b)) (with_waiting b)))
+    (cond b.over (book_left over b) (book_left (candidate (number b)) (with_waiting b)))
 
 -- the seed call: the waiting seed's six numbers; none where no seed waits or the list is too short
-unfoldable pub book_seed : Book → ℕ → Kept
-book_seed b n = kept (part (cond (b.waits && not (ltb n (demand b.inputs))) (six (current b)) [])) b
+unfoldable pub book_seed : Book → ℕ → BookLeft
+book_seed b n = book_left (part (cond (b.waits && not (ltb n (demand b.inputs))) (six (current b)) [])) b
 
 abbrev pub reply_to : Outcome → Reply
 reply_to (Ok s) = scored s.score
@@ -213,26 +213,26 @@ book_outcome b f rows flags = outcome_of b.inputs.share f (current b).sensor b.i
 
 -- Answer: 12 where no seed waits, 10 where the list is too short, and then what is refused of the finding with the
 -- waiting seed's tilts
-unfoldable pub book_answer : Book → ℕ → Finding → List Float → List ℕ → Kept
+unfoldable pub book_answer : Book → ℕ → Finding → List Float → List ℕ → BookLeft
 book_answer b n f rows flags =
     let o = book_outcome b f rows flags in
     unless
-    (first_refusal ((NoSeedWaits when not b.waits) ∷ (ShortList when ltb n (demand b.inputs)) ∷ []))
+    (first_refusal ((NoSeedWaiting when not b.waits) ∷ (ListShortened when ltb n (demand b.inputs)) ∷ []))
     b
-    (unless (finding_refusal f (current b).sensor rows flags) b (kept (reply_to o) (book_enter b o)))
+    (unless (finding_refusal f (current b).sensor rows flags) b (book_left (reply_to o) (book_enter b o)))
 
 -- Result: 14 where the run isn't over, 11 where it is over and nothing was scored; else the run's best
 abbrev pub best_reply : Chosen → Reply
 best_reply nothing = refused NothingScored
 best_reply (chosen w) = result w
 
-unfoldable pub book_result : Book → Kept
-book_result b = unless (first_refusal ((NotOver when not b.over) ∷ [])) b (kept (best_reply (run_best_of b)) b)
+unfoldable pub book_result : Book → BookLeft
+book_result b = unless (first_refusal ((NotOver when not b.over) ∷ [])) b (book_left (best_reply (run_best_of b)) b)
 
 -- Progress: `total` is the length of this round's list.
-unfoldable pub book_progress : Book → Kept
+unfoldable pub book_progress : Book → BookLeft
 book_progress b =
-    kept (bar (record { round = b.round; rounds = b.inputs.rounds; answered = length b.answered; total = length b.list; in_run = number b })) b
+    book_left (bar (record { round = b.round; rounds = b.inputs.rounds; answered = length b.answered; total = length b.list; in_run = number b })) b
 
 -- what is left of a round: the seeds of its list that aren't answered, from the current one on
 abbrev pub left_in : Book → List CandidateSeed
@@ -253,8 +253,8 @@ abbrev pub rest_in : Book → Rest
 rest_in b = rest_of (left_in b) (run_best_of b)
 
 -- Stop: 10 where the list is too short; else the run's best, if any, and what is left
-unfoldable pub book_stop : Book → ℕ → Kept
-book_stop b n = unless (first_refusal ((ShortList when ltb n (demand b.inputs)) ∷ [])) b (kept (stopped (run_best_of b) (rest_in b)) b)
+unfoldable pub book_stop : Book → ℕ → BookLeft
+book_stop b n = unless (first_refusal ((ListShortened when ltb n (demand b.inputs)) ∷ [])) b (book_left (stopped (run_best_of b) (rest_in b)) b)
 
 -- the line of an entry (docs/SPECIFICATION.md, 6.9): its round is the one in which its seed was handed out, its camera
 -- the damped one that was scored
@@ -269,17 +269,17 @@ abbrev pub line_reply : Option Entry → Reply
 line_reply none = no_line
 line_reply (some e) = line (line_of e)
 
-unfoldable pub book_last : Book → Kept
-book_last b = kept (line_reply (last_of (entries b))) b
+unfoldable pub book_last : Book → BookLeft
+book_last b = book_left (line_reply (last_of (entries b))) b
 
 -- how many of the entries were scored, and how many were skipped for each reason (docs/SPECIFICATION.md, 6.10)
 unfoldable pub tally : List Entry → Counts
 tally es = counts_in (map line_of es)
 
-unfoldable pub book_counts : Book → Kept
-book_counts b = kept (counted (tally (entries b))) b
+unfoldable pub book_counts : Book → BookLeft
+book_counts b = book_left (counted (tally (entries b))) b
 
-unfoldable pub book_call : Book → Call → Kept
+unfoldable pub book_call : Book → Call → BookLeft
 book_call b (next n) = book_next b n
 book_call b (seed n) = book_seed b n
 book_call b (answer n f rows flags) = book_answer b n f rows flags

@@ -55,11 +55,11 @@ abbrev pub TooMany : ℕ → ℕ → ℕ → ℕ → Type 0
 TooMany x y decomposition rounds = ((((16 < x) ⊎ (16 < y)) ⊎ (256 < decomposition / 6)) ⊎ (16 < rounds)) ⊎ (decomposition % 6 ≡ 0 → ⊥)
 
 -- a bound above 0.5; a share above 100 per cent
-abbrev pub AboveHalf : Float → Type 0
-AboveHalf max = lt half₆₄ max ≡ true
+abbrev pub BoundTooLarge : Float → Type 0
+BoundTooLarge max = lt half₆₄ max ≡ true
 
-abbrev pub AboveAll : ℕ → Type 0
-AboveAll share = 100 < share
+abbrev pub ShareTooLarge : ℕ → Type 0
+ShareTooLarge share = 100 < share
 
 -- a single value that is a zero of either sign; a seed whose tilt about y is no zero
 abbrev pub OnlyZero : List Float → Type 0
@@ -79,9 +79,9 @@ conditions i n =
     ∷ (refusal.TooMany provided (TooMany (length i.xs) (length i.ys) (length i.decomposition) i.rounds))
     ∷ (refusal.BadSeed provided (Some (BadSeed i.max) (all_seeds i.decomposition)))
     ∷ (refusal.TiltNotFinite provided (Some NotFinite i.xs ⊎ Some NotFinite i.ys))
-    ∷ (refusal.SmallBuffer provided (n < demand i))
-    ∷ (refusal.BeyondHalf provided (AboveHalf i.max))
-    ∷ (refusal.TwoAxes provided ((i.one_axis ≡ true) × (OnlyZero i.ys → ⊥)))
-    ∷ (refusal.TiltedSeed provided ((i.one_axis ≡ true) × Some TiltedY (all_seeds i.decomposition)))
-    ∷ (refusal.ShareAboveAll provided (AboveAll i.share))
+    ∷ (refusal.ListTooShort provided (n < demand i))
+    ∷ (refusal.TiltTooLarge provided (BoundTooLarge i.max))
+    ∷ (refusal.TiltsOffAxis provided ((i.one_axis ≡ true) × (OnlyZero i.ys → ⊥)))
+    ∷ (refusal.SeedOffAxis provided ((i.one_axis ≡ true) × Some TiltedY (all_seeds i.decomposition)))
+    ∷ (refusal.ShareTooLarge provided (ShareTooLarge i.share))
     ∷ []

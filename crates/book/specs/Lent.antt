@@ -13,22 +13,22 @@ pub data Lent : Type 0 where
   next_with : List Float → Lent
   answer_with : List Float → Finding → List Float → List ℕ → Lent
 
-unfoldable pub left : Run → Lent → Run
-left r (next_with l) = (next_def r l).run
-left r (answer_with l f rows flags) = (answer_def r f rows flags l).reply.run
+unfoldable pub after_lent_call : Run → Lent → Run
+after_lent_call r (next_with l) = (next_def r l).run
+after_lent_call r (answer_with l f rows flags) = (answer_def r f rows flags l).reply.run
 
 -- the run after such calls, and how many of them were accepted answers
 unfoldable pub through : Run → List Lent → Run
 through r [] = r
-through r (c ∷ cs) = through (left r c) cs
+through r (c ∷ cs) = through (after_lent_call r c) cs
 
-unfoldable pub counted : Run → Lent → ℕ
-counted r (next_with l) = 0
-counted r (answer_with l f rows flags) = elim (answer_refusal r (length l) f rows flags) [ Ok nothing_refused ↦ 1 | Err refusal ↦ 0 ]
+unfoldable pub accepted_by : Run → Lent → ℕ
+accepted_by r (next_with l) = 0
+accepted_by r (answer_with l f rows flags) = elim (answer_refusal r (length l) f rows flags) [ Ok nothing_refused ↦ 1 | Err refusal ↦ 0 ]
 
 unfoldable pub accepted : Run → List Lent → ℕ
 accepted r [] = 0
-accepted r (c ∷ cs) = counted r c + accepted (left r c) cs
+accepted r (c ∷ cs) = accepted_by r c + accepted (after_lent_call r c) cs
 
 -- the seeds of the round's list that aren't answered, and nine for each later round still asked for
 abbrev pub still_left : Run → ℕ
@@ -47,13 +47,13 @@ turns [] = []
 turns (t ∷ ts) = next_with t.to_next ∷ answer_with t.to_answer t.finding t.rows t.flags ∷ turns ts
 
 -- The lists are long enough, and the finding isn't refused with the tilts of the seed that waits after Next.
-abbrev pub Taken : Inputs → Run → Turn → Type 0
-Taken i r t =
+abbrev pub AnswerAccepted : Inputs → Run → Turn → Type 0
+AnswerAccepted i r t =
     (demand i ≤ length t.to_next)
     × (demand i ≤ length t.to_answer)
     × (finding_refusal t.finding (next_def r t.to_next).run.waiting.seed.sensor t.rows t.flags ≡ Ok tt)
 
 -- each Answer of these is accepted, one turn after the other
-unfoldable pub AllTaken : Inputs → Run → List Turn → Type 0
-AllTaken i r [] = Unit {0}
-AllTaken i r (t ∷ ts) = Taken i r t × AllTaken i (through r (turns (t ∷ []))) ts
+unfoldable pub AllAccepted : Inputs → Run → List Turn → Type 0
+AllAccepted i r [] = Unit {0}
+AllAccepted i r (t ∷ ts) = AnswerAccepted i r t × AllAccepted i (through r (turns (t ∷ []))) ts

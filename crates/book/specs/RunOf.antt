@@ -7,13 +7,13 @@ use Rattle.search_record.specs.declared.run.Run.{Run}
 use Rattle.search_record.specs.declared.run.Waiting.{Waiting}
 use Rattle.journal_line.specs.Outcome.{recorded_as}
 use Rattle.search_record.specs.declared.run.LastAnswer.{LastAnswer}
-use Rattle.search_record.specs.Record.{nobody, no_answer, last_answer}
+use Rattle.search_record.specs.Record.{no_waiting_seed, no_answer, last_answer}
 use Rattle.book.specs.Book.{demand, Entry, Book, entries, number, current, round_best_of, run_best_of, step_of, last_of, tally}
 
 -- ---- the run that goes with a book
 abbrev pub waiting_of : Bool → CandidateSeed → Waiting
 waiting_of true s = record { is_waiting = true; seed = s }
-waiting_of false s = nobody
+waiting_of false s = no_waiting_seed
 
 abbrev pub last_in : Option Entry → LastAnswer
 last_in none = no_answer

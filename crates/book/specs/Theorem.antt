@@ -40,7 +40,7 @@ use Rattle.book.specs.Named.{outcomes_in, handings}
 use Rattle.book.specs.Rounds.{LaterRound}
 use Rattle.book.specs.Share.{Rests}
 use Rattle.book.specs.Stop.{Stops}
-use Rattle.book.specs.Lent.{Lent, through, accepted, still_left, Turn, AllTaken, turns}
+use Rattle.book.specs.Lent.{Lent, through, accepted, still_left, Turn, AllAccepted, turns}
 
 -- ---- Start, on the book's inputs and a lent list
 abbrev pub options_of : Inputs → Options
@@ -157,7 +157,7 @@ pub record Ends (i : Inputs) (before : ℕ) (r : Run) (cs : List Lent) (s : Run)
       → finding_refusal f s.waiting.seed.sensor rows flags ≡ Ok tt → answer_refusal s (length l) f rows flags ≡ Ok tt
   pub failed_taken : (t : ScheimpflugParams) (rows : List Float) (flags : List ℕ) → finding_refusal Failed t rows flags ≡ Ok tt
   -- a host whose answers are accepted reaches the end
-  pub reaches_end : (ts : List Turn) → AllTaken i s ts → still_left s ≤ length ts → (through s (turns ts)).place.over ≡ true
+  pub reaches_end : (ts : List Turn) → AllAccepted i s ts → still_left s ≤ length ts → (through s (turns ts)).place.over ≡ true
 
 -- ---- Start refuses exactly where one of the conditions holds, with the first that does, and leaves the list as it
 -- was; otherwise it accepts

@@ -8,117 +8,117 @@ use Rattle.seed_rules.specs.Layout.{written}
 use Rattle.journal_line.specs.declared.Line.{Line}
 use Rattle.journal_line.specs.Line.{line_bytes, journal_bytes}
 use Rattle.journal_line.specs.Reading.{line_number_of, ended, read_journal}
-use Rattle.journal_line.proofs.Whole.{whole_reading, whole_lines}
-use Rattle.journal_line.proofs.Fronts.{whole_front, front_read_first, journal_append}
-use Rattle.journal_line.proofs.Numbers.{line_numbers}
+use Rattle.journal_line.proofs.Whole.{written_journal_is_read, lines_read_to_the_end_were_written}
+use Rattle.journal_line.proofs.Fronts.{whole_front, front_read_first, journal_bytes_append}
+use Rattle.journal_line.proofs.Numbers.{line_number_behind_lines}
 use Rattle.journal_line.specs.Outcome.{outcome_in}
-use Rattle.journal_replay.specs.declared.Stop.{Stop}
-use Rattle.journal_replay.specs.declared.Stop.TheVariants.{AllTaken}
-use Rattle.journal_replay.specs.Walk.{stop_at}
+use Rattle.journal_replay.specs.declared.WalkEnd.{WalkEnd}
+use Rattle.journal_replay.specs.declared.WalkEnd.TheVariants.{AllTaken}
+use Rattle.journal_replay.specs.Walk.{walk_end_at}
 use Rattle.book.specs.Book.{Inputs, Book, first_list, opened, book_enter}
 use Rattle.book_journal.specs.Replay.{follows, Walked, buffer_after, walk_from, walked}
 use Rattle.book_journal.specs.ReplayLaw.{kept_bytes, FrontAlone}
-use Rattle.book_journal.proofs.Walk.{walk_end, walk_end_lem, walk_on, walk_stop}
-use Rattle.book_journal.proofs.Beside.{all_taken_ended, not_run_taken}
+use Rattle.book_journal.proofs.Walk.{walk_end, walk_from_no_lines, walk_from_taken_line, walk_from_refused_line}
+use Rattle.book_journal.proofs.Beside.{all_taken_ended, not_the_run_ne_all_taken}
 
-abbrev fully : Walked → Walked
-fully w = walk_end w.book w.list w.taken AllTaken
+abbrev with_all_taken : Walked → Walked
+with_all_taken w = walk_end w.book w.list w.taken AllTaken
 
 -- ---- of a walk
-record Fronts (b : Book) (l : List Float) (n : ℕ) (ms : List Line) (x : Stop) : Type 0 where
+record LongestFront (b : Book) (l : List Float) (n : ℕ) (ms : List Line) (x : WalkEnd) : Type 0 where
   count : ℕ
   few : count ≤ length ms
   taken_is : (walk_from b l n ms x).taken ≡ n + count
-  alone : walk_from b l n (take count ms) AllTaken ≡ fully (walk_from b l n ms x)
-  longest : (k : ℕ) → k ≤ length ms → (walk_from b l n (take k ms) AllTaken).stop ≡ AllTaken → k ≤ count
+  alone : walk_from b l n (take count ms) AllTaken ≡ with_all_taken (walk_from b l n ms x)
+  longest : (k : ℕ) → k ≤ length ms → (walk_from b l n (take k ms) AllTaken).walk_end ≡ AllTaken → k ≤ count
   -- a walk that takes all its lines stops for the reason that it is given
-  taken_all : (walk_from b l n ms x).stop ≡ AllTaken → x ≡ AllTaken
+  taken_all : (walk_from b l n ms x).walk_end ≡ AllTaken → x ≡ AllTaken
 
-fronts_end : (b : Book) (l : List Float) (n : ℕ) (x : Stop) → Fronts b l n [] x
-fronts_end b l n x =
-    let e = walk_end_lem b l n x in
+longest_front_of_none : (b : Book) (l : List Float) (n : ℕ) (x : WalkEnd) → LongestFront b l n [] x
+longest_front_of_none b l n x =
+    let e = walk_from_no_lines b l n x in
     record {
       count = 0;
       few = omega arith;
       taken_is = ap (λ (w : Walked). w.taken) e ∙ omega arith;
-      alone = walk_end_lem b l n AllTaken ∙ ap fully (sym e);
+      alone = walk_from_no_lines b l n AllTaken ∙ ap with_all_taken (sym e);
       longest = λ k h q. omega arith;
-      taken_all = λ h. sym (ap (λ (w : Walked). w.stop) e) ∙ h;
+      taken_all = λ h. sym (ap (λ (w : Walked). w.walk_end) e) ∙ h;
     }
 
-fronts_stop : (b : Book) (l : List Float) (n : ℕ) (m : Line) (ms : List Line) (x : Stop) → follows b m ≡ false → Fronts b l n (m ∷ ms) x
-fronts_stop b l n m ms x f =
-    let e = walk_stop b l n x m ms f in
+longest_front_at_stop : (b : Book) (l : List Float) (n : ℕ) (m : Line) (ms : List Line) (x : WalkEnd) → follows b m ≡ false → LongestFront b l n (m ∷ ms) x
+longest_front_at_stop b l n m ms x f =
+    let e = walk_from_refused_line b l n x m ms f in
     record {
       count = 0;
       few = omega arith;
       taken_is = ap (λ (w : Walked). w.taken) e ∙ omega arith;
-      alone = walk_end_lem b l n AllTaken ∙ ap fully (sym e);
+      alone = walk_from_no_lines b l n AllTaken ∙ ap with_all_taken (sym e);
       longest = none_longer;
-      taken_all = λ h. absurd (not_run_taken (sym (ap (λ (w : Walked). w.stop) e) ∙ h));
+      taken_all = λ h. absurd (not_the_run_ne_all_taken (sym (ap (λ (w : Walked). w.walk_end) e) ∙ h));
     }
   where
-    none_longer : (k : ℕ) → k ≤ length (m ∷ ms) → (walk_from b l n (take k (m ∷ ms)) AllTaken).stop ≡ AllTaken → k ≤ 0
+    none_longer : (k : ℕ) → k ≤ length (m ∷ ms) → (walk_from b l n (take k (m ∷ ms)) AllTaken).walk_end ≡ AllTaken → k ≤ 0
     none_longer zero h q = omega arith
-    none_longer (suc k) h q = absurd (not_run_taken (sym (ap (λ (w : Walked). w.stop) (walk_stop b l n AllTaken m (take k ms) f)) ∙ q))
+    none_longer (suc k) h q = absurd (not_the_run_ne_all_taken (sym (ap (λ (w : Walked). w.walk_end) (walk_from_refused_line b l n AllTaken m (take k ms) f)) ∙ q))
 
-fronts_more : (b : Book) (l : List Float) (n : ℕ) (m : Line) (ms : List Line) (x : Stop) → follows b m ≡ true
-    → Fronts (book_enter b (outcome_in m.outcome)) (buffer_after b (book_enter b (outcome_in m.outcome)) l) (suc n) ms x → Fronts b l n (m ∷ ms) x
-fronts_more b l n m ms x t f =
-    let e = walk_on b l n x m ms t in
+longest_front_cons : (b : Book) (l : List Float) (n : ℕ) (m : Line) (ms : List Line) (x : WalkEnd) → follows b m ≡ true
+    → LongestFront (book_enter b (outcome_in m.outcome)) (buffer_after b (book_enter b (outcome_in m.outcome)) l) (suc n) ms x → LongestFront b l n (m ∷ ms) x
+longest_front_cons b l n m ms x t f =
+    let e = walk_from_taken_line b l n x m ms t in
     record {
       count = suc f.count;
       few = let k = f.few in omega arith;
       taken_is = ap (λ (w : Walked). w.taken) e ∙ f.taken_is ∙ omega arith;
-      alone = walk_on b l n AllTaken m (take f.count ms) t ∙ f.alone ∙ ap fully (sym e);
+      alone = walk_from_taken_line b l n AllTaken m (take f.count ms) t ∙ f.alone ∙ ap with_all_taken (sym e);
       longest = none_longer;
-      taken_all = λ h. f.taken_all (sym (ap (λ (w : Walked). w.stop) e) ∙ h);
+      taken_all = λ h. f.taken_all (sym (ap (λ (w : Walked). w.walk_end) e) ∙ h);
     }
   where
-    none_longer : (k : ℕ) → k ≤ length (m ∷ ms) → (walk_from b l n (take k (m ∷ ms)) AllTaken).stop ≡ AllTaken → k ≤ suc f.count
+    none_longer : (k : ℕ) → k ≤ length (m ∷ ms) → (walk_from b l n (take k (m ∷ ms)) AllTaken).walk_end ≡ AllTaken → k ≤ suc f.count
     none_longer zero h q = omega arith
-    none_longer (suc k) h q = let g = f.longest k (omega arith) (sym (ap (λ (w : Walked). w.stop) (walk_on b l n AllTaken m (take k ms) t)) ∙ q) in omega arith
+    none_longer (suc k) h q = let g = f.longest k (omega arith) (sym (ap (λ (w : Walked). w.walk_end) (walk_from_taken_line b l n AllTaken m (take k ms) t)) ∙ q) in omega arith
 
-fronts : (b : Book) (l : List Float) (n : ℕ) (ms : List Line) (x : Stop) → Fronts b l n ms x
-fronts b l n [] x = fronts_end b l n x
-fronts b l n (m ∷ ms) x =
+walk_has_longest_front : (b : Book) (l : List Float) (n : ℕ) (ms : List Line) (x : WalkEnd) → LongestFront b l n ms x
+walk_has_longest_front b l n [] x = longest_front_of_none b l n x
+walk_has_longest_front b l n (m ∷ ms) x =
     case (follows b m)
-    (λ t. fronts_more b l n m ms x t (fronts (book_enter b (outcome_in m.outcome)) (buffer_after b (book_enter b (outcome_in m.outcome)) l) (suc n) ms x))
-    (λ t. fronts_stop b l n m ms x t)
+    (λ t. longest_front_cons b l n m ms x t (walk_has_longest_front (book_enter b (outcome_in m.outcome)) (buffer_after b (book_enter b (outcome_in m.outcome)) l) (suc n) ms x))
+    (λ t. longest_front_at_stop b l n m ms x t)
 
 -- ---- lists of lines and their bytes
-pub all_take : {A : Type 0} (P : A → Type 0) (n : ℕ) (xs : List A) → All P xs → All P (take n xs)
-all_take P zero xs h = tt
-all_take P (suc n) [] h = tt
-all_take P (suc n) (x ∷ xs) h = (h.0, all_take P n xs h.1)
+pub all_of_take : {A : Type 0} (P : A → Type 0) (n : ℕ) (xs : List A) → All P xs → All P (take n xs)
+all_of_take P zero xs h = tt
+all_of_take P (suc n) [] h = tt
+all_of_take P (suc n) (x ∷ xs) h = (h.0, all_of_take P n xs h.1)
 
-take_longer : (k n : ℕ) (ls : List Line) → k ≤ n → length (journal_bytes (take k ls)) ≤ length (journal_bytes (take n ls))
+taken_bytes_length_le : (k n : ℕ) (ls : List Line) → k ≤ n → length (journal_bytes (take k ls)) ≤ length (journal_bytes (take n ls))
 unfolding journal_bytes
-take_longer zero n ls h = omega arith
-take_longer (suc k) zero ls h = absurd (omega arith)
-take_longer (suc k) (suc n) [] h = omega arith
-take_longer (suc k) (suc n) (l ∷ ls) h = omega (arith, length-append (line_bytes l) (journal_bytes (take k ls)), length-append (line_bytes l) (journal_bytes (take n ls)), take_longer k n ls (omega arith))
+taken_bytes_length_le zero n ls h = omega arith
+taken_bytes_length_le (suc k) zero ls h = absurd (omega arith)
+taken_bytes_length_le (suc k) (suc n) [] h = omega arith
+taken_bytes_length_le (suc k) (suc n) (l ∷ ls) h = omega (arith, length-append (line_bytes l) (journal_bytes (take k ls)), length-append (line_bytes l) (journal_bytes (take n ls)), taken_bytes_length_le k n ls (omega arith))
 
 -- ---- of a journal
 -- the bytes of the first n lines, and all that follows them
-pub front_bytes : (bs : List ℕ) (n : ℕ) → (rest : List ℕ) × (bs ≡ journal_bytes (take n (read_journal bs).lines) ++ rest)
-front_bytes bs n =
+pub bytes_begin_with_lines : (bs : List ℕ) (n : ℕ) → (rest : List ℕ) × (bs ≡ journal_bytes (take n (read_journal bs).lines) ++ rest)
+bytes_begin_with_lines bs n =
     let w = whole_front bs in
     let ls = (read_journal bs).lines in
-    let e : journal_bytes ls ≡ journal_bytes (take n ls) ++ journal_bytes (drop n ls) = ap journal_bytes (sym (take-append-drop n ls)) ∙ journal_append (take n ls) (drop n ls) in
+    let e : journal_bytes ls ≡ journal_bytes (take n ls) ++ journal_bytes (drop n ls) = ap journal_bytes (sym (take-append-drop n ls)) ∙ journal_bytes_append (take n ls) (drop n ls) in
     (journal_bytes (drop n ls) ++ w.rest, w.bytes_are ∙ ap (λ (z : List ℕ). z ++ w.rest) e ∙ append_assoc (journal_bytes (take n ls)) (journal_bytes (drop n ls)) w.rest)
 
-pub front_reads : (bs : List ℕ) (n : ℕ) → read_journal (journal_bytes (take n (read_journal bs).lines)) ≡ record { lines = take n (read_journal bs).lines; ending = ended }
-front_reads bs n =
+pub front_reads_its_lines : (bs : List ℕ) (n : ℕ) → read_journal (journal_bytes (take n (read_journal bs).lines)) ≡ record { lines = take n (read_journal bs).lines; ending = ended }
+front_reads_its_lines bs n =
     let w = whole_front bs in
     let ls = (read_journal bs).lines in
-    whole_reading (take n ls) (all_take _ n ls w.lines_fit) (all_take _ n ls w.can_be_written)
+    written_journal_is_read (take n ls) (all_of_take _ n ls w.lines_fit) (all_of_take _ n ls w.can_be_written)
 
 -- the lines that are read of a prefix are the first ones that are read of the whole
-read_of_front : (bs : List ℕ) (at : ℕ) → (read_journal (take at bs)).ending ≡ ended
+front_lines_read_first : (bs : List ℕ) (at : ℕ) → (read_journal (take at bs)).ending ≡ ended
     → (take at bs ≡ journal_bytes (read_journal (take at bs)).lines) × (take (length (read_journal (take at bs)).lines) (read_journal bs).lines ≡ (read_journal (take at bs)).lines)
-read_of_front bs at e =
-    let w = whole_lines (take at bs) e in
+front_lines_read_first bs at e =
+    let w = lines_read_to_the_end_were_written (take at bs) e in
     let ls = (read_journal (take at bs)).lines in
     let b : journal_bytes ls ++ drop at bs ≡ bs = ap (λ (z : List ℕ). z ++ drop at bs) (sym w.bytes_are) ∙ take-append-drop at bs in
     let f = front_read_first ls (drop at bs) w.lines_fit w.can_be_written in
@@ -130,42 +130,42 @@ front_alone i l bs =
     let o = opened i in
     let m = written (first_list i) l in
     let ls = (read_journal bs).lines in
-    let x = stop_at (read_journal bs).ending in
+    let x = walk_end_at (read_journal bs).ending in
     let n = (walked i l bs).taken in
-    let f = fronts o m 0 ls x in
+    let f = walk_has_longest_front o m 0 ls x in
     let t : f.count ≡ n = let h = f.taken_is in omega arith in
     let kept = journal_bytes (take n ls) in
-    let e : walked i l kept ≡ fully (walked i l bs) = rw (front_reads bs n) (rw t at f.alone) in
-    let g = front_bytes bs n in
+    let e : walked i l kept ≡ with_all_taken (walked i l bs) = rw (front_reads_its_lines bs n) (rw t at f.alone) in
+    let g = bytes_begin_with_lines bs n in
     record {
       is_front = ap (take (length kept)) g.1 ∙ take-append_seam kept g.0;
-      is_walked = ap (λ (w : Walked). w.stop) e;
+      is_walked = ap (λ (w : Walked). w.walk_end) e;
       is_longest = longer;
       same_book = ap (λ (w : Walked). w.book) e;
       same_list = ap (λ (w : Walked). w.list) e;
       same_taken = ap (λ (w : Walked). w.taken) e;
-      next_number = ap (λ (z : List ℕ). line_number_of z (length kept)) g.1 ∙ line_numbers (take n ls) g.0 ∙ ap suc (taken_length f.few t);
+      next_number = ap (λ (z : List ℕ). line_number_of z (length kept)) g.1 ∙ line_number_behind_lines (take n ls) g.0 ∙ ap suc (taken_length f.few t);
     }
   where
     taken_length : {c : ℕ} → c ≤ length (read_journal bs).lines → c ≡ (walked i l bs).taken → length (take (walked i l bs).taken (read_journal bs).lines) ≡ (walked i l bs).taken
     taken_length h e = omega (arith, length-take (walked i l bs).taken (read_journal bs).lines)
 
-    longer : (at : ℕ) → at ≤ length bs → (walked i l (take at bs)).stop ≡ AllTaken → at ≤ length (kept_bytes i l bs)
+    longer : (at : ℕ) → at ≤ length bs → (walked i l (take at bs)).walk_end ≡ AllTaken → at ≤ length (kept_bytes i l bs)
     longer at h q = unfold walked in
         let o = opened i in
         let m = written (first_list i) l in
         let r = read_journal (take at bs) in
         let ls = (read_journal bs).lines in
-        let ends = all_taken_ended r.ending ((fronts o m 0 r.lines (stop_at r.ending)).taken_all q) in
-        let p = read_of_front bs at ends in
+        let ends = all_taken_ended r.ending ((walk_has_longest_front o m 0 r.lines (walk_end_at r.ending)).taken_all q) in
+        let p = front_lines_read_first bs at ends in
         let k = length r.lines in
-        let f = fronts o m 0 ls (stop_at (read_journal bs).ending) in
-        let c : (walk_from o m 0 r.lines AllTaken).stop ≡ AllTaken = rw ends at q in
-        let d : (walk_from o m 0 (take k ls) AllTaken).stop ≡ AllTaken = rw p.1 c in
+        let f = walk_has_longest_front o m 0 ls (walk_end_at (read_journal bs).ending) in
+        let c : (walk_from o m 0 r.lines AllTaken).walk_end ≡ AllTaken = rw ends at q in
+        let d : (walk_from o m 0 (take k ls) AllTaken).walk_end ≡ AllTaken = rw p.1 c in
         let u : k ≤ length ls = omega (arith, ap length p.1, length-take k ls) in
         let v : k ≤ (walked i l bs).taken = let g = f.longest k u d in let y = f.taken_is in omega arith in
         let s : at ≡ length (journal_bytes (take k ls)) = at_length at h ∙ ap length p.0 ∙ ap (λ (z : List Line). length (journal_bytes z)) (sym p.1) in
-        let y = take_longer k (walked i l bs).taken ls v in
+        let y = taken_bytes_length_le k (walked i l bs).taken ls v in
         omega arith
       where
         at_length : (at : ℕ) → at ≤ length bs → at ≡ length (take at bs)

@@ -8,7 +8,7 @@ use Rattle.search_start.specs.Start.{start_checks}
 use Rattle.book.specs.Book.{Inputs, demand, opened}
 use Rattle.book.specs.Conditions.{NoneHolds, conditions}
 use Rattle.book.specs.Theorem.{options_of}
-use Rattle.book.proofs.Refusals.{first_holds, first_returned, none_returned, none_hold, start_decided}
+use Rattle.book.proofs.Refusals.{first_refused_holds, first_holding_refused, none_refused_where_none_holds, none_holds_where_none_refused, start_decided}
 use Rattle.book.proofs.Starts.{refusal}
 use Rattle.book.proofs.Good.{Good}
 use Rattle.book.proofs.Opening.{opened_state}
@@ -19,25 +19,25 @@ module _ (i : Inputs) (n : ℕ) where
   abbrev checks : List Check
   checks = start_checks i.views (options_of i) i.xs i.ys i.decomposition n
 
-  pub none_refused : NoneHolds (conditions i n) → start_refused i n ≡ Ok tt
+  pub start_not_refused : NoneHolds (conditions i n) → start_refused i n ≡ Ok tt
   unfolding start_refused
-  none_refused h = none_returned checks (conditions i n) (start_decided i n) h
+  start_not_refused h = none_refused_where_none_holds checks (conditions i n) (start_decided i n) h
 
-  pub start_refused_lem : StartRefused i n
+  pub start_refused_by_conditions : StartRefused i n
   unfolding start_refused
-  start_refused_lem = record {
-    refuses = λ r. ((λ e. first_holds checks (conditions i n) (start_decided i n) r e), (λ h. first_returned checks (conditions i n) (start_decided i n) r h));
-    accepts = ((λ e. none_hold checks (conditions i n) (start_decided i n) e), none_refused);
+  start_refused_by_conditions = record {
+    refuses = λ r. ((λ e. first_refused_holds checks (conditions i n) (start_decided i n) r e), (λ h. first_holding_refused checks (conditions i n) (start_decided i n) r h));
+    accepts = ((λ e. none_holds_where_none_refused checks (conditions i n) (start_decided i n) e), start_not_refused);
   }
 
   -- ---- the book that an accepted Start opens satisfies the invariant
-  pub opened_good : NoneHolds (conditions i n) → Good i (opened i)
-  opened_good h =
+  pub opened_book_good : NoneHolds (conditions i n) → Good i (opened i)
+  opened_book_good h =
       let l = replicate n plus_zero in
       let k : length l ≡ n = length-replicate n plus_zero in
-      let z : refusal i l ≡ Ok tt = rw k (none_returned checks (conditions i n) (start_decided i n) h) in
+      let z : refusal i l ≡ Ok tt = rw k (none_refused_where_none_holds checks (conditions i n) (start_decided i n) h) in
       (opened_state i l z).good
 
   -- and the lent list is long enough
-  pub room_enough : NoneHolds (conditions i n) → demand i ≤ n
-  room_enough h = case (ltb n (demand i)) (λ e. absurd (h.1.1.1.1.1.1.1.0 (ltb-true n (demand i) e))) (λ e. ltb-false n (demand i) e)
+  pub lent_list_long_enough : NoneHolds (conditions i n) → demand i ≤ n
+  lent_list_long_enough h = case (ltb n (demand i)) (λ e. absurd (h.1.1.1.1.1.1.1.0 (ltb-true n (demand i) e))) (λ e. ltb-false n (demand i) e)

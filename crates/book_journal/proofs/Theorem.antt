@@ -1,9 +1,9 @@
 -- Journals over the reference model: all of `specs/Theorem.antt`. Assumes nothing.
 use Rattle.book_journal.specs.History.{book_at}
 use Rattle.book_journal.specs.Theorem.{JournalsRight}
-use Rattle.book_journal.proofs.Opening.{start_refused_lem}
+use Rattle.book_journal.proofs.Opening.{start_refused_by_conditions}
 use Rattle.book_journal.proofs.Walk as walks
-use Rattle.book_journal.proofs.Again.{sound_at, lines_taken, lines_right}
+use Rattle.book_journal.proofs.Again.{history_sound, lines_taken, sound_lines_read_back}
 use Rattle.book_journal.proofs.Beside as beside
 use Rattle.book_journal.proofs.Accepted as replying
 use Rattle.book_journal.proofs.Front as fronts
@@ -20,8 +20,8 @@ pub journals_right : JournalsRight
 journals_right = record {
   lines_taken = lines_taken;
   written_is_journal = written_is_journal;
-  lines_of_run = λ i h f. lines_right i (book_at h) (sound_at i h f.inputs_fit f.calls_fit);
-  start_first = start_refused_lem;
+  lines_of_run = λ i h f. sound_lines_read_back i (book_at h) (history_sound i h f.inputs_fit f.calls_fit);
+  start_first = start_refused_by_conditions;
   start_refuses = replying.start_refuses;
   run_again = λ i h f l a. buffers.run_again i h f.inputs_fit f.calls_fit l a;
   live_buffer = live.live_buffer;
@@ -31,7 +31,7 @@ journals_right = record {
   front_alone = fronts.front_alone;
   walked_buffer = buffers.walked_buffer;
   called_buffer = buffers.called_buffer;
-  any_buffer = λ i l m bs. (walks.any_buffer i l m bs).0;
+  any_buffer = λ i l m bs. (walks.walked_ignores_list i l m bs).0;
   resume_refuses = cutting.resume_refuses;
   resume_accepts = cutting.resume_accepts;
   gives_back = cutting.gives_back;

@@ -9,43 +9,43 @@ use Rattle.journal_line.specs.Line.{LineFits, Writable}
 use Rattle.journal_line.specs.Reading.{read_journal}
 use Rattle.journal_line.proofs.Fronts.{whole_front}
 use Rattle.journal_line.specs.Outcome.{outcome_in}
-use Rattle.journal_replay.specs.declared.Stop.{Stop}
-use Rattle.journal_replay.specs.declared.Stop.TheVariants.{NotTheRun}
-use Rattle.journal_replay.specs.Walk.{stop_at}
+use Rattle.journal_replay.specs.declared.WalkEnd.{WalkEnd}
+use Rattle.journal_replay.specs.declared.WalkEnd.TheVariants.{NotTheRun}
+use Rattle.journal_replay.specs.Walk.{walk_end_at}
 use Rattle.book.specs.Book.{Inputs, Book, first_list, opened, book_enter}
 use Rattle.book_journal.specs.Replay.{follows, Walked, buffer_after, walk_from, walked}
 
-abbrev pub walk_end : Book → List Float → ℕ → Stop → Walked
-walk_end b l n e = record { book = b; list = l; taken = n; stop = e }
+abbrev pub walk_end : Book → List Float → ℕ → WalkEnd → Walked
+walk_end b l n e = record { book = b; list = l; taken = n; walk_end = e }
 
 -- ---- one line
-module _ (b : Book) (l : List Float) (n : ℕ) (e : Stop) where
-  pub walk_end_lem : walk_from b l n [] e ≡ walk_end b l n e
+module _ (b : Book) (l : List Float) (n : ℕ) (e : WalkEnd) where
+  pub walk_from_no_lines : walk_from b l n [] e ≡ walk_end b l n e
   unfolding walk_from
-  walk_end_lem = refl
+  walk_from_no_lines = refl
 
   module _ (m : Line) (ms : List Line) where
-    pub walk_stop : follows b m ≡ false → walk_from b l n (m ∷ ms) e ≡ walk_end b l n NotTheRun
+    pub walk_from_refused_line : follows b m ≡ false → walk_from b l n (m ∷ ms) e ≡ walk_end b l n NotTheRun
     unfolding walk_from
-    walk_stop f = simp (walk_from, f)
+    walk_from_refused_line f = simp (walk_from, f)
 
-    pub walk_on : follows b m ≡ true
+    pub walk_from_taken_line : follows b m ≡ true
         → walk_from b l n (m ∷ ms) e ≡ walk_from (book_enter b (outcome_in m.outcome)) (buffer_after b (book_enter b (outcome_in m.outcome)) l) (suc n) ms e
     unfolding walk_from
-    walk_on f = simp (walk_from, f)
+    walk_from_taken_line f = simp (walk_from, f)
 
 -- ---- A property of a book and its lent list that each line taken keeps holds where the walk stops.
 pub walk_keeps : (P : Book → List Float → Type 0)
     → ((b : Book) (l : List Float) (m : Line) → LineFits m → Writable m → P b l → follows b m ≡ true
     → P (book_enter b (outcome_in m.outcome)) (buffer_after b (book_enter b (outcome_in m.outcome)) l))
-    → (b : Book) (l : List Float) (n : ℕ) (ms : List Line) (e : Stop) → All LineFits ms → All Writable ms → P b l → P (walk_from b l n ms e).book (walk_from b l n ms e).list
-walk_keeps P f b l n [] e ok can h = rw (walk_end_lem b l n e) h
+    → (b : Book) (l : List Float) (n : ℕ) (ms : List Line) (e : WalkEnd) → All LineFits ms → All Writable ms → P b l → P (walk_from b l n ms e).book (walk_from b l n ms e).list
+walk_keeps P f b l n [] e ok can h = rw (walk_from_no_lines b l n e) h
 walk_keeps P f b l n (m ∷ ms) e ok can h =
     case (follows b m)
     (λ t.
     let c = book_enter b (outcome_in m.outcome) in
-    rw (walk_on b l n e m ms t) (walk_keeps P f c (buffer_after b c l) (suc n) ms e ok.1 can.1 (f b l m ok.0 can.0 h t)))
-    (λ t. rw (walk_stop b l n e m ms t) h)
+    rw (walk_from_taken_line b l n e m ms t) (walk_keeps P f c (buffer_after b c l) (suc n) ms e ok.1 can.1 (f b l m ok.0 can.0 h t)))
+    (λ t. rw (walk_from_refused_line b l n e m ms t) h)
 
 pub walked_keeps : (P : Book → List Float → Type 0)
     → ((b : Book) (l : List Float) (m : Line) → LineFits m → Writable m → P b l → follows b m ≡ true
@@ -54,21 +54,21 @@ pub walked_keeps : (P : Book → List Float → Type 0)
 unfolding walked
 walked_keeps P f i l bs h =
     let w = whole_front bs in
-    walk_keeps P f (opened i) (written (first_list i) l) 0 (read_journal bs).lines (stop_at (read_journal bs).ending) w.lines_fit w.can_be_written h
+    walk_keeps P f (opened i) (written (first_list i) l) 0 (read_journal bs).lines (walk_end_at (read_journal bs).ending) w.lines_fit w.can_be_written h
 
 -- ---- the walk doesn't depend on the lent list
 abbrev SameWalk : Walked → Walked → Type 0
-SameWalk v w = (v.book ≡ w.book) × (v.taken ≡ w.taken) × (v.stop ≡ w.stop)
+SameWalk v w = (v.book ≡ w.book) × (v.taken ≡ w.taken) × (v.walk_end ≡ w.walk_end)
 
-same_walk : (b : Book) (l k : List Float) (n : ℕ) (ms : List Line) (e : Stop) → SameWalk (walk_from b l n ms e) (walk_from b k n ms e)
-same_walk b l k n [] e = rw (walk_end_lem b l n e, walk_end_lem b k n e) (refl, refl, refl)
-same_walk b l k n (m ∷ ms) e =
+walk_ignores_list : (b : Book) (l k : List Float) (n : ℕ) (ms : List Line) (e : WalkEnd) → SameWalk (walk_from b l n ms e) (walk_from b k n ms e)
+walk_ignores_list b l k n [] e = rw (walk_from_no_lines b l n e, walk_from_no_lines b k n e) (refl, refl, refl)
+walk_ignores_list b l k n (m ∷ ms) e =
     case (follows b m)
     (λ t.
     let c = book_enter b (outcome_in m.outcome) in
-    rw (walk_on b l n e m ms t, walk_on b k n e m ms t) (same_walk c (buffer_after b c l) (buffer_after b c k) (suc n) ms e))
-    (λ t. rw (walk_stop b l n e m ms t, walk_stop b k n e m ms t) (refl, refl, refl))
+    rw (walk_from_taken_line b l n e m ms t, walk_from_taken_line b k n e m ms t) (walk_ignores_list c (buffer_after b c l) (buffer_after b c k) (suc n) ms e))
+    (λ t. rw (walk_from_refused_line b l n e m ms t, walk_from_refused_line b k n e m ms t) (refl, refl, refl))
 
-pub any_buffer : (i : Inputs) (l k : List Float) (bs : List ℕ) → ((walked i l bs).book ≡ (walked i k bs).book) × ((walked i l bs).taken ≡ (walked i k bs).taken) × ((walked i l bs).stop ≡ (walked i k bs).stop)
+pub walked_ignores_list : (i : Inputs) (l k : List Float) (bs : List ℕ) → ((walked i l bs).book ≡ (walked i k bs).book) × ((walked i l bs).taken ≡ (walked i k bs).taken) × ((walked i l bs).walk_end ≡ (walked i k bs).walk_end)
 unfolding walked
-any_buffer i l k bs = same_walk (opened i) (written (first_list i) l) (written (first_list i) k) 0 (read_journal bs).lines (stop_at (read_journal bs).ending)
+walked_ignores_list i l k bs = walk_ignores_list (opened i) (written (first_list i) l) (written (first_list i) k) 0 (read_journal bs).lines (walk_end_at (read_journal bs).ending)

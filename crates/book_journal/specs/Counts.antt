@@ -3,7 +3,7 @@
 -- only.
 use Rattle.std.specs.Prelude.{ℕ, ◌+◌, ◌≤◌, ◌≡◌, cond, List, [], ◌∷◌, Some, None}
 use Rattle.common.specs.declared.Refusal.{Refusal}
-use Rattle.journal_line.specs.Counts.{Kind, one, count_in, counts_in}
+use Rattle.journal_line.specs.Counts.{Kind, one_if_of_kind, count_in, counts_in}
 use Rattle.journal_line.specs.Reading.{read_journal}
 use Rattle.journal_line.specs.Report.{total}
 use Rattle.book.specs.Calls.{Call, Reply, candidate, over, part, scored, skipped, result, bar, stopped, line, no_line, refused, counts, counted}
@@ -16,8 +16,8 @@ abbrev pub said : Kind → Reply → ℕ
 said k (candidate n) = 0
 said k over = 0
 said k (part xs) = 0
-said k (scored s) = one k None
-said k (skipped reason) = one k (Some reason)
+said k (scored s) = one_if_of_kind k None
+said k (skipped reason) = one_if_of_kind k (Some reason)
 said k (result w) = 0
 said k (bar p) = 0
 said k (stopped c r) = 0

@@ -12,7 +12,7 @@ use Rattle.seed_rules.specs.Layout.{written}
 use Rattle.book_journal.specs.Replay.{buffer_after, walked}
 
 -- ---- Start's book, or the book in which the kept lines' outcomes were entered; which list is lent makes no difference
--- to it (`any_buffer`)
+-- to it (`walked_ignores_list`)
 pub data Opening : Type 0 where
   fresh : Opening
   from : List ℕ → Opening

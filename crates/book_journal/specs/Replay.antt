@@ -11,14 +11,14 @@ use Rattle.journal_line.specs.declared.Line.{Line}
 use Rattle.journal_line.specs.Line.{journal_bytes}
 use Rattle.journal_line.specs.Outcome.{outcome_in}
 use Rattle.journal_line.specs.Reading.{read_journal}
-use Rattle.journal_replay.specs.declared.Stop.{Stop}
-use Rattle.journal_replay.specs.declared.Stop.TheVariants.{NotTheRun}
+use Rattle.journal_replay.specs.declared.WalkEnd.{WalkEnd}
+use Rattle.journal_replay.specs.declared.WalkEnd.TheVariants.{NotTheRun}
 use Rattle.journal_replay.specs.declared.Standing.{Standing}
 use Rattle.journal_replay.specs.declared.Standing.TheVariants.{Winner, Unfinished}
 use Rattle.journal_replay.specs.declared.ReplayRefusal.{ReplayRefusal}
 use Rattle.journal_replay.specs.declared.ReplayRefusal.TheVariants.{Refused}
 use Rattle.journal_replay.specs.Stand.{same_reals, can_stand}
-use Rattle.journal_replay.specs.Walk.{stop_at}
+use Rattle.journal_replay.specs.Walk.{walk_end_at}
 use Rattle.journal_replay.specs.Replay.{reply_by, ReplayLeft}
 use Rattle.book.specs.Book.{Inputs, Book, number, current, run_best_of, first_list, opened, book_enter}
 use Rattle.book.specs.Theorem.{options_of}
@@ -43,23 +43,23 @@ pub record Walked : Type 0 where
   pub book : Book
   pub list : List Float
   pub taken : ℕ
-  pub stop : Stop
+  pub walk_end : WalkEnd
 
 -- Where entering an outcome opened a round, the round's list is written to the front of the lent list.
 unfoldable pub buffer_after : Book → Book → List Float → List Float
 buffer_after b c l = cond (eqb b.round c.round) l (written c.list l)
 
 -- walks the lines that the reader gives, one after the other; behind the last one it stops for the reader's reason
-unfoldable pub walk_from : Book → List Float → ℕ → List Line → Stop → Walked
-walk_from b l n [] e = record { book = b; list = l; taken = n; stop = e }
+unfoldable pub walk_from : Book → List Float → ℕ → List Line → WalkEnd → Walked
+walk_from b l n [] e = record { book = b; list = l; taken = n; walk_end = e }
 walk_from b l n (m ∷ ms) e = elim (follows b m) [
   | true ↦ let c = book_enter b (outcome_in m.outcome) in walk_from c (buffer_after b c l) (suc n) ms e
-  | false ↦ record { book = b; list = l; taken = n; stop = NotTheRun }
+  | false ↦ record { book = b; list = l; taken = n; walk_end = NotTheRun }
 ]
 
 -- Before the first line, an accepted Start has written round 0's list to the front of the lent list.
 unfoldable pub walked : Inputs → List Float → List ℕ → Walked
-walked i l bs = let r = read_journal bs in walk_from (opened i) (written (first_list i) l) 0 r.lines (stop_at r.ending)
+walked i l bs = let r = read_journal bs in walk_from (opened i) (written (first_list i) l) 0 r.lines (walk_end_at r.ending)
 
 -- the bytes of the lines that the walk took
 abbrev pub kept_of : List ℕ → Walked → List ℕ
@@ -76,7 +76,7 @@ unfoldable pub standing : Book → Result Standing Refusal
 standing b = cond b.over (winner_or_none (run_best_of b)) (Ok (Unfinished (current b)))
 
 abbrev pub reply_to : Walked → Result Standing ReplayRefusal
-reply_to w = reply_by w.stop w.taken (standing w.book)
+reply_to w = reply_by w.walk_end w.taken (standing w.book)
 
 -- The lent list afterwards is as the lines taken left it. After Start's own refusals it is as it was.
 unfoldable pub replay_of : Inputs → List Float → List ℕ → ReplayLeft

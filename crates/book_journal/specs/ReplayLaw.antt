@@ -11,7 +11,7 @@ use Rattle.score_best.specs.declared.Candidate.{Candidate}
 use Rattle.journal_line.specs.declared.Line.{Line}
 use Rattle.journal_line.specs.Line.{LineFits}
 use Rattle.journal_line.specs.Reading.{line_number_of, ended, refused, read_journal}
-use Rattle.journal_replay.specs.declared.Stop.TheVariants.{AllTaken, NotOfForm, NotTheRun}
+use Rattle.journal_replay.specs.declared.WalkEnd.TheVariants.{AllTaken, NotALine, NotTheRun}
 use Rattle.journal_replay.specs.declared.ReplayRefusal.TheVariants.{Refused, At}
 use Rattle.journal_replay.specs.Replay.{of_no_line}
 use Rattle.book.specs.Book.{Inputs, demand, Entry, Book, entries, number}
@@ -33,7 +33,7 @@ pub record LinesOfRun (b : Book) : Type 0 where
 
 -- ---- A run's own journal, walked from the same inputs, leads to that run again.
 pub record RunAgain (i : Inputs) (h : History i) (l : List Float) : Type 0 where
-  pub all_lines : (walked i l (journal_of (book_at h))).stop ≡ AllTaken
+  pub all_lines : (walked i l (journal_of (book_at h))).walk_end ≡ AllTaken
   -- the book is the run's, except that no seed waits; so its list, its entries and its best are the run's
   pub same_book : (walked i l (journal_of (book_at h))).book ≡ at_rest (book_at h)
   -- the reply is the run's winner, that it has none, or Unfinished with the seed that waits or that Next would hand out
@@ -71,21 +71,21 @@ pub record SameAsReader (i : Inputs) (l : List Float) (bs : List ℕ) : Type 0 w
   -- `ScoredHold` of every S line that the walk took
   pub scored_hold : All (ScoredHold i) (entries (walked i l bs).book)
   -- all lines are read and entered
-  pub all_read : (walked i l bs).stop ≡ AllTaken → read_journal bs ≡ record { lines = lines_of (walked i l bs).book; ending = ended }
+  pub all_read : (walked i l bs).walk_end ≡ AllTaken → read_journal bs ≡ record { lines = lines_of (walked i l bs).book; ending = ended }
   -- 29: the lines before are read and entered, and the reader refuses the next one with the same line number
-  pub not_read : (walked i l bs).stop ≡ NotOfForm → read_journal bs ≡ record { lines = lines_of (walked i l bs).book; ending = refused (suc (walked i l bs).taken) }
+  pub not_read : (walked i l bs).walk_end ≡ NotALine → read_journal bs ≡ record { lines = lines_of (walked i l bs).book; ending = refused (suc (walked i l bs).taken) }
   -- 30: the lines before are read and entered, and the next one is read, but isn't the run's next answer
-  pub not_following : (walked i l bs).stop ≡ NotTheRun
+  pub not_following : (walked i l bs).walk_end ≡ NotTheRun
       → (m : Line) × (ms : List Line) × ((read_journal bs).lines ≡ lines_of (walked i l bs).book ++ m ∷ ms) × (follows (walked i l bs).book m ≡ false)
 
 -- ---- A refused line: 29 only where the reader refuses it, with the reader's line number; 30 where it is read and
 -- can't follow the book of the lines before it. The number is the line's, counted from 1.
 pub record Declines (i : Inputs) (l : List Float) (bs : List ℕ) : Type 0 where
-  pub at_29 : (k : ℕ) → (replay_of i l bs).reply ≡ Err (At refusal.NotOfForm k) → (read_journal bs).ending ≡ refused k
+  pub at_29 : (k : ℕ) → (replay_of i l bs).reply ≡ Err (At refusal.NotALine k) → (read_journal bs).ending ≡ refused k
   pub at_30 : (k : ℕ) → (replay_of i l bs).reply ≡ Err (At refusal.NotTheRun k)
       → (m : Line) × (ms : List Line) × ((read_journal bs).lines ≡ lines_of (walked i l bs).book ++ m ∷ ms) × (follows (walked i l bs).book m ≡ false)
       × (k ≡ suc (length (lines_of (walked i l bs).book)))
-  pub no_others : (r : Refusal) (k : ℕ) → (replay_of i l bs).reply ≡ Err (At r k) → (r ≡ refusal.NotOfForm) ⊎ (r ≡ refusal.NotTheRun)
+  pub no_others : (r : Refusal) (k : ℕ) → (replay_of i l bs).reply ≡ Err (At r k) → (r ≡ refusal.NotALine) ⊎ (r ≡ refusal.NotTheRun)
   -- Any other reply, where Start refuses nothing: every line is read and entered, and the reply is how the book stands.
   pub else_all_read : NoneHolds (conditions i (length l)) → ((r : Refusal) (k : ℕ) → (replay_of i l bs).reply ≡ Err (At r k) → ⊥)
       → (read_journal bs ≡ record { lines = lines_of (walked i l bs).book; ending = ended }) × ((replay_of i l bs).reply ≡ of_no_line (standing (walked i l bs).book))
@@ -102,8 +102,8 @@ module _ (i : Inputs) (l : List Float) (bs : List ℕ) where
 
   pub record FrontAlone : Type 0 where
     pub is_front : take (length kept_bytes) bs ≡ kept_bytes
-    pub is_walked : (walked i l kept_bytes).stop ≡ AllTaken
-    pub is_longest : (at : ℕ) → at ≤ length bs → (walked i l (take at bs)).stop ≡ AllTaken → at ≤ length kept_bytes
+    pub is_walked : (walked i l kept_bytes).walk_end ≡ AllTaken
+    pub is_longest : (at : ℕ) → at ≤ length bs → (walked i l (take at bs)).walk_end ≡ AllTaken → at ≤ length kept_bytes
     pub same_book : (walked i l kept_bytes).book ≡ (walked i l bs).book
     pub same_list : (walked i l kept_bytes).list ≡ (walked i l bs).list
     pub same_taken : (walked i l kept_bytes).taken ≡ (walked i l bs).taken

@@ -6,9 +6,9 @@ use Rattle.journal_line.specs.declared.Line.{Line}
 use Rattle.journal_line.specs.Line.{line_bytes, LineFits, Writable, journal_bytes}
 use Rattle.journal_line.specs.Reading.{newlines}
 use Rattle.journal_line.specs.Theorem.{NoLine}
-use Rattle.journal_replay.specs.declared.Stop.TheVariants.{AllTaken, NotOfForm, NotTheRun}
+use Rattle.journal_replay.specs.declared.WalkEnd.TheVariants.{AllTaken, NotALine, NotTheRun}
 use Rattle.journal_replay.specs.declared.EndedBy.TheVariants as by
-use Rattle.journal_replay.specs.declared.Report.{Report}
+use Rattle.journal_replay.specs.declared.KeptLines.{KeptLines}
 use Rattle.journal_replay.specs.Resume.{ended_by_of}
 use Rattle.book.specs.Calls.{Call, next}
 use Rattle.book.specs.Book.{Inputs, demand, Book, entries, number, opened, replies, after}
@@ -25,57 +25,57 @@ rest_of bs w = drop (length (kept_of bs w)) bs
 
 -- How many lines and how many bytes are kept, how many bytes are dropped, and what ended the kept lines. Kept and
 -- dropped bytes are counted apart, so that their sum says something.
-unfoldable pub report_on : List ℕ → Walked → Report
-report_on bs w = record {
+unfoldable pub kept_lines_of : List ℕ → Walked → KeptLines
+kept_lines_of bs w = record {
   lines = w.taken;
   kept = length (kept_of bs w);
   dropped = length (rest_of bs w);
-  ended_by = ended_by_of w.stop (rest_of bs w);
+  ended_by = ended_by_of w.walk_end (rest_of bs w);
 }
 
 -- ---- the reply: the run given back, as its book, with the lent list and a report; or a refusal of Start's, with the
 -- lent list as it was
 pub data Resumed : Type 0 where
-  resumed : Book → List Float → Report → Resumed
+  resumed : Book → List Float → KeptLines → Resumed
   not_resumed : Refusal → List Float → Resumed
 
 unfoldable pub resume_of : Inputs → List Float → List ℕ → Resumed
 resume_of i l bs =
     let w = walked i l bs in
-    elim (start_refused i (length l)) [ Ok nothing_refused ↦ resumed w.book w.list (report_on bs w) | Err refusal ↦ not_resumed refusal l ]
+    elim (start_refused i (length l)) [ Ok nothing_refused ↦ resumed w.book w.list (kept_lines_of bs w) | Err refusal ↦ not_resumed refusal l ]
 
 -- Start's refusals come first, and leave the lent list as it was; there is no other refusal
 abbrev pub ResumeRefuses : Inputs → List Float → List ℕ → Type 0
 ResumeRefuses i l bs = (r : Refusal) → FirstHolds (conditions i (length l)) r → resume_of i l bs ≡ not_resumed r l
 
 abbrev pub ResumeAccepts : Inputs → List Float → List ℕ → Type 0
-ResumeAccepts i l bs = NoneHolds (conditions i (length l)) → resume_of i l bs ≡ resumed (walked i l bs).book (walked i l bs).list (report_on bs (walked i l bs))
+ResumeAccepts i l bs = NoneHolds (conditions i (length l)) → resume_of i l bs ≡ resumed (walked i l bs).book (walked i l bs).list (kept_lines_of bs (walked i l bs))
 
 -- ---- what holds of the book b, the lent list m and the report r that are given back for the bytes bs
-pub record GivesBack (i : Inputs) (l : List Float) (bs : List ℕ) (b : Book) (m : List Float) (r : Report) : Type 0 where
+pub record GivesBack (i : Inputs) (l : List Float) (bs : List ℕ) (b : Book) (m : List Float) (r : KeptLines) : Type 0 where
   -- no seed waits, and the run's list stands in front of m
   pub none_waits : b.waits ≡ false
   pub buffer : BufferOf i l b m
   -- the kept bytes are the run's journal, and no longer prefix is walked without 29 and 30
   pub lines_are : r.lines ≡ number b
   pub kept_journal : take r.kept bs ≡ journal_of b
-  pub is_longest : (at : ℕ) → at ≤ length bs → (walked i l (take at bs)).stop ≡ AllTaken → at ≤ r.kept
+  pub is_longest : (at : ℕ) → at ≤ length bs → (walked i l (take at bs)).walk_end ≡ AllTaken → at ≤ r.kept
   -- kept and dropped bytes are all of them
   pub adds_up : r.kept + r.dropped ≡ length bs
   -- what stands behind the kept bytes, by what ended them: nothing; bytes without a newline; bytes with a newline that
   -- don't begin with a line; a line that isn't the run's next answer
-  pub nothing_left : r.ended_by ≡ by.Stopped AllTaken → drop r.kept bs ≡ []
+  pub nothing_left : r.ended_by ≡ by.WalkEnded AllTaken → drop r.kept bs ≡ []
   pub newline_missing : r.ended_by ≡ by.MissingNewline → (drop r.kept bs ≡ [] → ⊥) × (newlines (drop r.kept bs) ≡ 0)
-  pub not_of_form : r.ended_by ≡ by.Stopped NotOfForm → (1 ≤ newlines (drop r.kept bs)) × NoLine (drop r.kept bs)
-  pub not_the_run : r.ended_by ≡ by.Stopped NotTheRun → (n : Line) × (tail : List ℕ) × LineFits n × Writable n × (drop r.kept bs ≡ line_bytes n ++ tail) × (follows b n ≡ false)
+  pub not_a_line : r.ended_by ≡ by.WalkEnded NotALine → (1 ≤ newlines (drop r.kept bs)) × NoLine (drop r.kept bs)
+  pub not_the_run : r.ended_by ≡ by.WalkEnded NotTheRun → (n : Line) × (tail : List ℕ) × LineFits n × Writable n × (drop r.kept bs ≡ line_bytes n ++ tail) × (follows b n ≡ false)
 
 -- ---- A run's journal that is cut after any byte: the whole lines before the cut are kept, and nothing else.
 module _ (i : Inputs) (h : History i) (at : ℕ) where
   abbrev pub cut_journal : List ℕ
   cut_journal = take at (journal_of (book_at h))
 
-  abbrev pub report : List Float → Report
-  report l = report_on cut_journal (walked i l cut_journal)
+  abbrev pub cut_kept_lines : List Float → KeptLines
+  cut_kept_lines l = kept_lines_of cut_journal (walked i l cut_journal)
 
   pub record CutAt (l : List Float) : Type 0 where
     -- how many whole lines stand before the cut, and the part of a line that the cut leaves
@@ -85,11 +85,11 @@ module _ (i : Inputs) (h : History i) (at : ℕ) where
     pub no_newline : newlines part ≡ 0
     pub after_newline : (s : List ℕ) → cut_journal ≡ s ++ 10 ∷ [] → part ≡ []
     -- the whole lines are kept, and the part alone is dropped
-    pub kept_lines : (report l).lines ≡ lines
-    pub kept_bytes_lem : (report l).kept ≡ length (journal_bytes (take lines (lines_of (book_at h))))
-    pub dropped_part : (report l).dropped ≡ length part
-    pub by_nothing : part ≡ [] → (report l).ended_by ≡ by.Stopped AllTaken
-    pub by_newline : (part ≡ [] → ⊥) → (report l).ended_by ≡ by.MissingNewline
+    pub kept_lines : (cut_kept_lines l).lines ≡ lines
+    pub kept_bytes_lem : (cut_kept_lines l).kept ≡ length (journal_bytes (take lines (lines_of (book_at h))))
+    pub dropped_part : (cut_kept_lines l).dropped ≡ length part
+    pub by_nothing : part ≡ [] → (cut_kept_lines l).ended_by ≡ by.WalkEnded AllTaken
+    pub by_newline : (part ≡ [] → ⊥) → (cut_kept_lines l).ended_by ≡ by.MissingNewline
     -- the book is that of as many answers as there are whole lines
     pub book_is : (walked i l cut_journal).book ≡ entered_in (opened i) (take lines (entries (book_at h)))
 

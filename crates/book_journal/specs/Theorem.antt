@@ -5,7 +5,7 @@ use Rattle.common.specs.Each.{All}
 use Rattle.search_record.specs.declared.run.Run.{Run}
 use Rattle.journal_line.specs.Line.{Writable}
 use Rattle.journal_replay.specs.declared.Standing.TheVariants.{Winner}
-use Rattle.journal_replay.specs.declared.Report.{Report}
+use Rattle.journal_replay.specs.declared.KeptLines.{KeptLines}
 use Rattle.book.specs.Calls.{Call}
 use Rattle.book.specs.Book.{Inputs, Book, number}
 use Rattle.book.specs.Conditions.{NoneHolds, conditions}
@@ -50,7 +50,7 @@ pub record JournalsRight : Type 0 where
   -- ---- going on from a journal
   pub resume_refuses : (i : Inputs) (l : List Float) (bs : List ℕ) → ResumeRefuses i l bs
   pub resume_accepts : (i : Inputs) (l : List Float) (bs : List ℕ) → ResumeAccepts i l bs
-  pub gives_back : (i : Inputs) (l : List Float) (bs : List ℕ) → InputsFit i → (b : Book) (m : List Float) (r : Report) → resume_of i l bs ≡ resumed b m r → GivesBack i l bs b m r
+  pub gives_back : (i : Inputs) (l : List Float) (bs : List ℕ) → InputsFit i → (b : Book) (m : List Float) (r : KeptLines) → resume_of i l bs ≡ resumed b m r → GivesBack i l bs b m r
   pub cut_anywhere : (i : Inputs) (h : History i) → Fitting i h → (at : ℕ) (l : List Float) → CutAt i h at l
   pub goes_on : (i : Inputs) (h : History i) → Fitting i h → (at : ℕ) (cs ds : List Call) → h.calls ≡ cs ++ ds → number (uncut i h at cs ds) ≡ number (cut_run i h at) → GoesOn i h at cs ds
   pub goes_on_somewhere : (i : Inputs) (h : History i) → Fitting i h → (at : ℕ) → number (opened_by i h.opening) ≤ number (cut_run i h at) → GoesOnSomewhere i h at

@@ -6,18 +6,18 @@ use Rattle.std.specs.Float.Ieee.{of_bits, neg}
 use Rattle.camera_models.specs.declared.intrinsics.FxFyCxCy.{FxFyCxCy}
 use Rattle.seed_rules.specs.declared.CandidateSeed.{CandidateSeed}
 use Rattle.seed_rules.specs.Layout.{six}
-use Rattle.common.specs.declared.Refusal.TheVariants.{SmallBuffer, NothingScored, NotOfForm, NotTheRun}
+use Rattle.common.specs.declared.Refusal.TheVariants.{ListTooShort, NothingScored, NotALine, NotTheRun}
 use Rattle.score_outcome.specs.declared.SkipReason.TheVariants.{HostFailed, NoNumber}
 use Rattle.journal_line.specs.declared.Line.{Line}
 use Rattle.journal_line.specs.Line.{journal_bytes}
 use Rattle.journal_replay.specs.declared.Standing.TheVariants.{Winner, Unfinished}
 use Rattle.journal_replay.specs.declared.ReplayRefusal.TheVariants.{Refused, At}
-use Rattle.journal_replay.specs.declared.Stop.TheVariants as stop
+use Rattle.journal_replay.specs.declared.WalkEnd.TheVariants as walk_end
 use Rattle.journal_replay.specs.declared.EndedBy.TheVariants as by
-use Rattle.journal_replay.specs.declared.Report.{Report}
+use Rattle.journal_replay.specs.declared.KeptLines.{KeptLines}
 use Rattle.book.specs.Book.{Inputs}
 use Rattle.book_journal.specs.Replay.{walked, replay_of}
-use Rattle.book_journal.specs.Resume.{report_on}
+use Rattle.book_journal.specs.Resume.{kept_lines_of}
 
 abbrev bits : ℕ → Float
 bits n = of_bits binary64 n
@@ -88,7 +88,7 @@ pub record Replays : Type 0 where
   pub mean_below : (replay_of given buffer (journal_bytes (first ∷ second_with 1 0 (seed_of quarter) (bits 0xbff0_0000_0000_0000) below ∷ []))).reply ≡ Err (At NotTheRun 2)
   -- behind the end: a line is 30, other bytes are 29
   pub line_behind : (replay_of given buffer (journal_bytes (first ∷ second ∷ second ∷ []))).reply ≡ Err (At NotTheRun 3)
-  pub bytes_behind : (replay_of given buffer (whole ++ 120 ∷ 10 ∷ [])).reply ≡ Err (At NotOfForm 3)
+  pub bytes_behind : (replay_of given buffer (whole ++ 120 ∷ 10 ∷ [])).reply ≡ Err (At NotALine 3)
   -- with a round to follow: the first seed of the list around the winner comes next, and its first two seeds stand in
   -- front of the lent list
   pub next_seed : (replay_of (inputs_with 1) buffer whole).reply ≡ Ok (Unfinished (record { reference_k = camera; sensor = record { tilt_x = f0; tilt_y = neg quarter } }))
@@ -96,24 +96,24 @@ pub record Replays : Type 0 where
   -- after a 30 on the first line round 0's list stands in the lent list, and behind it what stood there before
   pub first_list_lem : take 14 (replay_of given buffer (journal_bytes (second ∷ []))).list ≡ six (seed_of f0) ++ six (seed_of quarter) ++ (f1 ∷ f1 ∷ [])
   -- Start's own refusal comes first, and leaves the lent list
-  pub too_short : replay_of given [] (120 ∷ []) ≡ record { reply = Err (Refused SmallBuffer); list = [] }
+  pub too_short : replay_of given [] (120 ∷ []) ≡ record { reply = Err (Refused ListTooShort); list = [] }
 
 -- what Resume reports on these bytes
-abbrev report_of : List ℕ → Report
-report_of bs = report_on bs (walked given buffer bs)
+abbrev kept_lines_in : List ℕ → KeptLines
+kept_lines_in bs = kept_lines_of bs (walked given buffer bs)
 
-pub record Reports : Type 0 where
+pub record KeepsLines : Type 0 where
   -- the journal whole, and cut behind its first line, which has 124 bytes
-  pub all_kept : report_of whole ≡ record { lines = 2; kept = 368; dropped = 0; ended_by = by.Stopped stop.AllTaken }
-  pub after_newline : report_of (take 124 whole) ≡ record { lines = 1; kept = 124; dropped = 0; ended_by = by.Stopped stop.AllTaken }
+  pub all_kept : kept_lines_in whole ≡ record { lines = 2; kept = 368; dropped = 0; ended_by = by.WalkEnded walk_end.AllTaken }
+  pub after_newline : kept_lines_in (take 124 whole) ≡ record { lines = 1; kept = 124; dropped = 0; ended_by = by.WalkEnded walk_end.AllTaken }
   -- without its last byte, and without its last two
-  pub cut_line : report_of (take 367 whole) ≡ record { lines = 1; kept = 124; dropped = 243; ended_by = by.MissingNewline }
-  pub cut_line_again : report_of (take 366 whole) ≡ record { lines = 1; kept = 124; dropped = 242; ended_by = by.MissingNewline }
+  pub cut_line : kept_lines_in (take 367 whole) ≡ record { lines = 1; kept = 124; dropped = 243; ended_by = by.MissingNewline }
+  pub cut_line_again : kept_lines_in (take 366 whole) ≡ record { lines = 1; kept = 124; dropped = 242; ended_by = by.MissingNewline }
   -- behind the end a part of a line, and a line; and, in place of the journal, bytes that don't begin with a line
-  pub part_behind : report_of (whole ++ 48 ∷ []) ≡ record { lines = 2; kept = 368; dropped = 1; ended_by = by.MissingNewline }
-  pub line_behind : report_of (journal_bytes (first ∷ second ∷ first ∷ [])) ≡ record { lines = 2; kept = 368; dropped = 124; ended_by = by.Stopped stop.NotTheRun }
-  pub bytes_behind : report_of (120 ∷ 10 ∷ 48 ∷ 44 ∷ 48 ∷ []) ≡ record { lines = 0; kept = 0; dropped = 5; ended_by = by.Stopped stop.NotOfForm }
+  pub part_behind : kept_lines_in (whole ++ 48 ∷ []) ≡ record { lines = 2; kept = 368; dropped = 1; ended_by = by.MissingNewline }
+  pub line_behind : kept_lines_in (journal_bytes (first ∷ second ∷ first ∷ [])) ≡ record { lines = 2; kept = 368; dropped = 124; ended_by = by.WalkEnded walk_end.NotTheRun }
+  pub bytes_behind : kept_lines_in (120 ∷ 10 ∷ 48 ∷ 44 ∷ 48 ∷ []) ≡ record { lines = 0; kept = 0; dropped = 5; ended_by = by.WalkEnded walk_end.NotALine }
 
 pub record WorkedRight : Type 0 where
   pub replays : Replays
-  pub reports : Reports
+  pub keeps_lines : KeepsLines

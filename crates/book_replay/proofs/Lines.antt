@@ -15,84 +15,84 @@ use Rattle.search_record.specs.declared.run.Run.{Run}
 use Rattle.search_calls.specs.declared.next.Handed.TheVariants as handed
 use Rattle.search_calls.specs.Next.{next_def}
 use Rattle.search_answer.specs.Answer.{Left, left, enter_def}
-use Rattle.journal_replay.specs.declared.Stop.{Stop}
-use Rattle.journal_replay.specs.declared.Stop.TheVariants.{NotTheRun}
+use Rattle.journal_replay.specs.declared.WalkEnd.{WalkEnd}
+use Rattle.journal_replay.specs.declared.WalkEnd.TheVariants.{NotTheRun}
 use Rattle.journal_replay.specs.Stand.{same_reals, can_stand}
 use Rattle.journal_replay.specs.Walk.{answers_waiting, take_line, RunWalk, walk_lines}
 use Rattle.journal_replay.specs.Replay.{standing_of}
 use Rattle.book.specs.Book.{Inputs, demand, Book, number, current, run_best_of, with_waiting, with_entry, book_enter}
 use Rattle.book.proofs.Cases.{case_chosen}
-use Rattle.book.proofs.Moves.{enter_holds, await_holds}
-use Rattle.book.proofs.Good.{steps}
+use Rattle.book.proofs.Moves.{enter_adds_entry, waiting_keeps_entries}
+use Rattle.book.proofs.Good.{calls_keep_good}
 use Rattle.book.specs.RunOf.{run_of}
-use Rattle.book.proofs.RunOf.{State, run-fields, run-bests, sound_run}
-use Rattle.book.proofs.Simulation.{await_run, await_there, in_list, Ends, enter_agrees}
+use Rattle.book.proofs.RunOf.{State, run-fields, run-bests, run_of_sound}
+use Rattle.book.proofs.Simulation.{awaiting_run_of, waiting_keeps_list_in_front, seed_at_is_current, GoesWith, enter_agrees}
 use Rattle.book_journal.specs.Replay.{follows, Walked, buffer_after, walk_from, standing}
-use Rattle.book_journal.proofs.Standing.{follower}
-use Rattle.book_journal.proofs.Walk.{walk_end_lem, walk_on, walk_stop}
-use Rattle.book_journal.proofs.Live.{enter_list}
+use Rattle.book_journal.proofs.Standing.{following_line_is_of_entry}
+use Rattle.book_journal.proofs.Walk.{walk_from_no_lines, walk_from_taken_line, walk_from_refused_line}
+use Rattle.book_journal.proofs.Live.{enter_list_is_buffer_after}
 
 -- ---- Next, where no seed waits
 module _ (i : Inputs) (b : Book) (l : List Float) (f : State i b l) (w : b.waits ≡ false) where
-  pub next_going : b.over ≡ false → next_def (run_of b) l ≡ record { reply = Ok (handed.Candidate (number b)); run = run_of (with_waiting b) }
+  pub next_hands_out_seed : b.over ≡ false → next_def (run_of b) l ≡ record { reply = Ok (handed.Candidate (number b)); run = run_of (with_waiting b) }
   unfolding next_def
-  next_going o =
-      simp (next_def, run-fields, sound_run i b f.good, w, o, le-ltb (length l) (demand b.inputs) f.there.long, in_list b l f.there (f.good.room o), await_run b)
+  next_hands_out_seed o =
+      simp (next_def, run-fields, run_of_sound i b f.good, w, o, le-ltb (length l) (demand b.inputs) f.there.long, seed_at_is_current b l f.there (f.good.room o), awaiting_run_of b)
 
-  next_none : b.over ≡ true → run_best_of b ≡ nothing → next_def (run_of b) l ≡ record { reply = Err NothingScored; run = run_of b }
+  next_nothing_scored : b.over ≡ true → run_best_of b ≡ nothing → next_def (run_of b) l ≡ record { reply = Err NothingScored; run = run_of b }
   unfolding next_def
-  next_none o e = simp (next_def, run-fields, run-bests, sound_run i b f.good, w, o, e, le-ltb (length l) (demand b.inputs) f.there.long)
+  next_nothing_scored o e = simp (next_def, run-fields, run-bests, run_of_sound i b f.good, w, o, e, le-ltb (length l) (demand b.inputs) f.there.long)
 
   next_over : (v : Candidate) → b.over ≡ true → run_best_of b ≡ chosen v → next_def (run_of b) l ≡ record { reply = Ok handed.Over; run = run_of b }
   unfolding next_def
-  next_over v o e = simp (next_def, run-fields, run-bests, sound_run i b f.good, w, o, e, le-ltb (length l) (demand b.inputs) f.there.long)
+  next_over v o e = simp (next_def, run-fields, run-bests, run_of_sound i b f.good, w, o, e, le-ltb (length l) (demand b.inputs) f.there.long)
 
 -- ---- a line is the next answer of the record exactly where it is that of the book
 abbrev is_next : Book → Line → Bool
 is_next b m = eqb m.number (number b) && eqb m.round b.round && same_reals (six m.seed) (six (current b)) && can_stand b.inputs.center (current b).sensor m.outcome
 
-answers_next : (b : Book) (m : Line) → answers_waiting (run_of (with_waiting b)) m ≡ is_next b m
+answers_waiting_is_next : (b : Book) (m : Line) → answers_waiting (run_of (with_waiting b)) m ≡ is_next b m
 unfolding answers_waiting run_of with_waiting
-answers_next b m = refl
+answers_waiting_is_next b m = refl
 
-follows_going : (b : Book) (m : Line) → b.over ≡ false → follows b m ≡ is_next b m
+follows_is_next : (b : Book) (m : Line) → b.over ≡ false → follows b m ≡ is_next b m
 unfolding follows
-follows_going b m o = simp o
+follows_is_next b m o = simp o
 
-follows_over : (b : Book) (m : Line) → b.over ≡ true → follows b m ≡ false
+none_follows_over : (b : Book) (m : Line) → b.over ≡ true → follows b m ≡ false
 unfolding follows
-follows_over b m o = simp o
+none_follows_over b m o = simp o
 
 -- ---- entering an outcome; whether the seed waits before it makes no difference
 module _ (b : Book) where
-  await_inputs : (with_waiting b).inputs ≡ b.inputs
+  waiting_keeps_inputs : (with_waiting b).inputs ≡ b.inputs
   unfolding with_waiting
-  await_inputs = refl
+  waiting_keeps_inputs = refl
 
-  pub await_seed : (run_of (with_waiting b)).waiting.seed ≡ current b
+  pub waiting_seed_of_run : (run_of (with_waiting b)).waiting.seed ≡ current b
   unfolding run_of with_waiting
-  await_seed = refl
+  waiting_seed_of_run = refl
 
-  await_enter : (o : Outcome) → book_enter (with_waiting b) o ≡ book_enter b o
+  enter_after_waiting : (o : Outcome) → book_enter (with_waiting b) o ≡ book_enter b o
   unfolding book_enter with_entry with_waiting
-  await_enter o = refl
+  enter_after_waiting o = refl
 
-  await_list : (c : Book) (l : List Float) → buffer_after (with_waiting b) c l ≡ buffer_after b c l
+  buffer_after_waiting : (c : Book) (l : List Float) → buffer_after (with_waiting b) c l ≡ buffer_after b c l
   unfolding buffer_after with_waiting
-  await_list c l = refl
+  buffer_after_waiting c l = refl
 
 module _ (i : Inputs) (b : Book) (l : List Float) (f : State i b l) (o : Outcome) where
   abbrev entered : Left
   entered = enter_def (run_of (with_waiting b)) l o
 
-  enter_ends : Ends entered (book_enter b o)
-  enter_ends = rw (await_enter b o) at (enter_agrees (with_waiting b) o l (await_holds b).1 (await_there b l f.there) (rw (await_inputs b) f.good.core.sized.least))
+  entered_goes_with_enter : GoesWith entered (book_enter b o)
+  entered_goes_with_enter = rw (enter_after_waiting b o) at (enter_agrees (with_waiting b) o l (waiting_keeps_entries b).1 (waiting_keeps_list_in_front b l f.there) (rw (waiting_keeps_inputs b) f.good.core.sized.least))
 
-  enter_left : entered ≡ left (run_of (book_enter b o)) (buffer_after b (book_enter b o) l)
-  enter_left =
+  entered_leaves_book : entered ≡ left (run_of (book_enter b o)) (buffer_after b (book_enter b o) l)
+  entered_leaves_book =
       let m : entered.list ≡ buffer_after b (book_enter b o) l =
-      enter_list (with_waiting b) o l (await_holds b).1 ∙ ap (λ (c : Book). buffer_after (with_waiting b) c l) (await_enter b o) ∙ await_list b (book_enter b o) l in
-      ap (λ (x : Run). left x entered.list) enter_ends.run ∙ ap (left (run_of (book_enter b o))) m
+      enter_list_is_buffer_after (with_waiting b) o l (waiting_keeps_entries b).1 ∙ ap (λ (c : Book). buffer_after (with_waiting b) c l) (enter_after_waiting b o) ∙ buffer_after_waiting b (book_enter b o) l in
+      ap (λ (x : Run). left x entered.list) entered_goes_with_enter.run ∙ ap (left (run_of (book_enter b o))) m
 
 -- ---- one line is taken exactly where it follows
 module _ (i : Inputs) (b : Book) (l : List Float) (f : State i b l) (w : b.waits ≡ false) (m : Line) where
@@ -103,94 +103,94 @@ module _ (i : Inputs) (b : Book) (l : List Float) (f : State i b l) (w : b.waits
   unfolding take_line
   line_taken t =
       case b.over
-      (λ o. absurd (true≢false (sym t ∙ follows_over b m o)))
-      (λ o. simp (next_going i b l f w o, answers_next b m, sym (follows_going b m o) ∙ t, enter_left i b l f (outcome_in m.outcome)))
+      (λ o. absurd (true≢false (sym t ∙ none_follows_over b m o)))
+      (λ o. simp (next_hands_out_seed i b l f w o, answers_waiting_is_next b m, sym (follows_is_next b m o) ∙ t, entered_leaves_book i b l f (outcome_in m.outcome)))
 
   line_refused : follows b m ≡ false → take_line (run_of b) l m ≡ None
   unfolding take_line
   line_refused t =
       case b.over
-      (λ o. case_chosen (run_best_of b) (λ e. simp (next_none i b l f w o e)) (λ v e. simp (next_over i b l f w v o e)))
-      (λ o. simp (next_going i b l f w o, answers_next b m, sym (follows_going b m o) ∙ t))
+      (λ o. case_chosen (run_best_of b) (λ e. simp (next_nothing_scored i b l f w o e)) (λ v e. simp (next_over i b l f w v o e)))
+      (λ o. simp (next_hands_out_seed i b l f w o, answers_waiting_is_next b m, sym (follows_is_next b m o) ∙ t))
 
   line_state : LineFits m → Writable m → follows b m ≡ true → State i next (buffer_after b next l)
   line_state ok can t =
-      let s = follower b m ok can t in
+      let s = following_line_is_of_entry b m ok can t in
       record {
-        good = (steps i).enters_by b (outcome_in m.outcome) s.going s.stands f.good;
-        there = rw (enter_left i b l f (outcome_in m.outcome)) at (enter_ends i b l f (outcome_in m.outcome)).there;
+        good = (calls_keep_good i).enters_by b (outcome_in m.outcome) s.going s.stands f.good;
+        there = rw (entered_leaves_book i b l f (outcome_in m.outcome)) at (entered_goes_with_enter i b l f (outcome_in m.outcome)).there;
       }
 
 -- ---- any lines
-walk_none : (r : Run) (l : List Float) (n k : ℕ) (m : Line) (ms : List Line) (e : Stop) → take_line r l m ≡ None
-    → walk_lines r l n k (m ∷ ms) e ≡ record { run = r; list = l; lines = n; bytes = k; stop = NotTheRun }
+walk_lines_refused : (r : Run) (l : List Float) (n k : ℕ) (m : Line) (ms : List Line) (e : WalkEnd) → take_line r l m ≡ None
+    → walk_lines r l n k (m ∷ ms) e ≡ record { run = r; list = l; lines = n; bytes = k; walk_end = NotTheRun }
 unfolding walk_lines
-walk_none r l n k m ms e t = simp (walk_lines, t)
+walk_lines_refused r l n k m ms e t = simp (walk_lines, t)
 
-walk_some : (r : Run) (l : List Float) (n k : ℕ) (m : Line) (ms : List Line) (e : Stop) (x : Left) → take_line r l m ≡ Some x
+walk_lines_taken : (r : Run) (l : List Float) (n k : ℕ) (m : Line) (ms : List Line) (e : WalkEnd) (x : Left) → take_line r l m ≡ Some x
     → walk_lines r l n k (m ∷ ms) e ≡ walk_lines x.run x.list (suc n) (k + length (line_bytes m)) ms e
 unfolding walk_lines
-walk_some r l n k m ms e x t = simp (walk_lines, t)
+walk_lines_taken r l n k m ms e x t = simp (walk_lines, t)
 
 -- the walk over the record, where w is the book's walk and the lines taken have k bytes
 abbrev pub record_walk : Walked → ℕ → RunWalk
-record_walk w k = record { run = run_of w.book; list = w.list; lines = w.taken; bytes = k; stop = w.stop }
+record_walk w k = record { run = run_of w.book; list = w.list; lines = w.taken; bytes = k; walk_end = w.walk_end }
 
-pub record Walks (b : Book) (l : List Float) (n k : ℕ) (ms : List Line) (e : Stop) : Type 0 where
+pub record WalksAsBook (b : Book) (l : List Float) (n k : ℕ) (ms : List Line) (e : WalkEnd) : Type 0 where
   pub count : ℕ
   pub taken_is : (walk_from b l n ms e).taken ≡ n + count
   pub walk_is : walk_lines (run_of b) l n k ms e ≡ record_walk (walk_from b l n ms e) (k + length (journal_bytes (take count ms)))
 
-walks_end : (b : Book) (l : List Float) (n k : ℕ) (e : Stop) → Walks b l n k [] e
+walks_as_book_end : (b : Book) (l : List Float) (n k : ℕ) (e : WalkEnd) → WalksAsBook b l n k [] e
 unfolding walk_lines journal_bytes
-walks_end b l n k e =
-    let w = walk_end_lem b l n e in
+walks_as_book_end b l n k e =
+    let w = walk_from_no_lines b l n e in
     record {
       count = 0;
       taken_is = ap (λ (x : Walked). x.taken) w ∙ omega arith;
-      walk_is = rw w (ap (λ (z : ℕ). record { run = run_of b; list = l; lines = n; bytes = z; stop = e }) (omega arith));
+      walk_is = rw w (ap (λ (z : ℕ). record { run = run_of b; list = l; lines = n; bytes = z; walk_end = e }) (omega arith));
     }
 
-walks_stop : (i : Inputs) (b : Book) (l : List Float) (n k : ℕ) (m : Line) (ms : List Line) (e : Stop) → State i b l → b.waits ≡ false → follows b m ≡ false → Walks b l n k (m ∷ ms) e
+walks_as_book_stop : (i : Inputs) (b : Book) (l : List Float) (n k : ℕ) (m : Line) (ms : List Line) (e : WalkEnd) → State i b l → b.waits ≡ false → follows b m ≡ false → WalksAsBook b l n k (m ∷ ms) e
 unfolding journal_bytes
-walks_stop i b l n k m ms e f v t =
-    let w = walk_stop b l n e m ms t in
+walks_as_book_stop i b l n k m ms e f v t =
+    let w = walk_from_refused_line b l n e m ms t in
     record {
       count = 0;
       taken_is = ap (λ (x : Walked). x.taken) w ∙ omega arith;
-      walk_is = walk_none (run_of b) l n k m ms e (line_refused i b l f v m t) ∙ rw w (ap (λ (z : ℕ). record { run = run_of b; list = l; lines = n; bytes = z; stop = NotTheRun }) (omega arith));
+      walk_is = walk_lines_refused (run_of b) l n k m ms e (line_refused i b l f v m t) ∙ rw w (ap (λ (z : ℕ). record { run = run_of b; list = l; lines = n; bytes = z; walk_end = NotTheRun }) (omega arith));
     }
 
-walks_on : (i : Inputs) (b : Book) (l : List Float) (n k : ℕ) (m : Line) (ms : List Line) (e : Stop) (f : State i b l) → b.waits ≡ false → follows b m ≡ true
-    → (let c = book_enter b (outcome_in m.outcome) in Walks c (buffer_after b c l) (suc n) (k + length (line_bytes m)) ms e) → Walks b l n k (m ∷ ms) e
+walks_as_book_taken : (i : Inputs) (b : Book) (l : List Float) (n k : ℕ) (m : Line) (ms : List Line) (e : WalkEnd) (f : State i b l) → b.waits ≡ false → follows b m ≡ true
+    → (let c = book_enter b (outcome_in m.outcome) in WalksAsBook c (buffer_after b c l) (suc n) (k + length (line_bytes m)) ms e) → WalksAsBook b l n k (m ∷ ms) e
 unfolding journal_bytes
-walks_on i b l n k m ms e f v t ih =
+walks_as_book_taken i b l n k m ms e f v t ih =
     let c = book_enter b (outcome_in m.outcome) in
-    let w = walk_on b l n e m ms t in
+    let w = walk_from_taken_line b l n e m ms t in
     let z = length-append (line_bytes m) (journal_bytes (take ih.count ms)) in
     record {
       count = suc ih.count;
       taken_is = ap (λ (x : Walked). x.taken) w ∙ ih.taken_is ∙ omega arith;
       walk_is =
-          walk_some (run_of b) l n k m ms e (left (run_of c) (buffer_after b c l)) (line_taken i b l f v m t)
+          walk_lines_taken (run_of b) l n k m ms e (left (run_of c) (buffer_after b c l)) (line_taken i b l f v m t)
           ∙ ih.walk_is
           ∙ rw w (ap (record_walk (walk_from c (buffer_after b c l) (suc n) ms e)) (omega arith));
     }
 
-pub walks : (i : Inputs) (b : Book) (l : List Float) (n k : ℕ) (ms : List Line) (e : Stop) → State i b l → b.waits ≡ false → All LineFits ms → All Writable ms → Walks b l n k ms e
-walks i b l n k [] e f v ok can = walks_end b l n k e
-walks i b l n k (m ∷ ms) e f v ok can =
+pub lines_walk_as_book : (i : Inputs) (b : Book) (l : List Float) (n k : ℕ) (ms : List Line) (e : WalkEnd) → State i b l → b.waits ≡ false → All LineFits ms → All Writable ms → WalksAsBook b l n k ms e
+lines_walk_as_book i b l n k [] e f v ok can = walks_as_book_end b l n k e
+lines_walk_as_book i b l n k (m ∷ ms) e f v ok can =
     case (follows b m)
     (λ t.
     let c = book_enter b (outcome_in m.outcome) in
-    walks_on i b l n k m ms e f v t
-    (walks i c (buffer_after b c l) (suc n) (k + length (line_bytes m)) ms e (line_state i b l f v m ok.0 can.0 t) (enter_holds b (outcome_in m.outcome)).1 ok.1 can.1))
-    (λ t. walks_stop i b l n k m ms e f v t)
+    walks_as_book_taken i b l n k m ms e f v t
+    (lines_walk_as_book i c (buffer_after b c l) (suc n) (k + length (line_bytes m)) ms e (line_state i b l f v m ok.0 can.0 t) (enter_adds_entry b (outcome_in m.outcome)).1 ok.1 can.1))
+    (λ t. walks_as_book_stop i b l n k m ms e f v t)
 
 -- ---- where a run stands
-pub stands_same : (i : Inputs) (b : Book) (l : List Float) → State i b l → b.waits ≡ false → standing_of (run_of b) l ≡ standing b
+pub standing_of_run : (i : Inputs) (b : Book) (l : List Float) → State i b l → b.waits ≡ false → standing_of (run_of b) l ≡ standing b
 unfolding standing_of standing
-stands_same i b l f w =
+standing_of_run i b l f w =
     case b.over
-    (λ o. case_chosen (run_best_of b) (λ e. simp (next_none i b l f w o e, o, e)) (λ v e. simp (next_over i b l f w v o e, o, e, run-bests)))
-    (λ o. simp (next_going i b l f w o, o, await_seed b))
+    (λ o. case_chosen (run_best_of b) (λ e. simp (next_nothing_scored i b l f w o e, o, e)) (λ v e. simp (next_over i b l f w v o e, o, e, run-bests)))
+    (λ o. simp (next_hands_out_seed i b l f w o, o, waiting_seed_of_run b))

@@ -7,7 +7,7 @@ use Rattle.common.specs.Each.{All}
 use Rattle.score_best.specs.declared.Candidate.{Candidate}
 use Rattle.journal_line.specs.Reading.{newlines}
 use Rattle.search_record.specs.declared.run.Run.{Run}
-use Rattle.search_record.specs.Record.{nobody}
+use Rattle.search_record.specs.Record.{no_waiting_seed}
 use Rattle.search_calls.specs.declared.next.Handed.TheVariants as handed
 use Rattle.search_calls.specs.Next.{next_def}
 use Rattle.search_calls.specs.Result.{result_def}
@@ -15,9 +15,9 @@ use Rattle.journal_replay.specs.declared.Standing.{Standing}
 use Rattle.journal_replay.specs.declared.Standing.TheVariants.{Winner, Unfinished}
 use Rattle.journal_replay.specs.declared.ReplayRefusal.{ReplayRefusal}
 use Rattle.journal_replay.specs.declared.ReplayRefusal.TheVariants.{Refused}
-use Rattle.journal_replay.specs.declared.Stop.TheVariants.{AllTaken}
+use Rattle.journal_replay.specs.declared.WalkEnd.TheVariants.{AllTaken}
 use Rattle.journal_replay.specs.declared.EndedBy.TheVariants as by
-use Rattle.journal_replay.specs.declared.Report.{Report}
+use Rattle.journal_replay.specs.declared.KeptLines.{KeptLines}
 use Rattle.journal_replay.specs.Replay.{replay_from}
 use Rattle.journal_replay.specs.Resume.{ResumeLeft, resume_from}
 use Rattle.book.specs.Calls.{Call, next}
@@ -30,7 +30,7 @@ use Rattle.book.specs.RunOf.{run_of}
 use Rattle.book_journal.specs.Lines.{journal_of}
 use Rattle.book_journal.specs.Replay.{walked, replay_of}
 use Rattle.book_journal.specs.History.{History, book_at, InputsFit, CallFits, at_rest, list_at}
-use Rattle.book_journal.specs.Resume.{Resumed, resumed, not_resumed, resume_of, GivesBack, cut_journal, report, cut_run}
+use Rattle.book_journal.specs.Resume.{Resumed, resumed, not_resumed, resume_of, GivesBack, cut_journal, cut_kept_lines, cut_run}
 use Rattle.book_journal.specs.Live.{Continues}
 use Rattle.book_journal.specs.Written.{written_along}
 use Rattle.book_journal.specs.Theorem.{Fitting}
@@ -42,31 +42,31 @@ ReplayIsBook i l bs = replay_from (start_of i l) (started_list i l) bs ≡ repla
 
 -- Resume: the run given back is the record of the book, field by field
 abbrev pub with_record : Resumed → ResumeLeft
-with_record (resumed b m q) = record { reply = Ok (record { run = run_of b; report = q }); list = m }
+with_record (resumed b m q) = record { reply = Ok (record { run = run_of b; kept_lines = q }); list = m }
 with_record (not_resumed r m) = record { reply = Err r; list = m }
 
 abbrev pub ResumeIsBook : Inputs → List Float → List ℕ → Type 0
 ResumeIsBook i l bs = resume_from (start_of i l) (started_list i l) bs ≡ with_record (resume_of i l bs)
 
 -- ---- Resume, from these bytes, gives back this run, this report and this list
-abbrev pub GivesRun : Inputs → List Float → List ℕ → Run → Report → List Float → Type 0
-GivesRun i l bs r q m = resume_from (start_of i l) (started_list i l) bs ≡ record { reply = Ok (record { run = r; report = q }); list = m }
+abbrev pub GivesRun : Inputs → List Float → List ℕ → Run → KeptLines → List Float → Type 0
+GivesRun i l bs r q m = resume_from (start_of i l) (started_list i l) bs ≡ record { reply = Ok (record { run = r; kept_lines = q }); list = m }
 
 -- the same run and the same report, whichever list k is lent
-abbrev pub WithAnyList : Inputs → List ℕ → Run → Report → Type 0
-WithAnyList i bs r q = (k : List Float) → NoneHolds (conditions i (length k)) → (resume_from (start_of i k) (started_list i k) bs).reply ≡ Ok (record { run = r; report = q })
+abbrev pub WithAnyList : Inputs → List ℕ → Run → KeptLines → Type 0
+WithAnyList i bs r q = (k : List Float) → NoneHolds (conditions i (length k)) → (resume_from (start_of i k) (started_list i k) bs).reply ≡ Ok (record { run = r; kept_lines = q })
 
 -- Any run that Resume gives back is the record of a book with no seed waiting, with all that `GivesBack` says; and the
 -- calls that follow have all that `Continues` says.
-pub record ResumedRun (i : Inputs) (l : List Float) (bs : List ℕ) (r : Run) (q : Report) (m : List Float) : Type 0 where
+pub record ResumedRun (i : Inputs) (l : List Float) (bs : List ℕ) (r : Run) (q : KeptLines) (m : List Float) : Type 0 where
   pub book : Book
   pub run_is : r ≡ run_of book
   pub gives_back : GivesBack i l bs book m q
   pub continues : (cs : List Call) → Continues i book r m cs
 
 -- the report where all is kept: n lines, whose bytes are j
-abbrev pub all_kept : ℕ → List ℕ → Report
-all_kept n j = record { lines = n; kept = length j; dropped = 0; ended_by = by.Stopped AllTaken }
+abbrev pub all_kept : ℕ → List ℕ → KeptLines
+all_kept n j = record { lines = n; kept = length j; dropped = 0; ended_by = by.WalkEnded AllTaken }
 
 -- ---- A history of the reference model, however it was opened and whatever the calls: its journal gives back the
 -- record of the run with no seed waiting; the journal cut after any byte gives back the record of the book of the kept
@@ -75,13 +75,13 @@ abbrev pub ResumedRecord : (i : Inputs) → History i → List Float → Type 0
 ResumedRecord i h l = GivesRun i l (journal_of (book_at h)) (run_of (at_rest (book_at h))) (all_kept (number (book_at h)) (journal_of (book_at h))) (list_at h l)
 
 abbrev pub CutRecord : (i : Inputs) → History i → ℕ → List Float → Type 0
-CutRecord i h at l = GivesRun i l (cut_journal i h at) (run_of (cut_run i h at)) (report i h at l) (walked i l (cut_journal i h at)).list
+CutRecord i h at l = GivesRun i l (cut_journal i h at) (run_of (cut_run i h at)) (cut_kept_lines i h at l) (walked i l (cut_journal i h at)).list
 
 -- ---- The same over the definitions of the code alone: a run that Start or Resume opened, where l was lent, with its
 -- record, its list and the bytes of its file.
 pub data OpenedAs (i : Inputs) (l : List Float) : Run → List Float → List ℕ → Type 0 where
   by_start : (r : Run) → start_of i l ≡ Ok r → OpenedAs i l r (started_list i l) []
-  by_resume : (bs : List ℕ) (r : Run) (q : Report) (m : List Float) → GivesRun i l bs r q m → OpenedAs i l r m (take q.kept bs)
+  by_resume : (bs : List ℕ) (r : Run) (q : KeptLines) (m : List Float) → GivesRun i l bs r q m → OpenedAs i l r m (take q.kept bs)
 
 -- the record with no seed waiting, and everything else as it is
 abbrev pub none_waiting : Run → Run
@@ -89,7 +89,7 @@ none_waiting r = record {
   options = r.options;
   center = r.center;
   place = r.place;
-  waiting = nobody;
+  waiting = no_waiting_seed;
   round_best = r.round_best;
   run_best = r.run_best;
   last = r.last;
@@ -125,7 +125,7 @@ module _ (i : Inputs) (l : List Float) (r : Run) (m : List Float) (held : List �
 
   -- The run s and the list n that are given back for the file cut at a place, with the report q, are those of the uncut
   -- run after as many answers, except that no seed waits. With the rest of the calls they come to the same end.
-  pub record GoesBack (at : ℕ) (q : Report) (s : Run) (n : List Float) : Type 0 where
+  pub record GoesBack (at : ℕ) (q : KeptLines) (s : Run) (n : List Float) : Type 0 where
     pub before : List Call
     pub behind : List Call
     pub split : cs ≡ before ++ behind
@@ -139,7 +139,7 @@ module _ (i : Inputs) (l : List Float) (r : Run) (m : List Float) (held : List �
   -- what Resume gives back of the file cut after any byte
   pub record CutBack (at : ℕ) : Type 0 where
     pub run : Run
-    pub says : Report
+    pub says : KeptLines
     pub list : List Float
     pub gives_run : GivesRun i l (take at file) run says list
     -- and the same run and the same report, whichever list is lent
@@ -151,7 +151,7 @@ module _ (i : Inputs) (l : List Float) (r : Run) (m : List Float) (held : List �
     pub no_newline : newlines part ≡ 0
     pub after_newline : (s : List ℕ) → take at file ≡ s ++ 10 ∷ [] → part ≡ []
     pub dropped_part : says.dropped ≡ length part
-    pub by_nothing : part ≡ [] → says.ended_by ≡ by.Stopped AllTaken
+    pub by_nothing : part ≡ [] → says.ended_by ≡ by.WalkEnded AllTaken
     pub by_newline : (part ≡ [] → ⊥) → says.ended_by ≡ by.MissingNewline
     -- and where the cut fell behind the lines that the run was opened with, the run is the one that it was there
     pub goes_back : r.place.number ≤ run.place.number → GoesBack at says run list
@@ -169,7 +169,7 @@ module _ (i : Inputs) (l : List Float) (r : Run) (m : List Float) (held : List �
 pub record ReplayRight : Type 0 where
   pub replay_is_book : (i : Inputs) (l : List Float) (bs : List ℕ) → ReplayIsBook i l bs
   pub resume_is_book : (i : Inputs) (l : List Float) (bs : List ℕ) → ResumeIsBook i l bs
-  pub resumed_run : (i : Inputs) (l : List Float) (bs : List ℕ) → InputsFit i → (r : Run) (q : Report) (m : List Float) → GivesRun i l bs r q m → ResumedRun i l bs r q m
+  pub resumed_run : (i : Inputs) (l : List Float) (bs : List ℕ) → InputsFit i → (r : Run) (q : KeptLines) (m : List Float) → GivesRun i l bs r q m → ResumedRun i l bs r q m
   pub resumed_record : (i : Inputs) (h : History i) → Fitting i h → (l : List Float) → NoneHolds (conditions i (length l)) → ResumedRecord i h l
   pub cut_record : (i : Inputs) (h : History i) (at : ℕ) (l : List Float) → NoneHolds (conditions i (length l)) → CutRecord i h at l
   pub of_run : (i : Inputs) (l : List Float) (r : Run) (m : List Float) (held : List ℕ) → OpenedAs i l r m held → (cs : List Call) → InputsFit i → All CallFits cs → OfRun i l r m held cs

@@ -24,11 +24,11 @@ abbrev pub row_product : List Float → Matrix → ℕ → Float
 row_product row b j = get_or row 0 nan *₆₄ at b 0 j +₆₄ get_or row 1 nan *₆₄ at b 1 j +₆₄ get_or row 2 nan *₆₄ at b 2 j
 
 -- row i of a times column j of b
-abbrev pub product_entry : Matrix → Matrix → ℕ → ℕ → Float
-product_entry a b i j = row_product (get_or a i []) b j
+abbrev pub product_element : Matrix → Matrix → ℕ → ℕ → Float
+product_element a b i j = row_product (get_or a i []) b j
 
 unfoldable pub product_of : Matrix → Matrix → Matrix
-product_of a b = matrix_of (product_entry a b)
+product_of a b = matrix_of (product_element a b)
 
 -- the two indices beside i, in their order
 unfoldable pub first_other : ℕ → ℕ
@@ -54,8 +54,8 @@ unfoldable pub determinant_of : Matrix → Float
 determinant_of m = at m 0 0 *₆₄ minor_of m 0 0 -₆₄ at m 0 1 *₆₄ minor_of m 0 1 +₆₄ at m 0 2 *₆₄ minor_of m 0 2
 
 -- the transposed cofactors, each divided by the determinant
-abbrev pub inverse_entry : Matrix → ℕ → ℕ → Float
-inverse_entry m i j = cofactor_of m j i /₆₄ determinant_of m
+abbrev pub inverse_element : Matrix → ℕ → ℕ → Float
+inverse_element m i j = cofactor_of m j i /₆₄ determinant_of m
 
 unfoldable pub inverse_of : Matrix → Matrix
-inverse_of m = matrix_of (inverse_entry m)
+inverse_of m = matrix_of (inverse_element m)

@@ -5,10 +5,10 @@
 
 ghost use Rattle.std.specs.Prelude.{◌≡◌, ◌<◌};
 ghost use Rattle.float.specs.Binary64.{◌*₆₄◌};
-ghost use Rattle.camera_tilt.specs.Matrix.{at, row_product, product_of, first_other, second_other, determinant2_of, minor_of, cofactor_of, determinant_of, inverse_entry, inverse_of, row_of};
+ghost use Rattle.camera_tilt.specs.Matrix.{at, row_product, product_of, first_other, second_other, determinant2_of, minor_of, cofactor_of, determinant_of, inverse_element, inverse_of, row_of};
 
 // The element at row i and column j.
-pub fn entry(m: [[f64; 3]; 3], i: usize, j: usize) -> f64
+pub fn element(m: [[f64; 3]; 3], i: usize, j: usize) -> f64
     requires { (i < 3) × (j < 3) }
     ensures { result ≡ at m i j }
 {
@@ -16,20 +16,20 @@ pub fn entry(m: [[f64; 3]; 3], i: usize, j: usize) -> f64
 }
 
 // A row times column j of b.
-fn product_entry(row: [f64; 3], b: [[f64; 3]; 3], j: usize) -> f64
+fn product_element(row: [f64; 3], b: [[f64; 3]; 3], j: usize) -> f64
     requires { j < 3 }
     ensures { result ≡ row_product row b j }
 {
-    row[0] * entry(b, 0, j) + row[1] * entry(b, 1, j) + row[2] * entry(b, 2, j)
+    row[0] * element(b, 0, j) + row[1] * element(b, 1, j) + row[2] * element(b, 2, j)
 }
 
 fn product_row(row: [f64; 3], b: [[f64; 3]; 3]) -> [f64; 3]
     ensures { result ≡ row_of (row_product row b) }
 {
     [
-        product_entry(row, b, 0),
-        product_entry(row, b, 1),
-        product_entry(row, b, 2),
+        product_element(row, b, 0),
+        product_element(row, b, 1),
+        product_element(row, b, 2),
     ]
 }
 
@@ -65,7 +65,7 @@ fn determinant2(m: [[f64; 3]; 3], r0: usize, r1: usize, c0: usize, c1: usize) ->
     requires { (r0 < 3) × ((r1 < 3) × ((c0 < 3) × (c1 < 3))) }
     ensures { result ≡ determinant2_of m r0 r1 c0 c1 }
 {
-    entry(m, r0, c0) * entry(m, r1, c1) - entry(m, r0, c1) * entry(m, r1, c0)
+    element(m, r0, c0) * element(m, r1, c1) - element(m, r0, c1) * element(m, r1, c0)
 }
 
 #[tactic(auto, unfolding(crate::specs::Matrix::minor_of))]
@@ -95,7 +95,7 @@ fn expansion_term(m: [[f64; 3]; 3], j: usize) -> f64
     requires { j < 3 }
     ensures { result ≡ at m 0 j *₆₄ minor_of m 0 j }
 {
-    entry(m, 0, j) * minor(m, 0, j)
+    element(m, 0, j) * minor(m, 0, j)
 }
 
 #[tactic(auto, unfolding(crate::specs::Matrix::determinant_of))]
@@ -107,7 +107,7 @@ pub fn determinant(m: [[f64; 3]; 3]) -> f64
 
 fn inverse_row(m: [[f64; 3]; 3], i: usize) -> [f64; 3]
     requires { i < 3 }
-    ensures { result ≡ row_of (inverse_entry m i) }
+    ensures { result ≡ row_of (inverse_element m i) }
 {
     let det = determinant(m);
     [

@@ -39,9 +39,9 @@ pub record Rotation (A B P Q : Fraction) (r : Matrix) : Type 0 where
   pub r21 : Known 5 519 (at r 2 1) (B ⊗ opposite P)
   pub r22 : Known 5 1033 (at r 2 2) (B ⊗ A)
 
-pub rotation : {A B P Q : Fraction} {sx cx sy cy : Float} → Known 0 516 sx P → Known 0 1028 cx A → Known 0 516 sy Q → Known 0 1028 cy B → Rotation A B P Q (product_of (rot_y sy cy) (rot_x sx cx))
+pub rotation_known : {A B P Q : Fraction} {sx cx sy cy : Float} → Known 0 516 sx P → Known 0 1028 cx A → Known 0 516 sy Q → Known 0 1028 cy B → Rotation A B P Q (product_of (rot_y sy cy) (rot_x sx cx))
 unfolding product_of
-rotation u a v b =
+rotation_known u a v b =
     let z = zero_known in
     let zz = zero_mul_known z z tt in
     let nv = neg_known v in
@@ -59,14 +59,14 @@ rotation u a v b =
     }
 
 -- ---- two products that cancel
-in_numbers : (p n d P N D : ℕ) → ((p * P + n * N) * (D * d) + (N * p + P * n) * (d * D)) * 1 + 0 * (d * D * (D * d)) ≡ 0 * (d * D * (D * d)) + ((p * N + n * P) * (D * d) + (N * n + P * p) * (d * D)) * 1
-in_numbers p n d P N D = simp (mul-one, zero-mul, add-zero, zero-add, add-mul, mul_assoc, mul_comm, mul_left_comm, add_assoc, add_comm, add_left_comm)
+products_cancel_in_numbers : (p n d P N D : ℕ) → ((p * P + n * N) * (D * d) + (N * p + P * n) * (d * D)) * 1 + 0 * (d * D * (D * d)) ≡ 0 * (d * D * (D * d)) + ((p * N + n * P) * (D * d) + (N * n + P * p) * (d * D)) * 1
+products_cancel_in_numbers p n d P N D = simp (mul-one, zero-mul, add-zero, zero-add, add-mul, mul_assoc, mul_comm, mul_left_comm, add_assoc, add_comm, add_left_comm)
 
-cancel : (x y : Fraction) → Near (2 ^ 53) 0 ((x ⊗ y) ⊕ (opposite y ⊗ x)) nothing
-cancel x y = near_same (2 ^ 53) ((x ⊗ y) ⊕ (opposite y ⊗ x)) nothing (in_numbers x.plus x.minus x.den y.plus y.minus y.den)
+products_cancel : (x y : Fraction) → Near (2 ^ 53) 0 ((x ⊗ y) ⊕ (opposite y ⊗ x)) nothing
+products_cancel x y = near_same (2 ^ 53) ((x ⊗ y) ⊕ (opposite y ⊗ x)) nothing (products_cancel_in_numbers x.plus x.minus x.den y.plus y.minus y.den)
 
-exchange : (b a n m : Fraction) → (b ⊗ a) ⊗ (n ⊗ m) ≡ (b ⊗ m) ⊗ (n ⊗ a)
-exchange b a n m =
+factors_exchanged : (b a n m : Fraction) → (b ⊗ a) ⊗ (n ⊗ m) ≡ (b ⊗ m) ⊗ (n ⊗ a)
+factors_exchanged b a n m =
     times_assoc b a (n ⊗ m)
     ∙ ap (λ (z : Fraction). b ⊗ z) (times_comm a (n ⊗ m) ∙ ap (λ (z : Fraction). z ⊗ a) (times_comm n m) ∙ times_assoc m n a)
     ∙ sym (times_assoc b m (n ⊗ a))
@@ -83,20 +83,20 @@ pub record Projected (A B P Q : Fraction) (h : Matrix) : Type 0 where
   pub h21 : Known 70 519 (at h 2 1) (B ⊗ opposite P)
   pub h22 : Known 70 1033 (at h 2 2) (B ⊗ A)
 
-pub projected : {A B P Q : Fraction} {r : Matrix} → Rotation A B P Q r → Projected A B P Q (product_of (proj_z r) r)
+pub projection_known : {A B P Q : Fraction} {r : Matrix} → Rotation A B P Q r → Projected A B P Q (product_of (proj_z r) r)
 unfolding product_of
-projected {A} {B} {P} {Q} {r} k =
+projection_known {A} {B} {P} {Q} {r} k =
     let z = zero_known in
     let n02 = neg_known k.r02 in
     let n12 = neg_known k.r12 in
     record {
       h00 = known_weaken 70 (add_known (add_zero_known (mul_known 1038 k.r22 k.r00 tt) (zero_mul_known z k.r10 tt) tt) (mul_known 262 n02 k.r20 tt) tt) tt;
-      h01 = known_weaken 70 (known_nothing (subst (λ (y : Fraction). Near (2 ^ 53) 0 (y ⊕ (opposite (opposite Q ⊗ A) ⊗ (B ⊗ opposite P))) nothing) (sym (exchange B A (opposite Q) (opposite P))) (cancel (B ⊗ opposite P) (opposite Q ⊗ A)))
+      h01 = known_weaken 70 (known_nothing (subst (λ (y : Fraction). Near (2 ^ 53) 0 (y ⊕ (opposite (opposite Q ⊗ A) ⊗ (B ⊗ opposite P))) nothing) (sym (factors_exchanged B A (opposite Q) (opposite P))) (products_cancel (B ⊗ opposite P) (opposite Q ⊗ A)))
           (add_known (add_zero_known (mul_known 264 k.r22 k.r01 tt) (zero_mul_known z k.r11 tt) tt) (mul_known 264 n02 k.r21 tt) tt)) tt;
-      h02 = known_weaken 70 (known_nothing (cancel (B ⊗ A) (opposite Q ⊗ A)) (add_known (add_zero_known (mul_known 524 k.r22 k.r02 tt) (zero_mul_known z k.r12 tt) tt) (mul_known 524 n02 k.r22 tt) tt)) tt;
+      h02 = known_weaken 70 (known_nothing (products_cancel (B ⊗ A) (opposite Q ⊗ A)) (add_known (add_zero_known (mul_known 524 k.r22 k.r02 tt) (zero_mul_known z k.r12 tt) tt) (mul_known 524 n02 k.r22 tt) tt)) tt;
       h10 = known_weaken 70 (zero_add_known (add_zero_known (zero_mul_known z k.r00 tt) (mul_zero_known k.r22 k.r10 tt) tt) (mul_known 261 n12 k.r20 tt) tt) tt;
       h11 = known_weaken 70 (add_known (zero_add_known (zero_mul_known z k.r01 tt) (mul_known 1038 k.r22 k.r11 tt) tt) (mul_known 262 n12 k.r21 tt) tt) tt;
-      h12 = known_weaken 70 (known_nothing (cancel (B ⊗ A) P) (add_known (zero_add_known (zero_mul_known z k.r02 tt) (mul_known 521 k.r22 k.r12 tt) tt) (mul_known 521 n12 k.r22 tt) tt)) tt;
+      h12 = known_weaken 70 (known_nothing (products_cancel (B ⊗ A) P) (add_known (zero_add_known (zero_mul_known z k.r02 tt) (mul_known 521 k.r22 k.r12 tt) tt) (mul_known 521 n12 k.r22 tt) tt)) tt;
       h20 = known_weaken 70 (zero_add_known (add_zero_known (zero_mul_known z k.r00 tt) (zero_mul_known z k.r10 tt) tt) (one_mul_known k.r20 tt) tt) tt;
       h21 = known_weaken 70 (zero_add_known (add_zero_known (zero_mul_known z k.r01 tt) (zero_mul_known z k.r11 tt) tt) (one_mul_known k.r21 tt) tt) tt;
       h22 = known_weaken 70 (zero_add_known (add_zero_known (zero_mul_known z k.r02 tt) (zero_mul_known z k.r12 tt) tt) (one_mul_known k.r22 tt) tt) tt;
@@ -110,9 +110,9 @@ sub_zero_known : {k l n : ℕ} {x y : Float} {X : Fraction} → Known k n x X �
 unfolding sub
 sub_zero_known g h t = add_zero_known g (neg_known h) t
 
-pub determinant : {A B P Q : Fraction} (h : Matrix) → Projected A B P Q h → Known 10000 1666 (determinant_of h) (Diagonal A B P Q)
+pub determinant_known : {A B P Q : Fraction} (h : Matrix) → Projected A B P Q h → Known 10000 1666 (determinant_of h) (Diagonal A B P Q)
 unfolding determinant_of minor_of first_other second_other
-determinant h k =
+determinant_known h k =
     let m00 = sub_zero_known (mul_known 1312 k.h11 k.h22 tt) (zero_mul_known k.h12 k.h21 tt) tt in
     let m01 = sub_zero_known (mul_known 264 k.h10 k.h22 tt) (zero_mul_known k.h12 k.h20 tt) tt in
     let m02 = sub_known (mul_known 133 k.h10 k.h21 tt) (mul_known 656 k.h11 k.h20 tt) tt in

@@ -6,8 +6,8 @@ ghost use Rattle.point_maps.specs.Maps.{map_reply, map_destination};
 ghost use Rattle.point_normalise.specs.Linalg.{normalize_reply, normalize_into};
 ghost use Rattle.point_homography.specs.Line.{line_reply};
 ghost use Rattle.point_homography.specs.Rows.{rows_reply, rows_into};
-ghost use Rattle.point_maps.specs.Centre.{center_reply};
-ghost use Rattle.capi_records.specs.Lists.{refusal_number, flat_normalized, flat_line_test, flat_center};
+ghost use Rattle.point_maps.specs.Centre.{centre_reply};
+ghost use Rattle.capi_records.specs.Lists.{refusal_number, flat_normalized, flat_line_test, flat_centre};
 
 use camera_models::intrinsics::FxFyCxCy;
 use camera_tilt::sensor::TiltTrig;
@@ -76,7 +76,7 @@ pub extern "C" fn jc_design_rows(source: &[f64], destination: &[f64], to: &mut [
 
 #[unsafe(no_mangle)]
 pub extern "C" fn jc_observed_pixel_center(pixels: &[f64]) -> CenterReply
-    ensures { result ≡ flat_center (center_reply pixels.now) }
+    ensures { result ≡ flat_centre (centre_reply pixels.now) }
 {
     centre::observed_pixel_center(pixels).into()
 }

@@ -3,7 +3,7 @@
 -- name. Definitions only.
 use Rattle.std.specs.Prelude.{ℕ, Bool, false, cond, ltb, List, [], ◌∷◌, ◌++◌, eqb, length, take, drop, Float, Option, Some, None, Result, Ok, Err}
 use Rattle.common.specs.declared.Refusal.{Refusal}
-use Rattle.common.specs.declared.Refusal.TheVariants.{TooFewViews, NoTilts, BadBound, BadStep, TooMany, BadSeed, TiltNotFinite, SmallBuffer, SeedWaits, ShortList, NothingScored, NoSeedWaits, BadRows, NotOver, SingularTilt, DegenerateViews, BadLength, NoRoom, NoSpread, SourceNotFinite, DestinationNotFinite, TooFewPoints, CountsDiffer, SourceCollinear, DestinationCollinear, BeyondHalf, NotWritable, NotOfForm, NotTheRun, TwoAxes, TiltedSeed, ShareAboveAll, NoPlate}
+use Rattle.common.specs.declared.Refusal.TheVariants.{TooFewViews, NoTilts, BadBound, BadStep, TooMany, BadSeed, TiltNotFinite, ListTooShort, SeedWaiting, ListShortened, NothingScored, NoSeedWaiting, BadRows, NotOver, SingularTilt, DegenerateViews, BadPoints, DestinationTooShort, Coincident, SourceNotFinite, DestinationNotFinite, TooFewPoints, CountsDiffer, SourceCollinear, DestinationCollinear, TiltTooLarge, NotWritable, NotALine, NotTheRun, TiltsOffAxis, SeedOffAxis, ShareTooLarge, NoSharedPower}
 use Rattle.common.specs.Number.{number_of}
 use Rattle.score_camera.specs.declared.pinhole.PinholeCamera.{PinholeCamera}
 use Rattle.score_outcome.specs.declared.SkipReason.{SkipReason}
@@ -23,8 +23,8 @@ use Rattle.journal_replay.specs.declared.ReplayRefusal.{ReplayRefusal}
 use Rattle.journal_replay.specs.declared.ReplayRefusal.TheVariants.{Refused, At}
 use Rattle.journal_replay.specs.declared.EndedBy.{EndedBy}
 use Rattle.journal_replay.specs.declared.EndedBy.TheVariants as by
-use Rattle.journal_replay.specs.declared.Stop.TheVariants as stop
-use Rattle.journal_replay.specs.declared.Report.{Report}
+use Rattle.journal_replay.specs.declared.WalkEnd.TheVariants as walk_end
+use Rattle.journal_replay.specs.declared.KeptLines.{KeptLines}
 use Rattle.journal_replay.specs.declared.Resumed.{Resumed}
 use Rattle.capi_records.specs.declared.record.LastRecord.{LastRecord}
 use Rattle.capi_records.specs.declared.record.RunRecord.{RunRecord}
@@ -49,14 +49,14 @@ use Rattle.book_journal.specs.Reported.{small_buffer}
 -- An exported call with its arguments, without the run's record and the lent list. n is how many numbers of the list
 -- are lent. jc_seed also has a destination.
 pub data Exported : Type 0 where
-  jc_next_lem : ℕ → Exported
-  jc_seed_lem : ℕ → List Float → Exported
-  jc_answer_lem : ℕ → ℕ → PinholeCamera → List Float → List ℕ → Exported
-  jc_result_lem : Exported
-  jc_progress_lem : Exported
-  jc_stop_lem : ℕ → Exported
-  jc_last_line_lem : Exported
-  jc_counts_lem : Exported
+  call_next : ℕ → Exported
+  call_seed : ℕ → List Float → Exported
+  call_answer : ℕ → ℕ → PinholeCamera → List Float → List ℕ → Exported
+  call_result : Exported
+  call_progress : Exported
+  call_stop : ℕ → Exported
+  call_last_line : Exported
+  call_counts : Exported
 
 -- a destination without room for a seed; all that jc_seed then says is 0
 abbrev pub no_room : List Float → Bool
@@ -64,14 +64,14 @@ no_room to = ltb (length to) 6
 
 -- The call of the reference model that it makes. A seed call whose destination has no room for a seed makes none.
 abbrev pub calls_of : Exported → List Call
-calls_of (jc_next_lem n) = book.next n ∷ []
-calls_of (jc_seed_lem n to) = cond (no_room to) [] (book.seed n ∷ [])
-calls_of (jc_answer_lem n solved camera rows flags) = book.answer n (finding_of solved camera) rows flags ∷ []
-calls_of jc_result_lem = book.ask ∷ []
-calls_of jc_progress_lem = book.progress ∷ []
-calls_of (jc_stop_lem n) = book.stop n ∷ []
-calls_of jc_last_line_lem = book.last ∷ []
-calls_of jc_counts_lem = book.counts ∷ []
+calls_of (call_next n) = book.next n ∷ []
+calls_of (call_seed n to) = cond (no_room to) [] (book.seed n ∷ [])
+calls_of (call_answer n solved camera rows flags) = book.answer n (finding_of solved camera) rows flags ∷ []
+calls_of call_result = book.ask ∷ []
+calls_of call_progress = book.progress ∷ []
+calls_of (call_stop n) = book.stop n ∷ []
+calls_of call_last_line = book.last ∷ []
+calls_of call_counts = book.counts ∷ []
 
 unfoldable pub all_calls : List Exported → List Call
 all_calls [] = []
@@ -79,7 +79,7 @@ all_calls (c ∷ cs) = calls_of c ++ all_calls cs
 
 -- ---- what a host reads off a reply: a refusal by its number, and otherwise the fields that the flags name
 abbrev pub refusals : List Refusal
-refusals = TooFewViews ∷ NoTilts ∷ BadBound ∷ BadStep ∷ TooMany ∷ BadSeed ∷ TiltNotFinite ∷ SmallBuffer ∷ SeedWaits ∷ ShortList ∷ NothingScored ∷ NoSeedWaits ∷ BadRows ∷ NotOver ∷ SingularTilt ∷ DegenerateViews ∷ BadLength ∷ NoRoom ∷ NoSpread ∷ SourceNotFinite ∷ DestinationNotFinite ∷ TooFewPoints ∷ CountsDiffer ∷ SourceCollinear ∷ DestinationCollinear ∷ BeyondHalf ∷ NotWritable ∷ NotOfForm ∷ NotTheRun ∷ TwoAxes ∷ TiltedSeed ∷ ShareAboveAll ∷ NoPlate ∷ []
+refusals = TooFewViews ∷ NoTilts ∷ BadBound ∷ BadStep ∷ TooMany ∷ BadSeed ∷ TiltNotFinite ∷ ListTooShort ∷ SeedWaiting ∷ ListShortened ∷ NothingScored ∷ NoSeedWaiting ∷ BadRows ∷ NotOver ∷ SingularTilt ∷ DegenerateViews ∷ BadPoints ∷ DestinationTooShort ∷ Coincident ∷ SourceNotFinite ∷ DestinationNotFinite ∷ TooFewPoints ∷ CountsDiffer ∷ SourceCollinear ∷ DestinationCollinear ∷ TiltTooLarge ∷ NotWritable ∷ NotALine ∷ NotTheRun ∷ TiltsOffAxis ∷ SeedOffAxis ∷ ShareTooLarge ∷ NoSharedPower ∷ []
 
 abbrev pub first_with : ℕ → List Refusal → Option Refusal
 first_with n [] = None
@@ -136,14 +136,14 @@ read_replay f = replay_unless (refusal_with f.number) f
 
 -- off jc_resume's reply: the run and the report
 abbrev pub read_ended : ℕ → EndedBy
-read_ended n = cond (eqb n 1) by.MissingNewline (by.Stopped (cond (eqb n 0) stop.AllTaken (cond (eqb n 29) stop.NotOfForm stop.NotTheRun)))
+read_ended n = cond (eqb n 1) by.MissingNewline (by.WalkEnded (cond (eqb n 0) walk_end.AllTaken (cond (eqb n 29) walk_end.NotALine walk_end.NotTheRun)))
 
-abbrev pub read_report : ResumeFlat → Report
-read_report f = record { lines = f.lines; kept = f.kept; dropped = f.dropped; ended_by = read_ended f.ended_by }
+abbrev pub read_kept_lines : ResumeFlat → KeptLines
+read_kept_lines f = record { lines = f.lines; kept = f.kept; dropped = f.dropped; ended_by = read_ended f.ended_by }
 
 abbrev pub resumed_unless : Option Refusal → ResumeFlat → Result Resumed Refusal
 resumed_unless (Some r) f = Err r
-resumed_unless None f = Ok (record { run = run_from f.run; report = read_report f })
+resumed_unless None f = Ok (record { run = run_from f.run; kept_lines = read_kept_lines f })
 
 abbrev pub read_resume : ResumeFlat → Result Resumed Refusal
 read_resume f = resumed_unless (refusal_with f.number) f
@@ -155,19 +155,19 @@ pub record FlatStep : Type 0 where
   pub list : List Float
 
 unfoldable pub flat_call : RunRecord → List Float → Exported → FlatStep
-flat_call r l (jc_next_lem n) = let f = flat_next (next_def (run_from r) (take n l)) in record { reply = read_next f ∷ []; run = f.run; list = l }
-flat_call r l (jc_seed_lem n to) =
+flat_call r l (call_next n) = let f = flat_next (next_def (run_from r) (take n l)) in record { reply = read_next f ∷ []; run = f.run; list = l }
+flat_call r l (call_seed n to) =
     let seed = seed_part (run_from r) (take n l) in
     record { reply = cond (no_room to) [] (part (take (copy_count seed to) (copied seed to)) ∷ []); run = r; list = l }
-flat_call r l (jc_answer_lem n solved camera rows flags) =
+flat_call r l (call_answer n solved camera rows flags) =
     let a = answer_def (run_from r) (finding_of solved camera) rows flags (take n l) in
     let f = flat_answer a.reply in
     record { reply = read_answer f ∷ []; run = f.run; list = a.list ++ drop n l }
-flat_call r l jc_result_lem = record { reply = read_result (flat_result (result_def (run_from r))) ∷ []; run = r; list = l }
-flat_call r l jc_progress_lem = record { reply = read_progress (progress_def (run_from r)) ∷ []; run = r; list = l }
-flat_call r l (jc_stop_lem n) = record { reply = read_stop (flat_stopped (stop_def (run_from r) (take n l))) ∷ []; run = r; list = l }
-flat_call r l jc_last_line_lem = record { reply = read_last (flat_last_line (last_def (run_from r))) ∷ []; run = r; list = l }
-flat_call r l jc_counts_lem = record { reply = counted (counts_def (run_from r)) ∷ []; run = r; list = l }
+flat_call r l call_result = record { reply = read_result (flat_result (result_def (run_from r))) ∷ []; run = r; list = l }
+flat_call r l call_progress = record { reply = read_progress (progress_def (run_from r)) ∷ []; run = r; list = l }
+flat_call r l (call_stop n) = record { reply = read_stop (flat_stopped (stop_def (run_from r) (take n l))) ∷ []; run = r; list = l }
+flat_call r l call_last_line = record { reply = read_last (flat_last_line (last_def (run_from r))) ∷ []; run = r; list = l }
+flat_call r l call_counts = record { reply = counted (counts_def (run_from r)) ∷ []; run = r; list = l }
 
 unfoldable pub flat_walk : RunRecord → List Float → List Exported → List Reply
 flat_walk r l [] = []

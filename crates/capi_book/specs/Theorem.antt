@@ -28,7 +28,7 @@ use Rattle.book_journal.specs.History.{InputsFit, CallFits}
 use Rattle.book_journal.specs.Replay.{walked, replay_of}
 use Rattle.book_journal.specs.Resume.{resume_of}
 use Rattle.book_replay.specs.Theorem.{with_record}
-use Rattle.capi_book.specs.Exported.{Exported, all_calls, read_replay, read_report, read_resume, flat_walk, flat_after, flat_file, flat_report}
+use Rattle.capi_book.specs.Exported.{Exported, all_calls, read_replay, read_kept_lines, read_resume, flat_walk, flat_after, flat_file, flat_report}
 
 -- Start's reply, with the options that the record o is read as
 abbrev pub start_with : Inputs → OptionsRecord → List Float → Result Run Refusal
@@ -100,7 +100,7 @@ ExportedJournal = (i : Inputs) (o : OptionsRecord) (l : List Float) → options_
 abbrev pub ExportedJournalGrows : Type 0
 ExportedJournalGrows = (i : Inputs) (o : OptionsRecord) (l : List Float) (bs : List ℕ) → options_from o ≡ options_of i → InputsFit i → (flat_resume i o l bs).number ≡ 0
     → (cs : List Exported)
-    → take (read_report (flat_resume i o l bs)).kept bs ++ flat_file (flat_resume i o l bs).run (resume_left i o l bs).list cs ≡ journal_of (after (walked i l bs).book (all_calls cs))
+    → take (read_kept_lines (flat_resume i o l bs)).kept bs ++ flat_file (flat_resume i o l bs).run (resume_left i o l bs).list cs ≡ journal_of (after (walked i l bs).book (all_calls cs))
 
 -- After any calls jc_counts replies with the counts of the lines in the run's journal, and jc_write_report writes their
 -- report.

@@ -75,4 +75,4 @@ record_into l out = elim (line_from l) [ Ok line ↦ write_into line out | Err e
 abbrev pub flat_read : Read → ℕ → ReadReply
 flat_read (read.Got l next) at = record { number = 0; end = 0; line_number = 0; line = flat_line l; next = next }
 flat_read read.End at = record { number = 0; end = 1; line_number = 0; line = no_line; next = at }
-flat_read (read.NotOfForm n) at = record { number = number_of refusal.NotOfForm; end = 0; line_number = n; line = no_line; next = at }
+flat_read (read.NotALine n) at = record { number = number_of refusal.NotALine; end = 0; line_number = n; line = no_line; next = at }

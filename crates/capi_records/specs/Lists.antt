@@ -26,6 +26,6 @@ abbrev pub flat_line_test : Result Bool Refusal → LineReply
 flat_line_test (Ok b) = record { number = 0; collinear = flag_of b }
 flat_line_test (Err r) = record { number = number_of r; collinear = 0 }
 
-abbrev pub flat_center : Result Pt2 Refusal → CenterReply
-flat_center (Ok p) = record { number = 0; center = p }
-flat_center (Err r) = record { number = number_of r; center = record { x = plus_zero; y = plus_zero } }
+abbrev pub flat_centre : Result Pt2 Refusal → CenterReply
+flat_centre (Ok p) = record { number = 0; center = p }
+flat_centre (Err r) = record { number = number_of r; center = record { x = plus_zero; y = plus_zero } }

@@ -5,7 +5,7 @@ use Rattle.float.specs.Literals.{plus_zero}
 use Rattle.score_best.specs.declared.Best.{Best}
 use Rattle.score_best.specs.Best.{no_best}
 use Rattle.journal_line.specs.Counts.{no_counts}
-use Rattle.search_record.specs.Record.{nobody}
+use Rattle.search_record.specs.Record.{no_waiting_seed}
 use Rattle.search_record.specs.declared.run.LastAnswer.{LastAnswer}
 use Rattle.search_record.specs.declared.run.Options.{Options}
 use Rattle.search_record.specs.declared.run.Place.{Place}
@@ -99,7 +99,7 @@ no_run = record {
   options = record { refine_rounds = 0; refine_step = plus_zero; max_abs_tilt = plus_zero; one_axis = 0; min_counted = 0 };
   center = record { x = plus_zero; y = plus_zero };
   place = record { demand = 0; round = 0; step = plus_zero; len = 0; at = 0; number = 0; over = 0 };
-  waiting = flat_waiting nobody;
+  waiting = flat_waiting no_waiting_seed;
   round_best = flat_best no_best;
   run_best = flat_best no_best;
   last = record { found = 0; line = no_line };

@@ -28,5 +28,5 @@ abbrev pub ended_number : EndedBy → ℕ
 ended_number ended = resume.ended_number ended
 
 abbrev pub flat_resumed : Result Resumed Refusal → ResumeFlat
-flat_resumed (Ok s) = let q = s.report in record { number = 0; ended_by = ended_number q.ended_by; lines = q.lines; kept = q.kept; dropped = q.dropped; run = flat_run s.run }
+flat_resumed (Ok s) = let q = s.kept_lines in record { number = 0; ended_by = ended_number q.ended_by; lines = q.lines; kept = q.kept; dropped = q.dropped; run = flat_run s.run }
 flat_resumed (Err e) = record { number = number_of e; ended_by = 0; lines = 0; kept = 0; dropped = 0; run = no_run }

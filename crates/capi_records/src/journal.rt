@@ -140,8 +140,8 @@ pub fn read_reply(r: Read, at: usize) -> ReadReply
             next: at,
             ..ReadReply::default()
         },
-        Read::NotOfForm(line_number) => ReadReply {
-            number: Refusal::NotOfForm.into(),
+        Read::NotALine(line_number) => ReadReply {
+            number: Refusal::NotALine.into(),
             line_number,
             next: at,
             ..ReadReply::default()

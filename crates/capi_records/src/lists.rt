@@ -1,7 +1,7 @@
 // The replies of the operations on lists of points.
 // Each struct has the fields of the one in include/jinnychair.h, in its order.
 ghost use Rattle.std.specs.Prelude.{◌≡◌};
-ghost use Rattle.capi_records.specs.Lists.{refusal_number, flat_normalized, flat_line_test, flat_center};
+ghost use Rattle.capi_records.specs.Lists.{refusal_number, flat_normalized, flat_line_test, flat_centre};
 
 use camera_models::math::Pt2;
 use common::Refusal;
@@ -70,7 +70,7 @@ impl From<Result<bool, Refusal>> for LineReply {
 }
 
 impl From<Result<Pt2, Refusal>> for CenterReply {
-    ghost from_gives = { λ center reply. reply ≡ flat_center center };
+    ghost from_gives = { λ center reply. reply ≡ flat_centre center };
 
     fn from(center: Result<Pt2, Refusal>) -> CenterReply {
         CenterReply {

@@ -63,16 +63,16 @@ impl From<Result<Standing, ReplayRefusal>> for ReplayFlat {
 impl From<Result<Resumed, Refusal>> for ResumeFlat {
     ghost from_gives = { λ resumed flat. flat ≡ flat_resumed resumed };
 
-    // A match, since `Report` has no default whose fields could be taken.
+    // A match, since `KeptLines` has no default whose fields could be taken.
     #[tactic(auto, unfolding(score_best::specs::Best::no_best))]
     fn from(resumed: Result<Resumed, Refusal>) -> ResumeFlat {
         match resumed {
-            Ok(Resumed { run, report }) => ResumeFlat {
+            Ok(Resumed { run, kept_lines }) => ResumeFlat {
                 number: 0,
-                ended_by: report.ended_by.into(),
-                lines: report.lines,
-                kept: report.kept,
-                dropped: report.dropped,
+                ended_by: kept_lines.ended_by.into(),
+                lines: kept_lines.lines,
+                kept: kept_lines.kept,
+                dropped: kept_lines.dropped,
                 run: run.into(),
             },
             Err(refusal) => ResumeFlat {

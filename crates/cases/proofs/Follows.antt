@@ -24,21 +24,21 @@ use Rattle.cases.proofs.OnBook.{on_book}
 use Rattle.cases.specs.Theorem.{CasesHold}
 use Rattle.cases.specs.Table.{all_hold}
 
-accepted : start_of whole_inputs sixty ≡ Ok whole_run
+whole_accepted : start_of whole_inputs sixty ≡ Ok whole_run
 unfolding start_reply every good_seed too_many demand_of initial_list seed_grid pairs keep merged_into push has_near tilt_near camera_near near closer within in_bound read_from abs_of is_finite add sub neg lt le of_bits
-accepted = refl
+whole_accepted = refl
 
-abbrev started : List Float
-started = started_list whole_inputs sixty
+abbrev whole_started_list : List Float
+whole_started_list = started_list whole_inputs sixty
 
-pub whole_follows : Follows whole_inputs whole_run started whole_calls
-whole_follows = (search_is_book whole_inputs sixty).follows whole_run accepted whole_calls
+pub whole_follows : Follows whole_inputs whole_run whole_started_list whole_calls
+whole_follows = (search_is_book whole_inputs sixty).follows whole_run whole_accepted whole_calls
 
 -- so the three rounds handed out what the rules name, and the twelfth candidate has all that holds of a winner
-pub whole_handed : handed whole_run started whole_calls ≡ handings whole_inputs (outcomes_in (answers whole_run started whole_calls)) 3
+pub whole_handed : handed whole_run whole_started_list whole_calls ≡ handings whole_inputs (outcomes_in (answers whole_run whole_started_list whole_calls)) 3
 whole_handed = whole_follows.handed_out whole_winner on_walk.whole_result
 
-pub whole_wins : Wins whole_inputs (answers whole_run started whole_calls) whole_winner
+pub whole_wins : Wins whole_inputs (answers whole_run whole_started_list whole_calls) whole_winner
 whole_wins = whole_follows.wins whole_winner on_walk.whole_result
 
 -- ---- the run whose scores are all NaN: it is over with 11, and the negative tilt was tried
@@ -47,14 +47,14 @@ unfolding start_reply every good_seed too_many demand_of initial_list seed_grid 
 all_lost_accepted = refl
 
 -- −0.25 is at least −0.25 and at most 0.25, and so is 0
-in_order : (le (neg quarter) (neg quarter) ≡ true) × (le (neg quarter) quarter ≡ true) × (le (neg quarter) f0 ≡ true) × (le f0 quarter ≡ true)
+zero_and_quarter_within_bound : (le (neg quarter) (neg quarter) ≡ true) × (le (neg quarter) quarter ≡ true) × (le (neg quarter) f0 ≡ true) × (le f0 quarter ≡ true)
 unfolding le neg of_bits
-in_order = (refl, refl, refl, refl)
+zero_and_quarter_within_bound = (refl, refl, refl, refl)
 
 pub all_lost_tried : TiltTried all_lost_inputs (handed all_lost_run (started_list all_lost_inputs sixty) all_lost_calls) (answers all_lost_run (started_list all_lost_inputs sixty) all_lost_calls) (tilts (neg quarter) f0)
 all_lost_tried =
     ((search_is_book all_lost_inputs sixty).follows all_lost_run all_lost_accepted all_lost_calls).every_tilt (inr on_walk.all_lost_result) (neg quarter) f0
-    (Memᴰ.tail (Memᴰ.head negative)) (Memᴰ.head refl) in_order.0 in_order.1 in_order.2 in_order.3
+    (Memᴰ.tail (Memᴰ.head negative)) (Memᴰ.head refl) zero_and_quarter_within_bound.0 zero_and_quarter_within_bound.1 zero_and_quarter_within_bound.2 zero_and_quarter_within_bound.3
   where
     negative : neg quarter ≡ bits 0xbfd0_0000_0000_0000
     negative = unfold neg of_bits in refl

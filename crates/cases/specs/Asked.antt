@@ -2,7 +2,7 @@
 -- seed waits, where the floor equals the best's score, in the middle of a later round, after the end, and with a list
 -- that is too short. Definitions only.
 use Rattle.std.specs.Prelude.{true, false, List, [], ◌∷◌, ◌++◌, Float}
-use Rattle.common.specs.declared.Refusal.TheVariants.{ShortList}
+use Rattle.common.specs.declared.Refusal.TheVariants.{ListShortened}
 use Rattle.score_outcome.specs.declared.SkipReason.TheVariants.{HostFailed}
 use Rattle.score_best.specs.declared.Candidate.{Candidate}
 use Rattle.score_best.specs.Best.{nothing, chosen}
@@ -48,7 +48,7 @@ round_zero =
 
 abbrev round_zero_replies : List Reply
 round_zero_replies =
-    bar (record { round = 0; rounds = 1; answered = 0; total = 2; in_run = 0 }) ∷ refused ShortList ∷ stopped nothing (floor f0 false)
+    bar (record { round = 0; rounds = 1; answered = 0; total = 2; in_run = 0 }) ∷ refused ListShortened ∷ stopped nothing (floor f0 false)
     ∷ candidate 0 ∷ stopped nothing (floor f0 false) ∷ scored sixty_fourth
     ∷ bar (record { round = 0; rounds = 1; answered = 1; total = 2; in_run = 1 }) ∷ stopped (chosen best) (floor sixty_fourth true) ∷ []
 
@@ -64,7 +64,7 @@ round_one_replies =
     ∷ candidate 2 ∷ skipped HostFailed ∷ candidate 3 ∷ skipped HostFailed ∷ candidate 4 ∷ skipped HostFailed ∷ candidate 5 ∷ skipped HostFailed ∷ candidate 6 ∷ skipped HostFailed
     ∷ stopped (chosen best) (floor (bits 0x3f70_0000_0000_0000) false)
     ∷ candidate 7 ∷ skipped HostFailed ∷ candidate 8 ∷ skipped HostFailed ∷ candidate 9 ∷ skipped HostFailed ∷ candidate 10 ∷ skipped HostFailed
-    ∷ bar (record { round = 1; rounds = 1; answered = 9; total = 9; in_run = 11 }) ∷ stopped (chosen best) nothing_left ∷ refused ShortList ∷ result best ∷ []
+    ∷ bar (record { round = 1; rounds = 1; answered = 9; total = 9; in_run = 11 }) ∷ stopped (chosen best) nothing_left ∷ refused ListShortened ∷ result best ∷ []
 
 abbrev pub asked_calls : List Call
 asked_calls = round_zero ++ round_one

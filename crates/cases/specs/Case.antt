@@ -10,7 +10,7 @@ use Rattle.camera_models.specs.declared.intrinsics.FxFyCxCy.{FxFyCxCy}
 use Rattle.camera_tilt.specs.declared.sensor.ScheimpflugParams.{ScheimpflugParams}
 use Rattle.camera_tilt.specs.Matrix.{Matrix}
 use Rattle.camera_tilt.specs.Sensor.{tilt_projection_matrix, tilt_verdict, apply_homography, apply_homography_inverse}
-use Rattle.point_maps.specs.Centre.{center_reply}
+use Rattle.point_maps.specs.Centre.{centre_reply}
 use Rattle.zhang.specs.declared.Conic.{Conic}
 use Rattle.zhang.specs.Zhang.{from_homographies}
 use Rattle.seed_rules.specs.Rules.{seed_with, initial_list, offsets, next_list}
@@ -43,7 +43,7 @@ Holds (sqrt x r) = root binary64 x ≡ r
 Holds (tilt sinX cosX sinY cosY v) = tilt_verdict (tilt_projection_matrix (record { sin_x = sinX; cos_x = cosX; sin_y = sinY; cos_y = cosY })) ≡ v
 Holds (forward h p q) = apply_homography h p ≡ q
 Holds (backward h p q) = apply_homography_inverse h p ≡ q
-Holds (centre pixels r) = center_reply pixels ≡ r
+Holds (centre pixels r) = centre_reply pixels ≡ r
 Holds (conic b r) = from_homographies b ≡ r
 Holds (typed xs ys max ts) = (base : FxFyCxCy) → initial_list [] xs ys base max ≡ map (seed_with base) ts
 Holds (around c s max ts) = (camera : FxFyCxCy) → next_list (offsets s) (offsets s) c camera max ≡ map (seed_with camera) ts

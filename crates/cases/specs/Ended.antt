@@ -1,6 +1,6 @@
 -- Two runs without a winner: in one, round 0 is empty; in the other, nothing is scored. Definitions only.
 use Rattle.std.specs.Prelude.{false, List, [], ◌∷◌, ◌++◌}
-use Rattle.common.specs.declared.Refusal.TheVariants.{ShortList, NothingScored, NoSeedWaits}
+use Rattle.common.specs.declared.Refusal.TheVariants.{ListShortened, NothingScored, NoSeedWaiting}
 use Rattle.score_outcome.specs.declared.SkipReason.TheVariants.{HostFailed}
 use Rattle.score_outcome.specs.declared.Finding.TheVariants.{Failed}
 use Rattle.book.specs.Calls.{Call, next, seed, answer, ask, Reply, candidate, part, skipped, refused}
@@ -28,7 +28,7 @@ abbrev pub empty_calls : List Call
 empty_calls = next 53 ∷ next 54 ∷ seed 54 ∷ answer 54 Failed [] [] ∷ ask ∷ []
 
 abbrev pub empty_replies : List Reply
-empty_replies = refused ShortList ∷ refused NothingScored ∷ part [] ∷ refused NoSeedWaits ∷ refused NothingScored ∷ []
+empty_replies = refused ListShortened ∷ refused NothingScored ∷ part [] ∷ refused NoSeedWaiting ∷ refused NothingScored ∷ []
 
 -- two typed x tilts; the host fails at both
 abbrev pub failed_inputs : Inputs

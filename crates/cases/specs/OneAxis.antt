@@ -2,7 +2,7 @@
 -- through three rounds. Assumes nothing.
 use Rattle.std.specs.Prelude.{ℕ, ◌≡◌, refl, Bool, true, false, List, [], ◌∷◌, ◌++◌, length, Float, Result, Ok, Err, ⊤}
 use Rattle.common.specs.declared.Refusal.{Refusal}
-use Rattle.common.specs.declared.Refusal.TheVariants.{NoTilts, BadSeed, TiltNotFinite, BeyondHalf, TwoAxes, TiltedSeed}
+use Rattle.common.specs.declared.Refusal.TheVariants.{NoTilts, BadSeed, TiltNotFinite, TiltTooLarge, TiltsOffAxis, SeedOffAxis}
 use Rattle.score_outcome.specs.declared.SkipReason.TheVariants.{HostFailed}
 use Rattle.std.specs.Float.Ieee.{of_bits, add, sub, neg, lt, le, eq}
 use Rattle.common.specs.Each.{All, every}
@@ -69,18 +69,18 @@ starts =
     -- of typed y tilts: a single 0 of either sign is accepted, and nothing else
     row (inputs_with true quarter (f0 ∷ []) []) (Ok tt)
     ∷ row (inputs_with true quarter (minus_zero ∷ []) []) (Ok tt)
-    ∷ row (inputs_with true quarter (f0 ∷ f0 ∷ []) []) (Err TwoAxes)
-    ∷ row (inputs_with true quarter (eighth ∷ []) []) (Err TwoAxes)
+    ∷ row (inputs_with true quarter (f0 ∷ f0 ∷ []) []) (Err TiltsOffAxis)
+    ∷ row (inputs_with true quarter (eighth ∷ []) []) (Err TiltsOffAxis)
     -- of decomposition seeds: a tilt_y of 0 is accepted, and nothing else
     ∷ row (inputs_with true quarter (f0 ∷ []) (decomposed minus_zero)) (Ok tt)
-    ∷ row (inputs_with true quarter (f0 ∷ []) (decomposed eighth)) (Err TiltedSeed)
-    ∷ row (inputs_with true quarter (f0 ∷ []) (decomposed f0 ++ decomposed (neg eighth))) (Err TiltedSeed)
+    ∷ row (inputs_with true quarter (f0 ∷ []) (decomposed eighth)) (Err SeedOffAxis)
+    ∷ row (inputs_with true quarter (f0 ∷ []) (decomposed f0 ++ decomposed (neg eighth))) (Err SeedOffAxis)
     -- of several refusals the first: 2, 6, 7, 27, 31, each before 32
     ∷ row (inputs_with true high [] (decomposed f1)) (Err NoTilts)
     ∷ row (inputs_with true high (not_number ∷ []) (decomposed f1)) (Err BadSeed)
     ∷ row (inputs_with true high (not_number ∷ []) (decomposed eighth)) (Err TiltNotFinite)
-    ∷ row (inputs_with true high (eighth ∷ []) (decomposed eighth)) (Err BeyondHalf)
-    ∷ row (inputs_with true quarter (eighth ∷ []) (decomposed eighth)) (Err TwoAxes)
+    ∷ row (inputs_with true high (eighth ∷ []) (decomposed eighth)) (Err TiltTooLarge)
+    ∷ row (inputs_with true quarter (eighth ∷ []) (decomposed eighth)) (Err TiltsOffAxis)
     -- a two-axis run is refused for none of these
     ∷ row (inputs_with false quarter (eighth ∷ f0 ∷ []) (decomposed eighth)) (Ok tt)
     ∷ []

@@ -12,7 +12,7 @@ use Rattle.camera_models.specs.declared.math.Pt2.{Pt2}
 use Rattle.camera_tilt.specs.Matrix.{Matrix, product_of, first_other, second_other, minor_of, determinant_of}
 use Rattle.camera_tilt.specs.Sensor.{tilt_projection_matrix, forward_depth, inverse_depth, apply_homography, apply_homography_inverse}
 use Rattle.point_normalise.specs.Points.{fold_points}
-use Rattle.point_maps.specs.Centre.{extent_of, center_of, center_reply}
+use Rattle.point_maps.specs.Centre.{extent_of, centre_of, centre_reply}
 use Rattle.zhang.specs.declared.Conic.{Conic}
 use Rattle.zhang.specs.Zhang.{definite, from_homographies}
 use Rattle.seed_rules.specs.Merge.{keep, has_near, push, merged_into}
@@ -57,7 +57,7 @@ table =
 
 -- Each row is proved by computing both sides.
 pub all_hold : All Holds table
-unfolding root from_homographies definite center_reply center_of extent_of fold_points tilt_projection_matrix product_of first_other second_other minor_of determinant_of forward_depth inverse_depth apply_homography apply_homography_inverse initial_list next_list offsets seed_grid pairs keep in_bound within merged_into push has_near tilt_near closer near tilt_penalty abs_of is_finite min_of max_of of_int of_bits add sub mul div neg lt le eq is_nan
+unfolding root from_homographies definite centre_reply centre_of extent_of fold_points tilt_projection_matrix product_of first_other second_other minor_of determinant_of forward_depth inverse_depth apply_homography apply_homography_inverse initial_list next_list offsets seed_grid pairs keep in_bound within merged_into push has_near tilt_near closer near tilt_penalty abs_of is_finite min_of max_of of_int of_bits add sub mul div neg lt le eq is_nan
 all_hold = (
   refl,
   (

@@ -4,7 +4,7 @@
 use Rattle.std.specs.Prelude.{◌≤◌, ◌≡◌, true, [], ◌∷◌, length, Ok, Err}
 use Rattle.std.specs.Float.Ieee.{neg, eq}
 use Rattle.common.specs.Each.{All}
-use Rattle.common.specs.declared.Refusal.TheVariants.{NothingScored, ShareAboveAll}
+use Rattle.common.specs.declared.Refusal.TheVariants.{NothingScored, ShareTooLarge}
 use Rattle.float.specs.Literals.{plus_zero}
 use Rattle.seed_rules.specs.Rules.{tilts, seed_with, offsets, y_offsets, next_list}
 use Rattle.search_calls.specs.Result.{result_def}
@@ -38,7 +38,7 @@ pub record OnWalk : Type 0 where
   pub few_counted : walk_from (few_inputs 34) few_calls ≡ few_replies
   -- a share of 100 per cent may be asked for, and one of 101 may not
   pub all_asked : walk_from (few_inputs 100) (next 54 ∷ []) ≡ candidate 0 ∷ []
-  pub more_asked : walk_from (few_inputs 101) (next 54 ∷ []) ≡ refused ShareAboveAll ∷ []
+  pub more_asked : walk_from (few_inputs 101) (next 54 ∷ []) ≡ refused ShareTooLarge ∷ []
   pub all_lost_result : result_def (run_after all_lost_run (started_list all_lost_inputs sixty) all_lost_calls) ≡ Err NothingScored
   pub one_axis_result : result_def (run_after axis_run (started_list axis_inputs sixty) axis_calls) ≡ Ok axis_winner
   pub whole_result : result_def (run_after whole_run (started_list whole_inputs sixty) whole_calls) ≡ Ok whole_winner

@@ -2,7 +2,7 @@
 -- a round that scores nothing, skip reasons 1, 2 and 3, a scored candidate with a tangential coefficient, refused calls
 -- in between, and the counts while a seed waits and at the end. Definitions only.
 use Rattle.std.specs.Prelude.{false, List, [], ◌∷◌, ◌++◌, Float}
-use Rattle.common.specs.declared.Refusal.TheVariants.{SeedWaits, ShortList, NoSeedWaits, BadRows, NotOver}
+use Rattle.common.specs.declared.Refusal.TheVariants.{SeedWaiting, ListShortened, NoSeedWaiting, BadRows, NotOver}
 use Rattle.score_outcome.specs.declared.SkipReason.TheVariants.{HostFailed, BadCamera, NoMean}
 use Rattle.score_outcome.specs.declared.Finding.TheVariants.{Failed}
 use Rattle.score_best.specs.declared.Candidate.{Candidate}
@@ -52,9 +52,9 @@ round_zero =
 
 abbrev round_zero_replies : List Reply
 round_zero_replies =
-    refused NotOver ∷ part [] ∷ refused NoSeedWaits ∷ refused ShortList
-    ∷ candidate 0 ∷ refused SeedWaits ∷ part [] ∷ part (f100 ∷ f100 ∷ f50 ∷ f50 ∷ f0 ∷ f0 ∷ [])
-    ∷ refused ShortList ∷ refused BadRows ∷ refused BadRows ∷ counted no_counts
+    refused NotOver ∷ part [] ∷ refused NoSeedWaiting ∷ refused ListShortened
+    ∷ candidate 0 ∷ refused SeedWaiting ∷ part [] ∷ part (f100 ∷ f100 ∷ f50 ∷ f50 ∷ f0 ∷ f0 ∷ [])
+    ∷ refused ListShortened ∷ refused BadRows ∷ refused BadRows ∷ counted no_counts
     ∷ scored (bits 0x4000_0000_0000_0000) ∷ candidate 1 ∷ scored (bits 0x4000_0000_0000_0000) ∷ []
 
 -- ---- round 1, around (0, 0) with step 0.125: the host fails, a focal length is 0, no row counts, and the host fails
@@ -99,7 +99,7 @@ round_two_replies =
     ∷ counted (record { scored = 2; host_failed = 7; bad_camera = 1; no_mean = 1; no_number = 0 }) ∷ scored best
     ∷ candidate 12 ∷ skipped HostFailed ∷ candidate 13 ∷ skipped HostFailed ∷ candidate 14 ∷ skipped HostFailed ∷ candidate 15 ∷ skipped HostFailed
     ∷ candidate 16 ∷ skipped HostFailed ∷ candidate 17 ∷ skipped HostFailed ∷ candidate 18 ∷ skipped HostFailed ∷ candidate 19 ∷ skipped HostFailed
-    ∷ over ∷ refused NoSeedWaits ∷ result whole_winner
+    ∷ over ∷ refused NoSeedWaiting ∷ result whole_winner
     ∷ counted (record { scored = 3; host_failed = 15; bad_camera = 1; no_mean = 1; no_number = 0 }) ∷ []
 
 abbrev pub whole_calls : List Call

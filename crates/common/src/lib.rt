@@ -24,15 +24,15 @@ pub enum Refusal {
     // Start: a typed tilt that isn't finite
     TiltNotFinite = 7,
     // Start: a lent list that is too short for the run's seeds
-    SmallBuffer = 8,
+    ListTooShort = 8,
     // Next: a seed waits for its answer
-    SeedWaits = 9,
+    SeedWaiting = 9,
     // a call: the lent list is shorter than Start asked for
-    ShortList = 10,
+    ListShortened = 10,
     // Next, Result: the run is over, and no candidate was scored
     NothingScored = 11,
     // Answer: no seed waits
-    NoSeedWaits = 12,
+    NoSeedWaiting = 12,
     // Answer: too many rows, not four numbers a flag, or a flag above 1
     BadRows = 13,
     // Result: the run isn't over
@@ -42,11 +42,11 @@ pub enum Refusal {
     // six numbers that are no camera's conic
     DegenerateViews = 16,
     // a list of points of odd length, or of more than 400
-    BadLength = 17,
+    BadPoints = 17,
     // a destination that is too short
-    NoRoom = 18,
+    DestinationTooShort = 18,
     // no points, or a mean distance of at most 2^-52
-    NoSpread = 19,
+    Coincident = 19,
     // design rows: a source that isn't finite
     SourceNotFinite = 20,
     // design rows: a destination that isn't finite
@@ -60,21 +60,21 @@ pub enum Refusal {
     // design rows: destination points on a line
     DestinationCollinear = 25,
     // a tilt that is NaN or beyond 0.5 in size, or such a bound
-    BeyondHalf = 27,
+    TiltTooLarge = 27,
     // the writer: a short buffer, or a line or total that the journal can't hold
     NotWritable = 28,
     // the reader: bytes that aren't a line
-    NotOfForm = 29,
+    NotALine = 29,
     // running a journal again: a line that isn't the run's next answer
     NotTheRun = 30,
     // Start about one axis: tilts about y that aren't the single 0
-    TwoAxes = 31,
+    TiltsOffAxis = 31,
     // Start about one axis: a decomposition seed with a tilt about y
-    TiltedSeed = 32,
+    SeedOffAxis = 32,
     // Start: a share of the rows above 100 per cent
-    ShareAboveAll = 33,
+    ShareTooLarge = 33,
     // a camera for which no plate has a known answer
-    NoPlate = 34,
+    NoSharedPower = 34,
 }
 
 impl From<Refusal> for u8 {

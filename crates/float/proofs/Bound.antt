@@ -13,37 +13,37 @@ eqb_sym : (a b : ℕ) → eqb a b ≡ eqb b a
 eqb_sym a b = case (eqb a b) (λ e. rw (e, eq-eqb b a (sym (eqb-true a b e)))) (λ e. rw (e, ne_eqb b a (λ q. eqb-false a b e (sym q))))
 
 -- a number with a minus sign is at most one without
-opposite : (a b : ℕ) → (ltb 0 (a + b) || (eqb a b && eqb a 0)) ≡ true
-opposite zero zero = refl
-opposite zero (suc b) = rw (lt-ltb 0 (zero + suc b) (omega arith))
-opposite (suc a) b = rw (lt-ltb 0 (suc a + b) (omega arith))
+minus_at_most_plus : (a b : ℕ) → (ltb 0 (a + b) || (eqb a b && eqb a 0)) ≡ true
+minus_at_most_plus zero zero = refl
+minus_at_most_plus zero (suc b) = rw (lt-ltb 0 (zero + suc b) (omega arith))
+minus_at_most_plus (suc a) b = rw (lt-ltb 0 (suc a + b) (omega arith))
 
 -- a number of size a and sign s beside a bound of size b and sign t
-sizes : (s : Bool) (a : ℕ) (t : Bool) (b : ℕ)
+size_at_most_by_order : (s : Bool) (a : ℕ) (t : Bool) (b : ℕ)
     → (below false a t b || level false a t b) ≡ ((below (not t) b s a || level (not t) b s a) && (below s a t b || level s a t b))
-sizes false a false b = rw (opposite b a)
-sizes true a false b = simp (opposite a b, eqb_sym b a, and-true)
-sizes false a true b = case (eqb a b) (λ e. simp (eqb_sym b a, e, or-true)) (λ e. simp (e, and-false))
-sizes true a true b = case (eqb a b) (λ e. simp (eqb_sym b a, e, or-true, and-true) (ap (λ (n : ℕ). eqb n 0) (eqb-true a b e))) (λ e. simp (eqb_sym b a, e))
+size_at_most_by_order false a false b = rw (minus_at_most_plus b a)
+size_at_most_by_order true a false b = simp (minus_at_most_plus a b, eqb_sym b a, and-true)
+size_at_most_by_order false a true b = case (eqb a b) (λ e. simp (eqb_sym b a, e, or-true)) (λ e. simp (e, and-false))
+size_at_most_by_order true a true b = case (eqb a b) (λ e. simp (eqb_sym b a, e, or-true, and-true) (ap (λ (n : ℕ). eqb n 0) (eqb-true a b e))) (λ e. simp (eqb_sym b a, e))
 
-pub abs_order : (max t : Float) → le (abs_of t) max ≡ (le (neg max) t && le t max)
+pub abs_at_most_by_order : (max t : Float) → le (abs_of t) max ≡ (le (neg max) t && le t max)
 unfolding le lt eq neg abs_of
-abs_order nan nan = refl
-abs_order (inf u) nan = sym (and-false (le (neg (inf u)) nan))
-abs_order (fin u n d) nan = sym (and-false (le (neg (fin u n d)) nan))
-abs_order nan (inf s) = refl
-abs_order nan (fin s m e) = refl
-abs_order (inf true) (inf true) = refl
-abs_order (inf true) (inf false) = refl
-abs_order (inf false) (inf true) = refl
-abs_order (inf false) (inf false) = refl
-abs_order (inf true) (fin s m e) = refl
-abs_order (inf false) (fin s m e) = refl
-abs_order (fin u n d) (inf true) = refl
-abs_order (fin u n d) (inf false) = refl
-abs_order (fin u n d) (fin s m e) = sizes s (m * up e * down d) u (n * up d * down e)
+abs_at_most_by_order nan nan = refl
+abs_at_most_by_order (inf u) nan = sym (and-false (le (neg (inf u)) nan))
+abs_at_most_by_order (fin u n d) nan = sym (and-false (le (neg (fin u n d)) nan))
+abs_at_most_by_order nan (inf s) = refl
+abs_at_most_by_order nan (fin s m e) = refl
+abs_at_most_by_order (inf true) (inf true) = refl
+abs_at_most_by_order (inf true) (inf false) = refl
+abs_at_most_by_order (inf false) (inf true) = refl
+abs_at_most_by_order (inf false) (inf false) = refl
+abs_at_most_by_order (inf true) (fin s m e) = refl
+abs_at_most_by_order (inf false) (fin s m e) = refl
+abs_at_most_by_order (fin u n d) (inf true) = refl
+abs_at_most_by_order (fin u n d) (inf false) = refl
+abs_at_most_by_order (fin u n d) (fin s m e) = size_at_most_by_order s (m * up e * down d) u (n * up d * down e)
 
 -- ---- the theorem
 pub within_order : (max t : Float) → within max t ≡ (le (neg max) t && le t max)
 unfolding within
-within_order max t = abs_order max t
+within_order max t = abs_at_most_by_order max t

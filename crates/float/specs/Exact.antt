@@ -15,9 +15,9 @@ pub record Fitting (f : Format) (m : ℕ) (e : ℤ) : Type 0 where
   pub deep : down e ≤ 2 ^ low f
   pub small : m * up e < 2 ^ suc (emax f) * down e
 
-pub fitting : (f : Format) (s : Bool) (m : ℕ) (e : ℤ) → T (fits f (fin s (suc m) e)) → Fitting f (suc m) e
+pub fits_gives_fitting : (f : Format) (s : Bool) (m : ℕ) (e : ℤ) → T (fits f (fin s (suc m) e)) → Fitting f (suc m) e
 unfolding fits
-fitting f s m e h =
+fits_gives_fitting f s m e h =
     let A = eqb (suc m % 2) 1 in
     let B = ltb (suc m) (2 ^ prec f) in
     let C = leb (down e) (2 ^ low f) in
@@ -30,73 +30,73 @@ fitting f s m e h =
     }
 
 -- ---- a number is an odd number times a power of two in one way only
-even_odd : (m t : ℕ) → m % 2 ≡ 1 → m ≡ 2 * t → ⊥
-even_odd m t o h = omega arith
+odd_is_not_even : (m t : ℕ) → m % 2 ≡ 1 → m ≡ 2 * t → ⊥
+odd_is_not_even m t o h = omega arith
 
-odd_pow : (m n a b : ℕ) → m % 2 ≡ 1 → n % 2 ≡ 1 → m * 2 ^ a ≡ n * 2 ^ b → (m ≡ n) × (a ≡ b)
-odd_pow m n zero zero o p h = (sym (mul-one m) ∙ h ∙ mul-one n, refl)
-odd_pow m n zero (suc b) o p h = absurd (even_odd m (n * 2 ^ b) o (sym (mul-one m) ∙ h ∙ ap (λ (x : ℕ). n * x) (pow-succ' 2 b) ∙ mul_left_comm n 2 (2 ^ b)))
-odd_pow m n (suc a) zero o p h = absurd (even_odd n (m * 2 ^ a) p (sym (mul-one n) ∙ sym h ∙ ap (λ (x : ℕ). m * x) (pow-succ' 2 a) ∙ mul_left_comm m 2 (2 ^ a)))
-odd_pow m n (suc a) (suc b) o p h =
-    let r = odd_pow m n a b o p (eq_of_mul-eq-mul_right 2 (zero-lt-suc 1) (m * 2 ^ a) (n * 2 ^ b)
+odd_times_power_unique : (m n a b : ℕ) → m % 2 ≡ 1 → n % 2 ≡ 1 → m * 2 ^ a ≡ n * 2 ^ b → (m ≡ n) × (a ≡ b)
+odd_times_power_unique m n zero zero o p h = (sym (mul-one m) ∙ h ∙ mul-one n, refl)
+odd_times_power_unique m n zero (suc b) o p h = absurd (odd_is_not_even m (n * 2 ^ b) o (sym (mul-one m) ∙ h ∙ ap (λ (x : ℕ). n * x) (pow-succ' 2 b) ∙ mul_left_comm n 2 (2 ^ b)))
+odd_times_power_unique m n (suc a) zero o p h = absurd (odd_is_not_even n (m * 2 ^ a) p (sym (mul-one n) ∙ sym h ∙ ap (λ (x : ℕ). m * x) (pow-succ' 2 a) ∙ mul_left_comm m 2 (2 ^ a)))
+odd_times_power_unique m n (suc a) (suc b) o p h =
+    let r = odd_times_power_unique m n a b o p (eq_of_mul-eq-mul_right 2 (zero-lt-suc 1) (m * 2 ^ a) (n * 2 ^ b)
     (mul_assoc m (2 ^ a) 2 ∙ ap (λ (x : ℕ). m * x) (sym (pow-suc 2 a)) ∙ h ∙ ap (λ (x : ℕ). n * x) (pow-suc 2 b) ∙ sym (mul_assoc n (2 ^ b) 2)))
     in
     (r.0, ap suc r.1)
 
-odd_value : (m n : ℕ) (e g : ℤ) → m % 2 ≡ 1 → n % 2 ≡ 1 → m * up e * down g ≡ n * up g * down e → (m ≡ n) × (e ≡ g)
-odd_value m n (pos a) (pos b) o p h =
-    let r = odd_pow m n a b o p (sym (mul-one (m * 2 ^ a)) ∙ h ∙ mul-one (n * 2 ^ b)) in (r.0, ap pos r.1)
-odd_value m n (pos a) (negsuc b) o p h =
-    let r = odd_pow m n (a + suc b) 0 o p (ap (λ (x : ℕ). m * x) (pow-add 2 a (suc b)) ∙ sym (mul_assoc m (2 ^ a) (2 ^ suc b)) ∙ h ∙ mul-one (n * 1)) in
+odd_value_unique : (m n : ℕ) (e g : ℤ) → m % 2 ≡ 1 → n % 2 ≡ 1 → m * up e * down g ≡ n * up g * down e → (m ≡ n) × (e ≡ g)
+odd_value_unique m n (pos a) (pos b) o p h =
+    let r = odd_times_power_unique m n a b o p (sym (mul-one (m * 2 ^ a)) ∙ h ∙ mul-one (n * 2 ^ b)) in (r.0, ap pos r.1)
+odd_value_unique m n (pos a) (negsuc b) o p h =
+    let r = odd_times_power_unique m n (a + suc b) 0 o p (ap (λ (x : ℕ). m * x) (pow-add 2 a (suc b)) ∙ sym (mul_assoc m (2 ^ a) (2 ^ suc b)) ∙ h ∙ mul-one (n * 1)) in
     let z : a + suc b ≡ 0 = r.1 in
     absurd (omega arith)
-odd_value m n (negsuc a) (pos b) o p h =
-    let r = odd_pow n m (b + suc a) 0 p o (ap (λ (x : ℕ). n * x) (pow-add 2 b (suc a)) ∙ sym (mul_assoc n (2 ^ b) (2 ^ suc a)) ∙ sym h ∙ mul-one (m * 1)) in
+odd_value_unique m n (negsuc a) (pos b) o p h =
+    let r = odd_times_power_unique n m (b + suc a) 0 p o (ap (λ (x : ℕ). n * x) (pow-add 2 b (suc a)) ∙ sym (mul_assoc n (2 ^ b) (2 ^ suc a)) ∙ sym h ∙ mul-one (m * 1)) in
     let z : b + suc a ≡ 0 = r.1 in
     absurd (omega arith)
-odd_value m n (negsuc a) (negsuc b) o p h =
-    let r = odd_pow m n (suc b) (suc a) o p (ap (λ (x : ℕ). x * 2 ^ suc b) (sym (mul-one m)) ∙ h ∙ ap (λ (x : ℕ). x * 2 ^ suc a) (mul-one n)) in
+odd_value_unique m n (negsuc a) (negsuc b) o p h =
+    let r = odd_times_power_unique m n (suc b) (suc a) o p (ap (λ (x : ℕ). x * 2 ^ suc b) (sym (mul-one m)) ∙ h ∙ ap (λ (x : ℕ). x * 2 ^ suc a) (mul-one n)) in
     let z : b ≡ a = let q : suc b ≡ suc a = r.1 in omega arith in
     (r.0, ap negsuc (sym z))
 
 -- ---- a number other than 0 that fits is what its own fraction rounds to
-pub power_le : (i j : ℕ) → 2 ^ i ≤ 2 ^ j → i ≤ j
-power_le i j h =
+pub exponent_le_of_power_le : (i j : ℕ) → 2 ^ i ≤ 2 ^ j → i ≤ j
+exponent_le_of_power_le i j h =
     elim (ltb j i) as (λ (v : Bool). ltb j i ≡ v → i ≤ j) [
       | true ↦ λ e. absurd (let p : 2 ^ j < 2 ^ i = pow-lt (ltb-true j i e) in omega arith)
       | false ↦ λ e. ltb-false j i e
     ] refl
 
-reaches : (f : Format) (k : ℕ) → prec f + (low f - suc k) ≤ low f + suc (emax f)
-reaches binary32 k = omega arith
-reaches binary64 k = omega arith
+rounded_digits_in_format : (f : Format) (k : ℕ) → prec f + (low f - suc k) ≤ low f + suc (emax f)
+rounded_digits_in_format binary32 k = omega arith
+rounded_digits_in_format binary64 k = omega arith
 
-own_value : (f : Format) (s : Bool) (m : ℕ) (e : ℤ) → Fitting f m e → HasValue (round f s (m * up e) (down e)) s (m * up e) (down e)
-own_value f s m (pos k) x =
+round_has_own_value : (f : Format) (s : Bool) (m : ℕ) (e : ℤ) → Fitting f m e → HasValue (round f s (m * up e) (down e)) s (m * up e) (down e)
+round_has_own_value f s m (pos k) x =
     let l = 2 ^ low f in
     let e : m * 2 ^ (k + low f) ≡ m * 2 ^ k * l = ap (λ (y : ℕ). m * y) (pow-add 2 k (low f)) ∙ sym (mul_assoc m (2 ^ k) l) in
     let b : m * 2 ^ k * l < 2 ^ suc (emax f) * l = mul-lt-mul_of_pos_right (subst (λ (y : ℕ). m * 2 ^ k < y) (mul-one (2 ^ suc (emax f))) x.small) (pow_pos (low f)) in
     let g : 2 ^ suc (emax f) * l ≡ 2 ^ (low f + suc (emax f)) = mul_comm (2 ^ suc (emax f)) l ∙ sym (pow-add 2 (low f) (suc (emax f))) in
     round_exact f s (m * 2 ^ k) 1 m (k + low f) (zero-lt-suc 0) x.short (subst (λ (y : ℕ). y < 2 ^ (low f + suc (emax f))) (sym e) (subst (λ (y : ℕ). m * 2 ^ k * l < y) g b)) (sym e ∙ sym (mul-one (m * 2 ^ (k + low f))))
-own_value f s m (negsuc k) x =
+round_has_own_value f s m (negsuc k) x =
     let j = low f - suc k in
-    let d : suc k ≤ low f = power_le (suc k) (low f) x.deep in
+    let d : suc k ≤ low f = exponent_le_of_power_le (suc k) (low f) x.deep in
     let e : j + suc k ≡ low f = omega arith in
     let g : m * 1 * 2 ^ low f ≡ m * 2 ^ j * 2 ^ suc k =
     ap (λ (y : ℕ). y * 2 ^ low f) (mul-one m) ∙ ap (λ (y : ℕ). m * 2 ^ y) (sym e) ∙ ap (λ (y : ℕ). m * y) (pow-add 2 j (suc k)) ∙ sym (mul_assoc m (2 ^ j) (2 ^ suc k))
     in
-    round_exact f s (m * 1) (2 ^ suc k) m j (pow_pos (suc k)) x.short (lt_of_lt_of_le (shl_lt (prec f) j x.short) (pow_mono (reaches f k))) g
+    round_exact f s (m * 1) (2 ^ suc k) m j (pow_pos (suc k)) x.short (lt_of_lt_of_le (shl_lt (prec f) j x.short) (pow_mono (rounded_digits_in_format f k))) g
 
-same_value : (f : Format) (s : Bool) (m : ℕ) (e : ℤ) (y : Float) → T (fits f y) → Fitting f (suc m) e → HasValue y s (suc m * up e) (down e) → y ≡ fin s (suc m) e
-same_value f s m e nan h x v = absurd v
-same_value f s m e (inf t) h x v = absurd v
-same_value f s m e (fin t zero g) h x v =
+fitting_value_unique : (f : Format) (s : Bool) (m : ℕ) (e : ℤ) (y : Float) → T (fits f y) → Fitting f (suc m) e → HasValue y s (suc m * up e) (down e) → y ≡ fin s (suc m) e
+fitting_value_unique f s m e nan h x v = absurd v
+fitting_value_unique f s m e (inf t) h x v = absurd v
+fitting_value_unique f s m e (fin t zero g) h x v =
     absurd (let p : 0 < suc m * up e * down g = mul-pos (mul-pos (zero-lt-suc m) (up_pos e)) (down_pos g) in let q : 0 * up g * down e ≡ suc m * up e * down g = v.1 in omega arith)
-same_value f s m e (fin t (suc n) g) h x v =
-    let r = odd_value (suc n) (suc m) g e (fitting f t n g h).is_odd x.is_odd v.1 in
+fitting_value_unique f s m e (fin t (suc n) g) h x v =
+    let r = odd_value_unique (suc n) (suc m) g e (fits_gives_fitting f t n g h).is_odd x.is_odd v.1 in
     λ i. fin (v.0 i) (r.0 i) (r.1 i)
 
-pub round_own : (f : Format) (s : Bool) (m : ℕ) (e : ℤ) → T (fits f (fin s (suc m) e)) → round f s (suc m * up e) (down e) ≡ fin s (suc m) e
-round_own f s m e h =
-    let x = fitting f s m e h in
-    same_value f s m e (round f s (suc m * up e) (down e)) (round-fits f s (suc m * up e) (down e)) x (own_value f s (suc m) e x)
+pub round_of_own_fraction : (f : Format) (s : Bool) (m : ℕ) (e : ℤ) → T (fits f (fin s (suc m) e)) → round f s (suc m * up e) (down e) ≡ fin s (suc m) e
+round_of_own_fraction f s m e h =
+    let x = fits_gives_fitting f s m e h in
+    fitting_value_unique f s m e (round f s (suc m * up e) (down e)) (round-fits f s (suc m * up e) (down e)) x (round_has_own_value f s (suc m) e x)

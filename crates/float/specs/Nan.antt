@@ -4,12 +4,12 @@ use Rattle.std.proofs.Common.{sym, true≢false}
 use Rattle.std.specs.Float.{nan, inf, fin, binary64}
 use Rattle.std.specs.Float.Ieee.{of_bits, div, is_nan}
 
-pub is_nan_lem : (x : Float) → is_nan x ≡ true → x ≡ nan
+pub is_nan_gives_nan : (x : Float) → is_nan x ≡ true → x ≡ nan
 unfolding is_nan
-is_nan_lem nan e = refl
-is_nan_lem (inf s) e = absurd (true≢false (sym e))
-is_nan_lem (fin s m x) e = absurd (true≢false (sym e))
+is_nan_gives_nan nan e = refl
+is_nan_gives_nan (inf s) e = absurd (true≢false (sym e))
+is_nan_gives_nan (fin s m x) e = absurd (true≢false (sym e))
 
-pub zero_over_zero : div binary64 (of_bits binary64 0) (of_bits binary64 0) ≡ nan
+pub zero_over_zero_is_nan : div binary64 (of_bits binary64 0) (of_bits binary64 0) ≡ nan
 unfolding div of_bits
-zero_over_zero = refl
+zero_over_zero_is_nan = refl

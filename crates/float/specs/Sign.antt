@@ -11,7 +11,7 @@ use Rattle.std.specs.Float.Ieee.Scale.{round_same}
 use Rattle.float.specs.Literals.{plus_zero}
 use Rattle.float.specs.Float.{abs_of, sign_bit, is_finite, clamp_of}
 use Rattle.float.specs.Order.{lt_irrefl, lt_neg, le_of_not_lt}
-use Rattle.float.specs.Exact.{round_own}
+use Rattle.float.specs.Exact.{round_of_own_fraction}
 
 -- ---- how a number compares with zero: its significand and its sign alone decide
 magnitude_pos : (m : ℕ) (e : ℤ) → 0 < suc m * up e * 1
@@ -38,15 +38,15 @@ abs_negative (inf false) h = absurd (true≢false (sym h))
 abs_negative (fin true m e) h = refl
 abs_negative (fin false m e) h = absurd (true≢false (sym h ∙ lt_zero false m e))
 
-one_below : (k : ℕ) → 1 < 2 ^ suc k
-one_below k = let p : zero < suc k = omega arith in pow-lt p
+one_lt_two_power : (k : ℕ) → 1 < 2 ^ suc k
+one_lt_two_power k = let p : zero < suc k = omega arith in pow-lt p
 
 -- a zero is written in one way
-pub fits_zero : (s : Bool) (e : ℤ) → T (fits binary64 (fin s zero e)) → e ≡ pos 0
+pub fitting_zero_has_exponent_zero : (s : Bool) (e : ℤ) → T (fits binary64 (fin s zero e)) → e ≡ pos 0
 unfolding fits
-fits_zero s (pos zero) f = refl
-fits_zero s (pos (suc k)) f = absurd (let p = one_below k in let q = eqb→eq (2 ^ suc k * 1) 1 f in omega arith)
-fits_zero s (negsuc k) f = absurd (let p = one_below k in let q = eqb→eq (1 * 2 ^ suc k) 1 f in omega arith)
+fitting_zero_has_exponent_zero s (pos zero) f = refl
+fitting_zero_has_exponent_zero s (pos (suc k)) f = absurd (let p = one_lt_two_power k in let q = eqb→eq (2 ^ suc k * 1) 1 f in omega arith)
+fitting_zero_has_exponent_zero s (negsuc k) f = absurd (let p = one_lt_two_power k in let q = eqb→eq (1 * 2 ^ suc k) 1 f in omega arith)
 
 -- ---- no sign changes a magnitude: of a negated value, a rounded fraction, a difference with both terms negated
 pub abs_neg : (x : Float) → abs_of (neg x) ≡ abs_of x
@@ -111,9 +111,9 @@ abs_sub_neg f (fin s m e) (fin t n d) =
     ∙ sym (abs_sum f s a (not t) b c)
 
 -- ---- a number minus itself is 0, and a value plus 0 keeps its magnitude
-round_zero_lem : (s : Bool) (c : ℕ) → 0 < c → abs_of (round binary64 s 0 c) ≡ plus_zero
+abs_of_rounded_zero : (s : Bool) (c : ℕ) → 0 < c → abs_of (round binary64 s 0 c) ≡ plus_zero
 unfolding round of_bits abs_of
-round_zero_lem s c h = abs_round binary64 s 0 c ∙ round_same binary64 false 0 c 0 1 h (omega arith) (omega arith)
+abs_of_rounded_zero s c h = abs_round binary64 s 0 c ∙ round_same binary64 false 0 c 0 1 h (omega arith) (omega arith)
 
 pub abs_sub_self : (x : Float) → is_finite x ≡ true → abs_of (sub binary64 x x) ≡ plus_zero
 unfolding sub is_finite
@@ -123,30 +123,30 @@ abs_sub_self (fin s m e) h =
     let a = m * up e * down e in
     let z : a - a ≡ 0 = omega arith in
     let l : ltb a a ≡ false = le-ltb a a (omega arith) in
-    let r : (t : Bool) → abs_of (round binary64 t 0 (down e * down e)) ≡ plus_zero = λ t. round_zero_lem t (down e * down e) (mul-pos (down_pos e) (down_pos e)) in
+    let r : (t : Bool) → abs_of (round binary64 t 0 (down e * down e)) ≡ plus_zero = λ t. abs_of_rounded_zero t (down e * down e) (mul-pos (down_pos e) (down_pos e)) in
     elim s as (λ (t : Bool). abs_of (sub binary64 (fin t m e) (fin t m e)) ≡ plus_zero) [ true ↦ simp (l, z) (r false) | false ↦ simp (l, z) (r false) ]
 
-zero_plus : (s : Bool) (e : ℤ) → e ≡ pos 0 → abs_of (add binary64 (fin s zero e) plus_zero) ≡ abs_of (fin s zero e)
+abs_of_zero_plus_zero : (s : Bool) (e : ℤ) → e ≡ pos 0 → abs_of (add binary64 (fin s zero e) plus_zero) ≡ abs_of (fin s zero e)
 unfolding add of_bits abs_of
-zero_plus true e h = rw h
-zero_plus false e h = rw h
+abs_of_zero_plus_zero true e h = rw h
+abs_of_zero_plus_zero false e h = rw h
 
 pub abs_add_zero : (x : Float) → T (fits binary64 x) → abs_of (add binary64 x plus_zero) ≡ abs_of x
 unfolding add of_bits
 abs_add_zero nan h = refl
 abs_add_zero (inf s) h = refl
-abs_add_zero (fin s zero e) h = zero_plus s e (fits_zero s e h)
+abs_add_zero (fin s zero e) h = abs_of_zero_plus_zero s e (fitting_zero_has_exponent_zero s e h)
 abs_add_zero (fin false (suc m) e) h =
     let a : suc m * up e * 1 + 0 * down e ≡ suc m * up e = omega arith in
     let c : down e * 1 ≡ down e = mul-one (down e) in
-    ap abs_of (simp (a, c) (round_own binary64 false m e h))
+    ap abs_of (simp (a, c) (round_of_own_fraction binary64 false m e h))
 abs_add_zero (fin true (suc m) e) h =
     let p = magnitude_pos m e in
     let i : ltb (suc m * up e * 1) (0 * down e) ≡ false = le-ltb (suc m * up e * 1) (0 * down e) (omega arith) in
     let j : ltb (0 * down e) (suc m * up e * 1) ≡ true = lt-ltb (0 * down e) (suc m * up e * 1) (omega arith) in
     let a : suc m * up e * 1 - 0 * down e ≡ suc m * up e = omega arith in
     let c : down e * 1 ≡ down e = mul-one (down e) in
-    ap abs_of (simp (i, j, a, c) (round_own binary64 true m e h))
+    ap abs_of (simp (i, j, a, c) (round_of_own_fraction binary64 true m e h))
 
 -- ---- the sign of a result
 -- a value without a minus sign is not below zero
@@ -201,19 +201,19 @@ pub unlike_itself : (s : Bool) → unlike s s ≡ false
 unlike_itself true = refl
 unlike_itself false = refl
 
-unlike_same : {s t : Bool} → s ≡ t → unlike s t ≡ false
-unlike_same {s} {t} h = rw h (unlike_itself t)
+unlike_of_equal_signs : {s t : Bool} → s ≡ t → unlike s t ≡ false
+unlike_of_equal_signs {s} {t} h = rw h (unlike_itself t)
 
 -- a product of two factors of one sign
 pub sign_mul : (f : Format) (x y : Float) → sign_bit x ≡ sign_bit y → sign_bit (mul f x y) ≡ false
 unfolding sign_bit mul
 sign_mul f nan y h = refl
 sign_mul f (inf s) nan h = refl
-sign_mul f (inf s) (inf t) h = unlike_same h
-sign_mul f (inf s) (fin t n d) h = sign_cond (eqb n 0) nan (inf (unlike s t)) false refl (unlike_same h)
+sign_mul f (inf s) (inf t) h = unlike_of_equal_signs h
+sign_mul f (inf s) (fin t n d) h = sign_cond (eqb n 0) nan (inf (unlike s t)) false refl (unlike_of_equal_signs h)
 sign_mul f (fin s m e) nan h = refl
-sign_mul f (fin s m e) (inf t) h = sign_cond (eqb m 0) nan (inf (unlike s t)) false refl (unlike_same h)
-sign_mul f (fin s m e) (fin t n d) h = sign_round f (unlike s t) (m * up e * (n * up d)) (down e * down d) ∙ unlike_same h
+sign_mul f (fin s m e) (inf t) h = sign_cond (eqb m 0) nan (inf (unlike s t)) false refl (unlike_of_equal_signs h)
+sign_mul f (fin s m e) (fin t n d) h = sign_round f (unlike s t) (m * up e * (n * up d)) (down e * down d) ∙ unlike_of_equal_signs h
 
 pub sign_square : (f : Format) (x : Float) → sign_bit (mul f x x) ≡ false
 sign_square f x = sign_mul f x x refl
@@ -249,11 +249,11 @@ abs_unsigned nan h = refl
 abs_unsigned (inf s) h = ap inf (sym h)
 abs_unsigned (fin s m e) h = ap (λ (t : Bool). fin t m e) (sym h)
 
-nan_abs : (x : Float) → is_nan (abs_of x) ≡ is_nan x
+is_nan_of_abs : (x : Float) → is_nan (abs_of x) ≡ is_nan x
 unfolding abs_of is_nan
-nan_abs nan = refl
-nan_abs (inf s) = refl
-nan_abs (fin s m e) = refl
+is_nan_of_abs nan = refl
+is_nan_of_abs (inf s) = refl
+is_nan_of_abs (fin s m e) = refl
 
 abs_not_above : (x b : Float) → lt x (neg b) ≡ false → lt b x ≡ false → lt b (abs_of x) ≡ false
 unfolding abs_of neg
@@ -263,16 +263,16 @@ abs_not_above (inf false) b h k = k
 abs_not_above (fin true m e) b h k = sym (lt_neg (fin false m e) b) ∙ h
 abs_not_above (fin false m e) b h k = k
 
-pub clamp_magnitude : (x b : Float) → sign_bit b ≡ false → is_nan b ≡ false
+pub clamped_size_at_most_bound : (x b : Float) → sign_bit b ≡ false → is_nan b ≡ false
     → is_nan (clamp_of x (neg b) b) ≡ false → le (abs_of (clamp_of x (neg b) b)) b ≡ true
 unfolding clamp_of
-clamp_magnitude x b s n h =
+clamped_size_at_most_bound x b s n h =
     let self : le (abs_of b) b ≡ true = rw (abs_unsigned b s) (le_of_not_lt b b n n (lt_irrefl b)) in
     elim (lt x (neg b)) as (λ (v : Bool). lt x (neg b) ≡ v → is_nan (cond v (neg b) (cond (lt b x) b x)) ≡ false → le (abs_of (cond v (neg b) (cond (lt b x) b x))) b ≡ true) [
       | true ↦ λ e g. rw (abs_neg b) self
       | false ↦ λ e g.
           elim (lt b x) as (λ (w : Bool). lt b x ≡ w → is_nan (cond w b x) ≡ false → le (abs_of (cond w b x)) b ≡ true) [
             | true ↦ λ f i. self
-            | false ↦ λ f i. le_of_not_lt (abs_of x) b (nan_abs x ∙ i) n (abs_not_above x b e f)
+            | false ↦ λ f i. le_of_not_lt (abs_of x) b (is_nan_of_abs x ∙ i) n (abs_not_above x b e f)
           ] refl g
     ] refl h

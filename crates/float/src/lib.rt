@@ -12,7 +12,7 @@ ghost use Rattle.float.specs.Float.{abs_of, within, is_finite, min_of, max_of, c
 ghost use Rattle.float.specs.Finite.{all_finite};
 
 // The magnitude: -0 becomes +0, and NaN stays.
-#[tactic(auto, using(crate::proofs::Library::without_sign))]
+#[tactic(auto, using(crate::proofs::Library::library_abs_agrees))]
 pub fn abs(x: f64) -> f64
     ensures { result ≡ abs_of x }
 {
@@ -28,7 +28,7 @@ pub fn within(limit: f64, x: f64) -> bool
 }
 
 // Whether x is neither an infinity nor NaN.
-#[tactic(auto, using(crate::proofs::Library::finite_same))]
+#[tactic(auto, using(crate::proofs::Library::library_is_finite_agrees))]
 pub fn is_finite(x: f64) -> bool
     ensures { result ≡ is_finite x }
 {
@@ -84,7 +84,7 @@ pub fn clamp(x: f64, low: f64, high: f64) -> f64
 }
 
 // The bits of x; of any NaN the one pattern, whatever bits the machine holds.
-#[tactic(auto, using(crate::proofs::Library::bits_same))]
+#[tactic(auto, using(crate::proofs::Library::library_to_bits_agrees))]
 pub fn to_bits(x: f64) -> u64
     ensures { result ≡ bits_of x }
 {

@@ -27,9 +27,9 @@ behind t i k p n d P N D A B C pos g h =
     let b = simp ring at (mul-le-mul_right d h) in
     le_of_mul-le-mul_right {k = D} (simp ring (omega arith)) pos
 
-both : (t k p n d P N D a b c : ℕ) → t * (p * D + N * d) + k * (d * D) ≤ t * (P * d + n * D)
+excess_of_sums : (t k p n d P N D a b c : ℕ) → t * (p * D + N * d) + k * (d * D) ≤ t * (P * d + n * D)
     → t * ((a * d + p * c) * (c * D) + (b * D + N * c) * (c * d)) + k * (c * d * (c * D)) ≤ t * ((a * D + P * c) * (c * d) + (b * d + n * c) * (c * D))
-both t k p n d P N D a b c h =
+excess_of_sums t k p n d P N D a b c h =
     let u = simp ring at (mul-le-mul_right (c * c) h) in
     simp ring (omega arith)
 
@@ -44,4 +44,4 @@ near_exceeds {t} {i} {j} {k} {v} {x} {y} {w} p q g e h = record {
 
 -- ---- the same fraction added to both
 pub plus_exceeds : {t k : ℕ} (c : Fraction) {x y : Fraction} → Exceeds t k x y → Exceeds t k (c ⊕ x) (c ⊕ y)
-plus_exceeds {t} {k} c {x} {y} e = record { by = both t k x.plus x.minus x.den y.plus y.minus y.den c.plus c.minus c.den e.by }
+plus_exceeds {t} {k} c {x} {y} e = record { by = excess_of_sums t k x.plus x.minus x.den y.plus y.minus y.den c.plus c.minus c.den e.by }

@@ -129,20 +129,20 @@ near_refl t x = near_same t x x refl
 
 ruleset sums = (ring, add_assoc, add_comm, add_left_comm)
 
-equal : {p n d P N D : ℕ} → p ≡ P → n ≡ N → d ≡ D → ◌≡◌ {A = Fraction} (record { plus = p; minus = n; den = d }) (record { plus = P; minus = N; den = D })
-equal e f g = rw (e, f, g)
+fraction_of_equal_parts : {p n d P N D : ℕ} → p ≡ P → n ≡ N → d ≡ D → ◌≡◌ {A = Fraction} (record { plus = p; minus = n; den = d }) (record { plus = P; minus = N; den = D })
+fraction_of_equal_parts e f g = rw (e, f, g)
 
 pub times_comm : (x y : Fraction) → x ⊗ y ≡ y ⊗ x
-times_comm x y = equal (simp mul_comm) (simp (mul_comm, add_comm)) (simp mul_comm)
+times_comm x y = fraction_of_equal_parts (simp mul_comm) (simp (mul_comm, add_comm)) (simp mul_comm)
 
 pub times_assoc : (x y z : Fraction) → x ⊗ y ⊗ z ≡ x ⊗ (y ⊗ z)
-times_assoc x y z = equal (simp sums) (simp sums) (simp ring)
+times_assoc x y z = fraction_of_equal_parts (simp sums) (simp sums) (simp ring)
 
 pub plus_comm : (x y : Fraction) → x ⊕ y ≡ y ⊕ x
-plus_comm x y = equal (simp add_comm) (simp add_comm) (simp mul_comm)
+plus_comm x y = fraction_of_equal_parts (simp add_comm) (simp add_comm) (simp mul_comm)
 
-pub plus_zero_lem : (x : Fraction) → x ⊕ signed false 0 1 ≡ x
-plus_zero_lem x = simp (mul-one, zero-mul, add-zero)
+pub plus_zero_fraction : (x : Fraction) → x ⊕ signed false 0 1 ≡ x
+plus_zero_fraction x = simp (mul-one, zero-mul, add-zero)
 
 pub times_one : (x : Fraction) → x ⊗ signed false 1 1 ≡ x
 times_one x = simp (mul-one, mul-zero, add-zero, zero-add)

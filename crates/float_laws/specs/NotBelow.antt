@@ -21,12 +21,12 @@ nan_not_below nan y h = refl
 nan_not_below (inf s) y h = absurd (true≢false (sym h))
 nan_not_below (fin s m e) y h = absurd (true≢false (sym h))
 
--- where one is at most another, both are numbers: `le_number` has the second
-pub le_first : (x y : Float) → le x y ≡ true → is_nan x ≡ false
+-- where one is at most another, both are numbers: `le_second_is_not_nan` has the second
+pub le_first_is_not_nan : (x y : Float) → le x y ≡ true → is_nan x ≡ false
 unfolding is_nan le lt eq
-le_first nan y h = absurd (true≢false (sym h))
-le_first (inf s) y h = refl
-le_first (fin s m e) y h = refl
+le_first_is_not_nan nan y h = absurd (true≢false (sym h))
+le_first_is_not_nan (inf s) y h = refl
+le_first_is_not_nan (fin s m e) y h = refl
 
 -- a value without a minus sign isn't below one with a minus sign
 pub plus_not_below_minus : (x y : Float) → sign_bit x ≡ false → sign_bit y ≡ true → lt x y ≡ false

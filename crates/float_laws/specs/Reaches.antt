@@ -25,31 +25,31 @@ Reaches (fin s m e) (inf t) = ⊥
 Reaches (fin s m e) (fin t n d) = n * up d * down e ≤ m * up e * down d
 
 -- that is, |x| < |b| is false
-pub reaches : (x b : Float) → lt (abs_of x) (abs_of b) ≡ false → Reaches x b
+pub reaches_of_not_below : (x b : Float) → lt (abs_of x) (abs_of b) ≡ false → Reaches x b
 unfolding lt abs_of
-reaches nan b h = tt
-reaches (inf s) b h = tt
-reaches (fin s m e) nan h = tt
-reaches (fin s m e) (inf t) h = absurd (true≢false h)
-reaches (fin s m e) (fin t n d) h = ltb-false (m * up e * down d) (n * up d * down e) h
+reaches_of_not_below nan b h = tt
+reaches_of_not_below (inf s) b h = tt
+reaches_of_not_below (fin s m e) nan h = tt
+reaches_of_not_below (fin s m e) (inf t) h = absurd (true≢false h)
+reaches_of_not_below (fin s m e) (fin t n d) h = ltb-false (m * up e * down d) (n * up d * down e) h
 
-pub not_below : (x b : Float) → Reaches x b → lt (abs_of x) (abs_of b) ≡ false
+pub not_below_of_reaches : (x b : Float) → Reaches x b → lt (abs_of x) (abs_of b) ≡ false
 unfolding lt abs_of
-not_below nan b h = refl
-not_below (inf s) nan h = refl
-not_below (inf s) (inf t) h = refl
-not_below (inf s) (fin t n d) h = refl
-not_below (fin s m e) nan h = refl
-not_below (fin s m e) (inf t) h = absurd h
-not_below (fin s m e) (fin t n d) h = le-ltb (m * up e * down d) (n * up d * down e) h
+not_below_of_reaches nan b h = refl
+not_below_of_reaches (inf s) nan h = refl
+not_below_of_reaches (inf s) (inf t) h = refl
+not_below_of_reaches (inf s) (fin t n d) h = refl
+not_below_of_reaches (fin s m e) nan h = refl
+not_below_of_reaches (fin s m e) (inf t) h = absurd h
+not_below_of_reaches (fin s m e) (fin t n d) h = le-ltb (m * up e * down d) (n * up d * down e) h
 
 -- x is of smaller magnitude than b, and neither is NaN
 abbrev pub Below : Float → Float → Type 0
 Below x b = lt (abs_of x) (abs_of b) ≡ true
 
 -- as the laws are used: y is below c, which it would reach if x reached b, so x is below b
-pub below_back : (x b y c : Float) → (Reaches x b → Reaches y c) → Below y c → Below x b
-below_back x b y c f h = case (lt (abs_of x) (abs_of b)) (λ e. e) (λ e. absurd (true≢false (sym h ∙ not_below y c (f (reaches x b e)))))
+pub below_of_result_below : (x b y c : Float) → (Reaches x b → Reaches y c) → Below y c → Below x b
+below_of_result_below x b y c f h = case (lt (abs_of x) (abs_of b)) (λ e. e) (λ e. absurd (true≢false (sym h ∙ not_below_of_reaches y c (f (reaches_of_not_below x b e)))))
 
 -- then x is finite
 pub below_finite : (x b : Float) → Below x b → is_finite x ≡ true
@@ -61,7 +61,7 @@ below_finite (inf s) (fin t n d) h = absurd (true≢false (sym h))
 below_finite (fin s m e) b h = refl
 
 pub below_reached : (x b : Float) → Below x b → Reaches b x
-below_reached x b h = reaches b x (lt_asym (abs_of x) (abs_of b) h)
+below_reached x b h = reaches_of_not_below b x (lt_asym (abs_of x) (abs_of b) h)
 
 pub finite_below : (x : Float) → is_finite x ≡ true → Below x (inf false)
 unfolding lt abs_of is_finite
@@ -96,19 +96,19 @@ pub zero_reached : (x : Float) → Reaches x plus_zero
 unfolding of_bits
 zero_reached x = reaches_zero x false (pos 0)
 
-no_number : (c s : Bool) (b : Float) → Reaches (cond c nan (inf s)) b
-no_number true s b = tt
-no_number false s b = tt
+nan_or_inf_reaches_any : (c s : Bool) (b : Float) → Reaches (cond c nan (inf s)) b
+nan_or_inf_reaches_any true s b = tt
+nan_or_inf_reaches_any false s b = tt
 
 pub reaches_neg : (x b : Float) → Reaches x b → Reaches x (neg b)
-reaches_neg x b h = reaches x (neg b) (rw (abs_neg b) (not_below x b h))
+reaches_neg x b h = reaches_of_not_below x (neg b) (rw (abs_neg b) (not_below_of_reaches x b h))
 
 -- ---- a rounded fraction
 pub rounds_in_order : (f : Format) (a c b d : ℕ) → 0 < c → 0 < d → b * c ≤ a * d → lt (round f false a c) (round f false b d) ≡ false
 rounds_in_order f a c b d p q h = le_not_lt (round f false b d) (round f false a c) (is_true (le (round f false b d) (round f false a c)) (round_mono f b d a c q p h))
 
 pub round_reaches : (f : Format) (s t : Bool) (a c b d : ℕ) → 0 < c → 0 < d → b * c ≤ a * d → Reaches (round f s a c) (round f t b d)
-round_reaches f s t a c b d p q h = reaches (round f s a c) (round f t b d) (rw (abs_round f s a c, abs_round f t b d) (rounds_in_order f a c b d p q h))
+round_reaches f s t a c b d p q h = reaches_of_not_below (round f s a c) (round f t b d) (rw (abs_round f s a c, abs_round f t b d) (rounds_in_order f a c b d p q h))
 
 -- ---- products
 pub mul_reaches : (f : Format) (x y b c : Float) → Reaches x b → Reaches y c → Reaches (mul f x y) (mul f b c)
@@ -116,9 +116,9 @@ unfolding mul
 mul_reaches f nan y b c h k = tt
 mul_reaches f (inf s) nan b c h k = tt
 mul_reaches f (inf s) (inf t) b c h k = tt
-mul_reaches f (inf s) (fin t n d) b c h k = no_number (eqb n 0) (unlike s t) (mul f b c)
+mul_reaches f (inf s) (fin t n d) b c h k = nan_or_inf_reaches_any (eqb n 0) (unlike s t) (mul f b c)
 mul_reaches f (fin s m e) nan b c h k = tt
-mul_reaches f (fin s m e) (inf t) b c h k = no_number (eqb m 0) (unlike s t) (mul f b c)
+mul_reaches f (fin s m e) (inf t) b c h k = nan_or_inf_reaches_any (eqb m 0) (unlike s t) (mul f b c)
 mul_reaches f (fin s m e) (fin t n d) nan c h k = reaches_nan (mul f (fin s m e) (fin t n d))
 mul_reaches f (fin s m e) (fin t n d) (inf u) c h k = absurd h
 mul_reaches f (fin s m e) (fin t n d) (fin u i g) nan h k = reaches_nan (mul f (fin s m e) (fin t n d))
@@ -129,11 +129,11 @@ mul_reaches f (fin s m e) (fin t n d) (fin u i g) (fin v j l) h k =
     (rw (mul-mul-mul_comm (i * up g) (j * up l) (down e) (down d), mul-mul-mul_comm (m * up e) (n * up d) (down g) (down l)) (mul-le-mul h k))
 
 -- ---- quotients
-pub none_below : (n d e k l : ℕ) → 0 < d → 0 < e → suc n * d * e ≤ 0 * k * l → ⊥
-none_below n d e k l p q h = let r : 0 < suc n * d * e = mul-pos (mul-pos (zero-lt-suc n) p) q in omega arith
+pub positive_not_at_most_zero : (n d e k l : ℕ) → 0 < d → 0 < e → suc n * d * e ≤ 0 * k * l → ⊥
+positive_not_at_most_zero n d e k l p q h = let r : 0 < suc n * d * e = mul-pos (mul-pos (zero-lt-suc n) p) q in omega arith
 
-over : (m n i j e d g l : ℕ) → i * e ≤ m * g → n * l ≤ j * d → i * l * (n * e) ≤ m * d * (j * g)
-over m n i j e d g l h k = let p = mul-le-mul h k in omega arith
+quotients_in_order : (m n i j e d g l : ℕ) → i * e ≤ m * g → n * l ≤ j * d → i * l * (n * e) ≤ m * d * (j * g)
+quotients_in_order m n i j e d g l h k = let p = mul-le-mul h k in omega arith
 
 pub div_reaches : (f : Format) (x y b c : Float) → Reaches x b → Reaches c y → Reaches (div f x y) (div f b c)
 unfolding div
@@ -147,33 +147,33 @@ div_reaches f (fin s m e) (inf t) (inf u) c h k = absurd h
 div_reaches f (fin s m e) (inf t) (fin u i g) nan h k = tt
 div_reaches f (fin s m e) (inf t) (fin u i g) (inf v) h k = omega arith
 div_reaches f (fin s m e) (inf t) (fin u i g) (fin v j l) h k = absurd k
-div_reaches f (fin s m e) (fin t zero d) b c h k = no_number (eqb m 0) (unlike s t) (div f b c)
+div_reaches f (fin s m e) (fin t zero d) b c h k = nan_or_inf_reaches_any (eqb m 0) (unlike s t) (div f b c)
 div_reaches f (fin s m e) (fin t (suc n) d) nan c h k = reaches_nan (div f (fin s m e) (fin t (suc n) d))
 div_reaches f (fin s m e) (fin t (suc n) d) (inf u) c h k = absurd h
 div_reaches f (fin s m e) (fin t (suc n) d) (fin u i g) nan h k = reaches_nan (div f (fin s m e) (fin t (suc n) d))
 div_reaches f (fin s m e) (fin t (suc n) d) (fin u i g) (inf v) h k = reaches_zero (div f (fin s m e) (fin t (suc n) d)) (unlike u v) (pos 0)
-div_reaches f (fin s m e) (fin t (suc n) d) (fin u i g) (fin v zero l) h k = absurd (none_below n (up d) (down l) (up l) (down d) (up_pos d) (down_pos l) k)
+div_reaches f (fin s m e) (fin t (suc n) d) (fin u i g) (fin v zero l) h k = absurd (positive_not_at_most_zero n (up d) (down l) (up l) (down d) (up_pos d) (down_pos l) k)
 div_reaches f (fin s m e) (fin t (suc n) d) (fin u i g) (fin v (suc j) l) h k =
     simp (eqb-suc-zero n, eqb-suc-zero j)
     (round_reaches f (unlike s t) (unlike u v) (m * up e * down d) (suc n * up d * down e) (i * up g * down l) (suc j * up l * down g)
     (mul-pos (mul-pos (zero-lt-suc n) (up_pos d)) (down_pos e)) (mul-pos (mul-pos (zero-lt-suc j) (up_pos l)) (down_pos g))
-    (over (m * up e) (suc n * up d) (i * up g) (suc j * up l) (down e) (down d) (down g) (down l) h k))
+    (quotients_in_order (m * up e) (suc n * up d) (i * up g) (suc j * up l) (down e) (down d) (down g) (down l) h k))
 
 -- ---- sums: a sum of terms without minus signs reaches each sum of terms of no greater magnitude
-either : (c : Bool) (P : Float → Type 0) (x y : Float) → P x → P y → P (cond c x y)
-either true P x y h k = h
-either false P x y h k = k
+property_of_either : (c : Bool) (P : Float → Type 0) (x y : Float) → P x → P y → P (cond c x y)
+property_of_either true P x y h k = h
+property_of_either false P x y h k = k
 
 -- a sum is at most the magnitudes' sum, rounded
-sum_within : (f : Format) (P : Float → Type 0) (s : Bool) (a : ℕ) (t : Bool) (b c : ℕ) → ((u : Bool) (n : ℕ) → n ≤ a + b → P (round f u n c)) → P (sum f s a t b c)
+sum_of_magnitudes_bounds : (f : Format) (P : Float → Type 0) (s : Bool) (a : ℕ) (t : Bool) (b c : ℕ) → ((u : Bool) (n : ℕ) → n ≤ a + b → P (round f u n c)) → P (sum f s a t b c)
 unfolding sum
-sum_within f P true a true b c h = h true (a + b) (omega arith)
-sum_within f P false a false b c h = h false (a + b) (omega arith)
-sum_within f P true a false b c h = either (ltb a b) P (round f false (b - a) c) (round f (ltb b a) (a - b) c) (h false (b - a) (omega arith)) (h (ltb b a) (a - b) (omega arith))
-sum_within f P false a true b c h = either (ltb a b) P (round f true (b - a) c) (round f false (a - b) c) (h true (b - a) (omega arith)) (h false (a - b) (omega arith))
+sum_of_magnitudes_bounds f P true a true b c h = h true (a + b) (omega arith)
+sum_of_magnitudes_bounds f P false a false b c h = h false (a + b) (omega arith)
+sum_of_magnitudes_bounds f P true a false b c h = property_of_either (ltb a b) P (round f false (b - a) c) (round f (ltb b a) (a - b) c) (h false (b - a) (omega arith)) (h (ltb b a) (a - b) (omega arith))
+sum_of_magnitudes_bounds f P false a true b c h = property_of_either (ltb a b) P (round f true (b - a) c) (round f false (a - b) c) (h true (b - a) (omega arith)) (h false (a - b) (omega arith))
 
-together : (m n i j e d g l o : ℕ) → i * e ≤ m * g → j * d ≤ n * l → o ≤ i * l + j * g → o * (e * d) ≤ (m * d + n * e) * (g * l)
-together m n i j e d g l o h k r =
+sums_in_order : (m n i j e d g l o : ℕ) → i * e ≤ m * g → j * d ≤ n * l → o ≤ i * l + j * g → o * (e * d) ≤ (m * d + n * e) * (g * l)
+sums_in_order m n i j e d g l o h k r =
     let p = mul-le-mul_right (e * d) r in
     let q = mul-le-mul_right (l * d) h in
     let t = mul-le-mul_right (g * e) k in
@@ -196,10 +196,10 @@ add_reaches f (fin s m e) (fin t n d) (fin u i g) (inf v) p q h k = absurd k
 add_reaches f (fin true m e) (fin t n d) (fin u i g) (fin v j l) p q h k = absurd (true≢false p)
 add_reaches f (fin false m e) (fin true n d) (fin u i g) (fin v j l) p q h k = absurd (true≢false q)
 add_reaches f (fin false m e) (fin false n d) (fin u i g) (fin v j l) p q h k =
-    sum_within f (Reaches (add f (fin false m e) (fin false n d))) u (i * up g * down l) v (j * up l * down g) (down g * down l)
+    sum_of_magnitudes_bounds f (Reaches (add f (fin false m e) (fin false n d))) u (i * up g * down l) v (j * up l * down g) (down g * down l)
     (λ w o r. round_reaches f false w (m * up e * down d + n * up d * down e) (down e * down d) o (down g * down l)
     (mul-pos (down_pos e) (down_pos d)) (mul-pos (down_pos g) (down_pos l))
-    (together (m * up e) (n * up d) (i * up g) (j * up l) (down e) (down d) (down g) (down l) o h k r))
+    (sums_in_order (m * up e) (n * up d) (i * up g) (j * up l) (down e) (down d) (down g) (down l) o h k r))
 
 -- so a difference is at most the sum of what its terms are at most
 pub sub_reaches : (f : Format) (x y b c : Float) → sign_bit x ≡ false → sign_bit y ≡ false → Reaches x b → Reaches y c → Reaches (add f x y) (sub f b c)

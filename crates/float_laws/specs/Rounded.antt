@@ -22,8 +22,8 @@ Compared Ordering.lt a b = a ≤ b
 Compared Ordering.eq a b = a ≡ b
 Compared Ordering.gt a b = b ≤ a
 
-compared : (a b : ℕ) → Compared (compare a b) a b
-compared a b = go (compare a b) (leb→le a b) (nleb→lt a b) (eqb→eq a b)
+compare_is_right : (a b : ℕ) → Compared (compare a b) a b
+compare_is_right a b = go (compare a b) (leb→le a b) (nleb→lt a b) (eqb→eq a b)
   where
     go : (o : Ordering) → (T (is_le o) → a ≤ b) → (T (not (is_le o)) → b < a) → (T (compare_is_eq o) → a ≡ b) → Compared o a b
     go Ordering.lt h k e = h tt
@@ -45,26 +45,26 @@ nearest_half Ordering.gt q r b l h = let e : suc q * b ≡ q * b + b = omega ari
 closest_half : (a b : ℕ) → 0 < b → Half (closest a b) a b
 closest_half a b p =
     subst (λ (x : ℕ). Half (closest a b) x b) (div-add-mod' a b)
-    (nearest_half (compare (a % b * 2) b) (a / b) (a % b) b (mod-lt a p) (compared (a % b * 2) b))
+    (nearest_half (compare (a % b * 2) b) (a / b) (a % b) b (mod-lt a p) (compare_is_right (a % b * 2) b))
 
 -- ---- a / c, which is below 2, rounded: in units of 2 ^ -1074 it is g, and g is no more than 2 ^ 1021 away
-digits : (z : ℕ) → z ≤ 1075 → z - 53 ≤ 1022
-digits z h = omega arith
+dropped_digits_at_most_1022 : (z : ℕ) → z ≤ 1075 → z - 53 ≤ 1022
+dropped_digits_at_most_1022 z h = omega arith
 
-twice_below : (u a c : ℕ) → 0 < u → a < 2 * c → a * u < u * 2 * c
-twice_below u a c p h = simp (mul_assoc, mul_comm) (simp (mul_assoc, mul_comm) at (mul-lt-mul_of_pos_right h p))
+scaled_below_twice : (u a c : ℕ) → 0 < u → a < 2 * c → a * u < u * 2 * c
+scaled_below_twice u a c p h = simp (mul_assoc, mul_comm) (simp (mul_assoc, mul_comm) at (mul-lt-mul_of_pos_right h p))
 
-half_of : (g w u n v : ℕ) → w ≡ g * u → u ≤ 2 * v → Half g n u → (w ≤ n + v) × (n ≤ w + v)
-half_of g w u n v e l h = omega arith
+half_step_bounds : (g w u n v : ℕ) → w ≡ g * u → u ≤ 2 * v → Half g n u → (w ≤ n + v) × (n ≤ w + v)
+half_step_bounds g w u n v e l h = omega arith
 
 grid_near : (a c : ℕ) → 0 < c → a < 2 * c → (grid binary64 a c * c ≤ a * 2 ^ 1074 + c * 2 ^ 1021) × (a * 2 ^ 1074 ≤ grid binary64 a c * c + c * 2 ^ 1021)
 grid_near a c p h =
     let n = a * 2 ^ 1074 in
     let k = Ieee.size (n / c) - 53 in
     let g = closest n (c * 2 ^ k) in
-    let b : n < 2 ^ 1075 * c = twice_below (2 ^ 1074) a c (pow_pos 1074) h in
-    let l : c * 2 ^ k ≤ c * 2 ^ 1022 = mul-le-mul_left c (pow_mono (digits (Ieee.size (n / c)) (size-le (n / c) 1075 ((div-lt_iff_lt-mul p).1 b)))) in
-    half_of g (g * 2 ^ k * c) (c * 2 ^ k) n (c * 2 ^ 1021) (simp (mul_assoc, mul_comm, mul_left_comm)) (subst (λ (x : ℕ). c * 2 ^ k ≤ x) (mul_left_comm c 2 (2 ^ 1021)) l) (closest_half n (c * 2 ^ k) (mul-pos p (pow_pos k)))
+    let b : n < 2 ^ 1075 * c = scaled_below_twice (2 ^ 1074) a c (pow_pos 1074) h in
+    let l : c * 2 ^ k ≤ c * 2 ^ 1022 = mul-le-mul_left c (pow_mono (dropped_digits_at_most_1022 (Ieee.size (n / c)) (size-le (n / c) 1075 ((div-lt_iff_lt-mul p).1 b)))) in
+    half_step_bounds g (g * 2 ^ k * c) (c * 2 ^ k) n (c * 2 ^ 1021) (simp (mul_assoc, mul_comm, mul_left_comm)) (subst (λ (x : ℕ). c * 2 ^ k ≤ x) (mul_left_comm c 2 (2 ^ 1021)) l) (closest_half n (c * 2 ^ k) (mul-pos p (pow_pos k)))
 
 -- ---- the value of a float
 abbrev pub value : Bool → ℕ → ℤ → Fraction
@@ -73,11 +73,11 @@ value s m e = signed s (m * up e) (down e)
 pub data Number : Float → Type 0 where
   number : {s : Bool} {m : ℕ} {e : ℤ} → Number (fin s m e)
 
-pub number_of : (x : Float) → is_finite x ≡ true → Number x
+pub number_of_finite : (x : Float) → is_finite x ≡ true → Number x
 unfolding is_finite
-number_of nan h = absurd (true≢false (sym h))
-number_of (inf s) h = absurd (true≢false (sym h))
-number_of (fin s m e) h = number
+number_of_finite nan h = absurd (true≢false (sym h))
+number_of_finite (inf s) h = absurd (true≢false (sym h))
+number_of_finite (fin s m e) h = number
 
 -- the number that a float is, where it is one
 abbrev pub value_of : Float → Fraction
@@ -85,26 +85,26 @@ value_of nan = signed false 0 1
 value_of (inf s) = signed false 0 1
 value_of (fin s m e) = value s m e
 
-pub value_pos : (x : Float) → 0 < (value_of x).den
-value_pos nan = omega arith
-value_pos (inf s) = omega arith
-value_pos (fin s m e) = down_pos e
+pub value_den_positive : (x : Float) → 0 < (value_of x).den
+value_den_positive nan = omega arith
+value_den_positive (inf s) = omega arith
+value_den_positive (fin s m e) = down_pos e
 
 pub data Within (t k : ℕ) : Float → Fraction → Type 0 where
   within : {s : Bool} {m : ℕ} {e : ℤ} {y : Fraction} → Near t k (value s m e) y → Within t k (fin s m e) y
 
-pub exact : (s : Bool) (m : ℕ) (e : ℤ) → Within (2 ^ 53) 0 (fin s m e) (value s m e)
-exact s m e = within (near_refl (2 ^ 53) (value s m e))
+pub within_own_value : (s : Bool) (m : ℕ) (e : ℤ) → Within (2 ^ 53) 0 (fin s m e) (value s m e)
+within_own_value s m e = within (near_refl (2 ^ 53) (value s m e))
 
 -- v / d is g / (t * h), which lies within h / (t * h) of a / c
-high_of : (t h v d g a c : ℕ) → 0 < t * h → v * (t * h) ≡ g * d → g * c ≤ a * (t * h) + c * h → t * (v * c) ≤ t * (a * d) + d * c
-high_of t h v d g a c p e l =
+near_above : (t h v d g a c : ℕ) → 0 < t * h → v * (t * h) ≡ g * d → g * c ≤ a * (t * h) + c * h → t * (v * c) ≤ t * (a * d) + d * c
+near_above t h v d g a c p e l =
     let x = simp ring at (mul-le-mul_right (t * d) l) in
     let y = simp ring at (ap (λ (z : ℕ). z * (t * c)) e) in
     le_of_mul-le-mul_right {k = t * h} (simp ring (omega arith)) p
 
-low_of : (t h v d g a c : ℕ) → 0 < t * h → v * (t * h) ≡ g * d → a * (t * h) ≤ g * c + c * h → t * (a * d) ≤ t * (v * c) + d * c
-low_of t h v d g a c p e l =
+near_below : (t h v d g a c : ℕ) → 0 < t * h → v * (t * h) ≡ g * d → a * (t * h) ≤ g * c + c * h → t * (a * d) ≤ t * (v * c) + d * c
+near_below t h v d g a c p e l =
     let x = simp ring at (mul-le-mul_right (t * d) l) in
     let y = simp ring at (ap (λ (z : ℕ). z * (t * c)) e) in
     le_of_mul-le-mul_right {k = t * h} (simp ring (omega arith)) p
@@ -114,20 +114,20 @@ signed_near false t v d a c g h = record { high = simp ring (omega arith); low =
 signed_near true t v d a c g h = record { high = simp ring (omega arith); low = simp ring (omega arith) }
 
 -- far from an overflow
-under : (u h v g a c : ℕ) → 0 < c → a < 2 * c → g * c ≤ a * u + c * h → 2 * u + h < v → g < v
-under u h v g a c p l m o =
+below_overflow : (u h v g a c : ℕ) → 0 < c → a < 2 * c → g * c ≤ a * u + c * h → 2 * u + h < v → g < v
+below_overflow u h v g a c p l m o =
     let x : a * u ≤ 2 * c * u = mul-le-mul_right u (omega arith) in
     let y = simp ring at (mul-lt-mul_of_pos_right o p) in
     lt_of_mul-lt-mul_right c (lt_of_le_of_lt m (simp ring (let z = simp ring at x in omega arith)))
 
-of_value : (s : Bool) (g a c : ℕ) → g * c ≤ a * 2 ^ 1074 + c * 2 ^ 1021 → a * 2 ^ 1074 ≤ g * c + c * 2 ^ 1021 → (x : Float) → HasValue x s g (2 ^ 1074) → Within (2 ^ 53) 1 x (signed s a c)
-of_value s g a c i j nan v = absurd v
-of_value s g a c i j (inf t) v = absurd v
-of_value s g a c i j (fin t m e) v =
+within_of_value : (s : Bool) (g a c : ℕ) → g * c ≤ a * 2 ^ 1074 + c * 2 ^ 1021 → a * 2 ^ 1074 ≤ g * c + c * 2 ^ 1021 → (x : Float) → HasValue x s g (2 ^ 1074) → Within (2 ^ 53) 1 x (signed s a c)
+within_of_value s g a c i j nan v = absurd v
+within_of_value s g a c i j (inf t) v = absurd v
+within_of_value s g a c i j (fin t m e) v =
     subst (λ (b : Bool). Within (2 ^ 53) 1 (fin b m e) (signed s a c)) (sym v.0)
     (within (signed_near s (2 ^ 53) (m * up e) (down e) a c
-    (high_of (2 ^ 53) (2 ^ 1021) (m * up e) (down e) g a c (pow_pos 1074) v.1 i)
-    (low_of (2 ^ 53) (2 ^ 1021) (m * up e) (down e) g a c (pow_pos 1074) v.1 j)))
+    (near_above (2 ^ 53) (2 ^ 1021) (m * up e) (down e) g a c (pow_pos 1074) v.1 i)
+    (near_below (2 ^ 53) (2 ^ 1021) (m * up e) (down e) g a c (pow_pos 1074) v.1 j)))
 
 -- ---- rounding a / c, which is below 2 in size, moves it by 2 ^ -53 at most
 pub round_near : (s : Bool) (a c : ℕ) → 0 < c → a < 2 * c → Within (2 ^ 53) 1 (round binary64 s a c) (signed s a c)
@@ -135,8 +135,8 @@ round_near s a c p h =
     let n = a * 2 ^ 1074 in
     let k = Ieee.size (n / c) - 53 in
     let d = grid_near a c p h in
-    let small : grid binary64 a c < overflow binary64 = under (2 ^ 1074) (2 ^ 1021) (overflow binary64) (grid binary64 a c) a c p h d.0 (lit≤ tt) in
-    of_value s (grid binary64 a c) a c d.0 d.1 (round binary64 s a c)
+    let small : grid binary64 a c < overflow binary64 = below_overflow (2 ^ 1074) (2 ^ 1021) (overflow binary64) (grid binary64 a c) a c p h d.0 (lit≤ tt) in
+    within_of_value s (grid binary64 a c) a c d.0 d.1 (round binary64 s a c)
     (subst (λ (x : Float). HasValue x s (grid binary64 a c) (2 ^ 1074)) (sym (round_is binary64 s a c)) (units_val binary64 s (closest n (c * 2 ^ k)) k small))
 
 -- ---- every sum and every product is the exact one, rounded
@@ -169,20 +169,20 @@ sum_rounds false true a b c P N p n = case (ltb a b)
     (λ l. rw l (record { sign = true; num = b - a; is = refl; exact = omega (arith, ltb-true a b l) }))
     (λ l. rw l (record { sign = false; num = a - b; is = refl; exact = omega (arith, ltb-false a b l) }))
 
-times_plus : (s : Bool) (a c : ℕ) → cond s 0 a * c ≡ cond s 0 (a * c)
-times_plus true a c = zero-mul c
-times_plus false a c = refl
+cond_zero_first_times : (s : Bool) (a c : ℕ) → cond s 0 a * c ≡ cond s 0 (a * c)
+cond_zero_first_times true a c = zero-mul c
+cond_zero_first_times false a c = refl
 
-times_minus : (s : Bool) (a c : ℕ) → cond s a 0 * c ≡ cond s (a * c) 0
-times_minus true a c = refl
-times_minus false a c = zero-mul c
+cond_zero_second_times : (s : Bool) (a c : ℕ) → cond s a 0 * c ≡ cond s (a * c) 0
+cond_zero_second_times true a c = refl
+cond_zero_second_times false a c = zero-mul c
 
 pub add_rounds : (s t : Bool) (m n : ℕ) (e d : ℤ) → Rounds (add binary64 (fin s m e) (fin t n d)) (value s m e ⊕ value t n d)
 unfolding add
 add_rounds s t m n e d =
     sum_rounds s t (m * up e * down d) (n * up d * down e) (down e * down d) (value s m e ⊕ value t n d).plus (value s m e ⊕ value t n d).minus
-    (rw (times_plus s (m * up e) (down d), times_plus t (n * up d) (down e)))
-    (rw (times_minus s (m * up e) (down d), times_minus t (n * up d) (down e)))
+    (rw (cond_zero_first_times s (m * up e) (down d), cond_zero_first_times t (n * up d) (down e)))
+    (rw (cond_zero_second_times s (m * up e) (down d), cond_zero_second_times t (n * up d) (down e)))
 
 pub sub_rounds : (s t : Bool) (m n : ℕ) (e d : ℤ) → Rounds (sub binary64 (fin s m e) (fin t n d)) (value s m e ⊕ opposite (value t n d))
 unfolding sub neg

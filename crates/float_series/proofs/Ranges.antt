@@ -7,10 +7,10 @@ use Rattle.std.specs.Float.Ieee.{up, down}
 use Rattle.std.specs.Float.Ieee.Fits.{down_pos}
 use Rattle.common.specs.Tests.{case}
 use Rattle.float_laws.specs.Fraction.{Fraction, signed, ◌⊕◌, ◌⊗◌, Near, size, size_times, AtMost, ring}
-use Rattle.float_laws.specs.Rounded.{value, Within, within, exact}
+use Rattle.float_laws.specs.Rounded.{value, Within, within, within_own_value}
 use Rattle.float_series.specs.Series.{sines, cosines, series_of, negative, factorial, inverse}
 use Rattle.float_series.specs.Exact.{Shrinks, nested, nested_shrinks, square_at_most, factorial_grows}
-use Rattle.float_series.specs.Bound.{half_size, sum_within, product_within}
+use Rattle.float_series.specs.Bound.{size_at_most_half, sum_within, product_within}
 
 -- ---- an exact sum has the sign of its first coefficient
 abbrev Leans : Bool → Fraction → Type 0
@@ -18,15 +18,15 @@ Leans true y = y.plus ≤ y.minus
 Leans false y = y.minus ≤ y.plus
 
 -- in numbers: a / c times p / q, against 1 / f
-tail : (a c p q f g : ℕ) → 3 * (a * g) ≤ 4 * c → 4 * p ≤ q → f ≤ g → 3 * (a * p * f) ≤ c * q
-tail a c p q f g h l m =
+tail_below_first_term : (a c p q f g : ℕ) → 3 * (a * g) ≤ 4 * c → 4 * p ≤ q → f ≤ g → 3 * (a * p * f) ≤ c * q
+tail_below_first_term a c p q f g h l m =
     let x : 3 * (a * g) * (4 * p) ≤ 4 * c * q = mul-le-mul h l in
     let y = mul-le-mul_left (a * p) m in
     simp ring (omega (arith, simp ring at x, simp ring at y))
 
-leans : (s : Bool) (n : ℕ) (y q : Fraction) → negative n ≡ s → Shrinks (suc (suc n)) y → AtMost 4 q → Leans s ((y ⊗ q) ⊕ inverse n)
-leans s n y q e u v =
-    let l : 3 * (size (y ⊗ q) * factorial n) ≤ y.den * q.den = rw (size_times y q) (tail (size y) y.den (size q) q.den (factorial n) (factorial (suc (suc n))) u.small v.small (factorial_grows n)) in
+sum_has_sign_of_first_term : (s : Bool) (n : ℕ) (y q : Fraction) → negative n ≡ s → Shrinks (suc (suc n)) y → AtMost 4 q → Leans s ((y ⊗ q) ⊕ inverse n)
+sum_has_sign_of_first_term s n y q e u v =
+    let l : 3 * (size (y ⊗ q) * factorial n) ≤ y.den * q.den = rw (size_times y q) (tail_below_first_term (size y) y.den (size q) q.den (factorial n) (factorial (suc (suc n))) u.small v.small (factorial_grows n)) in
     rw e (go s (y ⊗ q).plus (y ⊗ q).minus (factorial n) (y.den * q.den) l)
   where
     go : (s : Bool) (p m f d : ℕ) → 3 * ((p + m) * f) ≤ d → Leans s (record { plus = p * f + cond s 0 1 * d; minus = m * f + cond s 1 0 * d; den = d * f })
@@ -60,27 +60,27 @@ factor_sum k y q p o l a e = record {
     go p m d a c h = let x = mul-le-mul_right (a * c) h in simp ring (omega (arith, simp ring at x))
 
 -- the sum that starts with 1 - q / k: the cosine's, and the sine's before its last product
-factor : (x : Fraction) → AtMost 2 x → (x ⊗ x).minus ≡ 0 → (j n k : ℕ) → inverse n ≡ signed false 1 1 → inverse (suc (suc n)) ≡ signed true 1 k → negative (suc (suc n)) ≡ true
+nested_is_factor : (x : Fraction) → AtMost 2 x → (x ⊗ x).minus ≡ 0 → (j n k : ℕ) → inverse n ≡ signed false 1 1 → inverse (suc (suc n)) ≡ signed true 1 k → negative (suc (suc n)) ≡ true
     → negative (suc (suc (suc (suc n)))) ≡ false → Factor k (x ⊗ x) (nested x (suc (suc (suc j))) n)
 unfolding nested
-factor x a z j n k e f g h =
+nested_is_factor x a z j n k e f g h =
     let q = x ⊗ x in
     let y = nested x (suc (suc j)) (suc (suc n)) in
     let w = nested x (suc j) (suc (suc (suc (suc n)))) in
     let b = square_at_most a in
-    let l : Leans false w = leans false (suc (suc (suc (suc n)))) (nested x j (suc (suc (suc (suc (suc (suc n))))))) q h (nested_shrinks x a j (suc (suc (suc (suc (suc (suc n))))))) b in
-    let m : Leans true y = leans true (suc (suc n)) w q g (nested_shrinks x a (suc j) (suc (suc (suc (suc n))))) b in
+    let l : Leans false w = sum_has_sign_of_first_term false (suc (suc (suc (suc n)))) (nested x j (suc (suc (suc (suc (suc (suc n))))))) q h (nested_shrinks x a j (suc (suc (suc (suc (suc (suc n))))))) b in
+    let m : Leans true y = sum_has_sign_of_first_term true (suc (suc n)) w q g (nested_shrinks x a (suc j) (suc (suc (suc (suc n))))) b in
     let o : Above k y = subst (λ (c : Fraction). Above k ((w ⊗ q) ⊕ c)) (sym f) (above_sum k w q l z) in
     subst (λ (c : Fraction). Factor k q ((y ⊗ q) ⊕ c)) (sym e) (factor_sum k y q (nested_shrinks x a (suc (suc j)) (suc (suc n))).some b.some m o z)
 
 -- with q at most 1 / 4
-from_constant : (k P N D c d : ℕ) → 0 < d → 4 * c ≤ d → k * ((N + D) * d) ≤ k * (P * d) + D * c → 4 * k * (N + D) ≤ 4 * k * P + D
-from_constant k P N D c d p h l =
+factor_at_quarter : (k P N D c d : ℕ) → 0 < d → 4 * c ≤ d → k * ((N + D) * d) ≤ k * (P * d) + D * c → 4 * k * (N + D) ≤ 4 * k * P + D
+factor_at_quarter k P N D c d p h l =
     let x = mul-le-mul_left D h in
     le_of_mul-le-mul_right {k = d} (simp ring (omega (arith, simp ring at l, simp ring at x))) p
 
-pub bounded : {k : ℕ} {q y : Fraction} → AtMost 4 q → q.minus ≡ 0 → Factor k q y → 4 * k * (y.minus + y.den) ≤ 4 * k * y.plus + y.den
-bounded {k} {q} {y} a e f = from_constant k y.plus y.minus y.den q.plus q.den a.some (omega (arith, a.small)) f.low
+pub factor_large_at_quarter : {k : ℕ} {q y : Fraction} → AtMost 4 q → q.minus ≡ 0 → Factor k q y → 4 * k * (y.minus + y.den) ≤ 4 * k * y.plus + y.den
+factor_large_at_quarter {k} {q} {y} a e f = factor_at_quarter k y.plus y.minus y.den q.plus q.den a.some (omega (arith, a.small)) f.low
 
 -- ---- what is known of a sine b / v and a cosine a / u
 pub record Turned (b v a u : ℕ) : Type 0 where
@@ -103,21 +103,21 @@ square_above d a w h =
 
 -- a cosine A / N of at least 1 - x * x / 2 and a sine B / N of at least 23 / 24 * x, each less 1 / 1024, where x is
 -- X / N
-squares_of : (A B X Y N : ℕ) → Y * N ≡ X * X → 2 * X ≤ N → 2048 * N ≤ 2048 * A + (1024 * Y + 2 * N) → 23552 * X ≤ 24576 * B + 24 * N → 31 * (N * N) ≤ 32 * (A * A + B * B)
-squares_of A B X Y N e h c s =
+squares_large_in_numbers : (A B X Y N : ℕ) → Y * N ≡ X * X → 2 * X ≤ N → 2048 * N ≤ 2048 * A + (1024 * Y + 2 * N) → 23552 * X ≤ 24576 * B + 24 * N → 31 * (N * N) ≤ 32 * (A * A + B * B)
+squares_large_in_numbers A B X Y N e h c s =
     let a = simp ring at (square_above (2048 * N) (2048 * A) (1024 * Y + 2 * N) c) in
     let b = simp ring at (square_above (23552 * X) (24576 * B) (24 * N) s) in
     let i = simp ring at (mul-le-mul h h) in
     let j = simp ring at (mul-le-mul_left N h) in
     omega (arith, a, b, i, j, e)
 
-squares_of_both : (a u b v p q : ℕ) → 0 < q → 2 * p ≤ q → 1024 * (2 * (u * (q * q))) ≤ 1024 * (2 * (a * (q * q)) + u * (p * p)) + 2 * (u * (q * q)) → 1024 * (23 * (v * p)) ≤ 1024 * (24 * (b * q)) + 24 * (v * q)
+squares_large : (a u b v p q : ℕ) → 0 < q → 2 * p ≤ q → 1024 * (2 * (u * (q * q))) ≤ 1024 * (2 * (a * (q * q)) + u * (p * p)) + 2 * (u * (q * q)) → 1024 * (23 * (v * p)) ≤ 1024 * (24 * (b * q)) + 24 * (v * q)
     → 31 * (u * v * (u * v)) ≤ 32 * (a * v * (a * v) + b * u * (b * u))
-squares_of_both a u b v p q o h c s =
+squares_large a u b v p q o h c s =
     let x = simp ring at (mul-le-mul_right v c) in
     let y = simp ring at (mul-le-mul_right (q * u) s) in
     let z = simp ring at (mul-le-mul_right (q * (u * v)) h) in
-    let r = squares_of (a * v * (q * q)) (b * u * (q * q)) (p * q * (u * v)) (p * p * (u * v)) (u * v * (q * q)) (simp ring) (simp ring (omega (arith, z))) (simp ring (omega (arith, x))) (simp ring (omega (arith, y))) in
+    let r = squares_large_in_numbers (a * v * (q * q)) (b * u * (q * q)) (p * q * (u * v)) (p * p * (u * v)) (u * v * (q * q)) (simp ring) (simp ring (omega (arith, z))) (simp ring (omega (arith, x))) (simp ring (omega (arith, y))) in
     le_of_mul-le-mul_right {k = q * q * (q * q)} (simp ring (omega (arith, simp ring at r))) (mul-pos (mul-pos o o) (mul-pos o o))
 
 -- ---- the cosine a / u lies within 8 / 2 ^ 53 of (P - N) / D, which is from 1 - c / (2 * d) to 1
@@ -194,40 +194,40 @@ module _ (s : Bool) (m : ℕ) (e : ℤ) (h : 2 * (m * up e) ≤ down e) where
   abbrev X : Fraction
   X = value s m e
 
-  half : AtMost 2 X
-  half = half_size s m e h
+  value_at_most_half : AtMost 2 X
+  value_at_most_half = size_at_most_half s m e h
 
-  square : AtMost 4 (X ⊗ X)
-  square = square_at_most half
+  square_at_most_quarter : AtMost 4 (X ⊗ X)
+  square_at_most_quarter = square_at_most value_at_most_half
 
-  plain : (X ⊗ X).minus ≡ 0
-  plain = square_minus s (m * up e) (down e)
+  square_has_no_minus : (X ⊗ X).minus ≡ 0
+  square_has_no_minus = square_minus s (m * up e) (down e)
 
-  even : Factor 2 (X ⊗ X) (nested X 7 0)
-  even = factor X half plain 4 0 2 refl refl refl refl
+  even_sum_is_factor : Factor 2 (X ⊗ X) (nested X 7 0)
+  even_sum_is_factor = nested_is_factor X value_at_most_half square_has_no_minus 4 0 2 refl refl refl refl
 
-  odd : Factor 6 (X ⊗ X) (nested X 7 1)
-  odd = factor X half plain 4 1 6 refl refl refl refl
+  odd_sum_is_factor : Factor 6 (X ⊗ X) (nested X 7 1)
+  odd_sum_is_factor = nested_is_factor X value_at_most_half square_has_no_minus 4 1 6 refl refl refl refl
 
-  turned : {x y : Float} → Within (2 ^ 53) 8 x (nested X 7 1 ⊗ X) → Within (2 ^ 53) 8 y (nested X 7 0) → SineCosine x y
-  turned (within {s = t} {m = b} {e = i} g) (within {s = false} {m = a} {e = j} k) =
+  ranges_of_near_sums : {x y : Float} → Within (2 ^ 53) 8 x (nested X 7 1 ⊗ X) → Within (2 ^ 53) 8 y (nested X 7 0) → SineCosine x y
+  ranges_of_near_sums (within {s = t} {m = b} {e = i} g) (within {s = false} {m = a} {e = j} k) =
       let F = nested X 7 1 in
       let G = nested X 7 0 in
-      let f = bounded square plain odd in
-      let c = bounded square plain even in
+      let f = factor_large_at_quarter square_at_most_quarter square_has_no_minus odd_sum_is_factor in
+      let c = factor_large_at_quarter square_at_most_quarter square_has_no_minus even_sum_is_factor in
       let n = sine_near t s (b * up i) (down i) (m * up e) (down e) F (omega (arith, f)) g in
       ranged (record {
-        sine_small = sine_small (b * up i) (down i) F.plus F.minus F.den (m * up e) (down e) odd.some (down_pos e) h odd.high n.high;
-        cosine_small = cosine_high (a * up j) (down j) G.plus G.minus G.den even.some even.high k.high;
-        cosine_large = cosine_large (a * up j) (down j) G.plus G.minus G.den even.some c k.low;
-        squares = squares_of_both (a * up j) (down j) (b * up i) (down i) (m * up e) (down e) (down_pos e) h
-            (rw (square_plus s (m * up e) (down e)) at (cosine_low (a * up j) (down j) G.plus G.minus G.den (X ⊗ X).plus (down e * down e) even.some even.low k.low))
-            (sine_low (b * up i) (down i) F.plus F.minus F.den (m * up e) (down e) odd.some f n.low);
+        sine_small = sine_small (b * up i) (down i) F.plus F.minus F.den (m * up e) (down e) odd_sum_is_factor.some (down_pos e) h odd_sum_is_factor.high n.high;
+        cosine_small = cosine_high (a * up j) (down j) G.plus G.minus G.den even_sum_is_factor.some even_sum_is_factor.high k.high;
+        cosine_large = cosine_large (a * up j) (down j) G.plus G.minus G.den even_sum_is_factor.some c k.low;
+        squares = squares_large (a * up j) (down j) (b * up i) (down i) (m * up e) (down e) (down_pos e) h
+            (rw (square_plus s (m * up e) (down e)) at (cosine_low (a * up j) (down j) G.plus G.minus G.den (X ⊗ X).plus (down e * down e) even_sum_is_factor.some even_sum_is_factor.low k.low))
+            (sine_low (b * up i) (down i) F.plus F.minus F.den (m * up e) (down e) odd_sum_is_factor.some f n.low);
       })
-  turned (within g) (within {s = true} {m = a} {e = j} k) =
+  ranges_of_near_sums (within g) (within {s = true} {m = a} {e = j} k) =
       let G = nested X 7 0 in
-      absurd (cosine_sign (a * up j) (down j) G.plus G.minus G.den (down_pos j) even.some (bounded square plain even) k.low)
+      absurd (cosine_sign (a * up j) (down j) G.plus G.minus G.den (down_pos j) even_sum_is_factor.some (factor_large_at_quarter square_at_most_quarter square_has_no_minus even_sum_is_factor) k.low)
 
   pub series_ranged : SineCosine (series_of sines (fin s m e)) (series_of cosines (fin s m e))
   unfolding series_of
-  series_ranged = turned (product_within (fin s m e) X (exact s m e) half 7) (sum_within (fin s m e) X (exact s m e) half 7 0)
+  series_ranged = ranges_of_near_sums (product_within (fin s m e) X (within_own_value s m e) value_at_most_half 7) (sum_within (fin s m e) X (within_own_value s m e) value_at_most_half 7 0)

@@ -5,12 +5,12 @@ use Rattle.std.specs.Float.Ieee.{lt, is_nan}
 use Rattle.float.specs.Float.{abs_of}
 use Rattle.float.specs.Literals.{half₆₄}
 use Rattle.common.specs.declared.Refusal.{Refusal}
-use Rattle.common.specs.declared.Refusal.TheVariants.{BeyondHalf}
+use Rattle.common.specs.declared.Refusal.TheVariants.{TiltTooLarge}
 use Rattle.float_series.specs.Series.{Series, series_of}
 
-unfoldable pub beyond_half : Float → Bool
-beyond_half x = is_nan x || lt half₆₄ (abs_of x)
+unfoldable pub tilt_too_large : Float → Bool
+tilt_too_large x = is_nan x || lt half₆₄ (abs_of x)
 
 unfoldable pub answer_of : Series → Float → Result Float Refusal
-unfolding series_of beyond_half
-answer_of w x = cond (beyond_half x) (Err BeyondHalf) (Ok (series_of w x))
+unfolding series_of tilt_too_large
+answer_of w x = cond (tilt_too_large x) (Err TiltTooLarge) (Ok (series_of w x))

@@ -3,7 +3,7 @@
 use Rattle.std.specs.Prelude.{◌≡◌, refl, Bool, true, false, cond, ℕ, zero, suc, ◌+◌, ◌*◌, ◌≤◌, ◌<◌}
 use Rattle.std.proofs.Common.{sym, ap, ◌∙◌, subst, mul-pos, mul-le-mul, mul-le-mul_right, mul-le-mul_left, zero-lt-suc, suc-mul, le_trans, arith}
 use Rattle.std.proofs.Math.Nat.{mul-mul-mul_comm}
-use Rattle.float_laws.specs.Fraction.{Fraction, ◌⊕◌, ◌⊗◌, size, Near, near_refl, near_trans, near_add, times_comm, times_assoc, plus_comm, plus_zero_lem, distrib, size_times, size_plus, ring, AtMost}
+use Rattle.float_laws.specs.Fraction.{Fraction, ◌⊕◌, ◌⊗◌, size, Near, near_refl, near_trans, near_add, times_comm, times_assoc, plus_comm, plus_zero_fraction, distrib, size_times, size_plus, ring, AtMost}
 use Rattle.float_laws.specs.Within.{Small}
 use Rattle.float_series.specs.Series.{factorial, negative, power, inverse, terms}
 
@@ -82,7 +82,7 @@ pull_out t c p b x r C P B X h =
 
 pub terms_nested : (t : ℕ) (x : Fraction) → AtMost 2 x → (j n : ℕ) → Near t 0 (terms x (suc j) n) (nested x j n ⊗ power x n)
 unfolding terms nested power
-terms_nested t x a zero n = subst (λ (z : Fraction). Near t 0 z (inverse n ⊗ power x n)) (sym (plus_zero_lem (inverse n ⊗ power x n))) (near_refl t (inverse n ⊗ power x n))
+terms_nested t x a zero n = subst (λ (z : Fraction). Near t 0 z (inverse n ⊗ power x n)) (sym (plus_zero_fraction (inverse n ⊗ power x n))) (near_refl t (inverse n ⊗ power x n))
 terms_nested t x a (suc j) n =
     pull_out t (inverse n) (power x n) (nested x j (suc (suc n))) x (terms x (suc j) (suc (suc n))) (factorial_pos n) (power_pos x a.some n) (nested_small x a j (suc (suc n))).some a.some (terms_nested t x a j (suc (suc n)))
 

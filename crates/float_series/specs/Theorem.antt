@@ -6,9 +6,9 @@ use Rattle.float_laws.specs.Fraction.{Fraction}
 use Rattle.float_laws.specs.Rounded.{value_of}
 use Rattle.float_laws.specs.Integers.{apart}
 use Rattle.float_series.specs.Series.{Series, cosines, sines, exact_of}
-use Rattle.float_series.specs.Answer.{beyond_half, answer_of}
+use Rattle.float_series.specs.Answer.{tilt_too_large, answer_of}
 use Rattle.common.specs.declared.Refusal.{Refusal}
-use Rattle.common.specs.declared.Refusal.TheVariants.{BeyondHalf}
+use Rattle.common.specs.declared.Refusal.TheVariants.{TiltTooLarge}
 
 -- ---- a number within 2 ^ -50 of the exact value, or a refusal
 -- `apart` is the difference of two fractions, times both denominators
@@ -18,8 +18,8 @@ pub record Close (y : Float) (e : Fraction) : Type 0 where
   pub close : 2 ^ 50 * apart (value_of y) e ≤ (value_of y).den * e.den
 
 abbrev pub Right : Series → Float → Result Float Refusal → Type 0
-Right w x (Ok y) = (beyond_half x ≡ false) × Close y (exact_of w (value_of x))
-Right w x (Err r) = (beyond_half x ≡ true) × (r ≡ BeyondHalf)
+Right w x (Ok y) = (tilt_too_large x ≡ false) × Close y (exact_of w (value_of x))
+Right w x (Err r) = (tilt_too_large x ≡ true) × (r ≡ TiltTooLarge)
 
 pub record SeriesRight : Type 0 where
   pub right : (w : Series) (x : Float) → Right w x (answer_of w x)

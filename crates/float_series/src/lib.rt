@@ -7,9 +7,9 @@
 pub mod laws;
 
 ghost use Rattle.std.specs.Prelude.{◌≡◌, ◌≤◌, ◌<◌, cond, Ok, Err};
-ghost use Rattle.common.specs.declared.Refusal.TheVariants.{BeyondHalf};
+ghost use Rattle.common.specs.declared.Refusal.TheVariants.{TiltTooLarge};
 ghost use Rattle.float_series.specs.Series.{sines, cosines, coefficient_of, horner_of, series_of};
-ghost use Rattle.float_series.specs.Answer.{beyond_half, answer_of};
+ghost use Rattle.float_series.specs.Answer.{tilt_too_large, answer_of};
 
 use common::Refusal;
 
@@ -55,7 +55,7 @@ fn horner(first: usize, q: f64) -> f64
     sum
 }
 
-// The two sums, for any number; of one that `beyond` passes they are its sine and its cosine.
+// The two sums, for any number; of one that `tilt_too_large` passes they are its sine and its cosine.
 #[tactic(auto, unfolding(crate::specs::Series::series_of))]
 pub fn sine_sum(x: f64) -> f64
     ensures { result ≡ series_of sines x }
@@ -71,8 +71,8 @@ pub fn cosine_sum(x: f64) -> f64
 }
 
 // Whether a call refuses x: NaN, and a number beyond 0.5 in size.
-pub fn beyond(x: f64) -> bool
-    ensures { result ≡ beyond_half x }
+pub fn tilt_too_large(x: f64) -> bool
+    ensures { result ≡ tilt_too_large x }
 {
     // The square decides most cases, and the series needs it anyway: a rounded square keeps the order of sizes.
     if x * x < 0.5 * 0.5 {
@@ -83,10 +83,10 @@ pub fn beyond(x: f64) -> bool
 
 // The number itself, or a refusal.
 fn within_half(x: f64) -> Result<f64, Refusal>
-    ensures { result ≡ cond (beyond_half x) (Err BeyondHalf) (Ok x) }
+    ensures { result ≡ cond (tilt_too_large x) (Err TiltTooLarge) (Ok x) }
 {
-    if beyond(x) {
-        return Err(Refusal::BeyondHalf);
+    if tilt_too_large(x) {
+        return Err(Refusal::TiltTooLarge);
     }
     Ok(x)
 }

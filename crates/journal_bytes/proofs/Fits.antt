@@ -28,15 +28,15 @@ use Rattle.score_outcome.proofs.SkipReason.TheLaws as S'
 use Rattle.journal_line.specs.contracts.Line as N
 use Rattle.journal_line.proofs.Line.TheLaws as N'
 
-seed_is : (s : CandidateSeed) (vs : List Val) → Is C.the_row s vs → All Fits (six s)
-seed_is s vs g =
+seed_numbers_fit : (s : CandidateSeed) (vs : List Val) → Is C.the_row s vs → All Fits (six s)
+seed_numbers_fit s vs g =
     let f = LL.owed C.the_type C'.the_laws s vs g in
     let k = LL.owed K.the_type K'.the_laws s.reference_k _ f.0 in
     let p = LL.owed P.the_type P'.the_laws s.sensor _ f.1.0 in
     (passes _ k.0.1, (passes _ k.1.0.1, (passes _ k.1.1.0.1, (passes _ k.1.1.1.0.1, (passes _ p.0.1, (passes _ p.1.0.1, tt))))))
 
-scored_is : (r : ScoredFields) (vs : List Val) → Is R.the_row r vs → All Fits (eight r)
-scored_is r vs g =
+scored_numbers_fit : (r : ScoredFields) (vs : List Val) → Is R.the_row r vs → All Fits (eight r)
+scored_numbers_fit r vs g =
     let f = LL.owed R.the_type R'.the_laws r vs g in
     let k = LL.owed K.the_type K'.the_laws r.k _ f.1.1.0 in
     (passes _ f.0.1, (passes _ f.1.0.1, (passes _ k.0.1, (passes _ k.1.0.1, (passes _ k.1.1.0.1, (passes _ k.1.1.1.0.1, (passes _ f.1.1.1.0.1, (passes _ f.1.1.1.1.0.1, tt))))))))
@@ -45,11 +45,11 @@ scored_is r vs g =
 recorded_laws : EL.Laws (O.the_type R.the_row S.the_row)
 recorded_laws = O'.the_laws R.the_row S.the_row R'.the_row_laws S'.the_row_laws (struct_told R.the_type R'.the_laws) (enum_told S.the_type S'.the_laws)
 
-outcome_is : (o : Recorded) (vs : List Val) → Is (O.the_row R.the_row S.the_row) o vs → All Fits (recorded_numbers o)
-outcome_is (Ok r) vs g = scored_is r _ (EL.owed (O.the_type R.the_row S.the_row) recorded_laws (Ok r) vs g).0
-outcome_is (Err n) vs g = tt
+outcome_numbers_fit : (o : Recorded) (vs : List Val) → Is (O.the_row R.the_row S.the_row) o vs → All Fits (recorded_numbers o)
+outcome_numbers_fit (Ok r) vs g = scored_numbers_fit r _ (EL.owed (O.the_type R.the_row S.the_row) recorded_laws (Ok r) vs g).0
+outcome_numbers_fit (Err n) vs g = tt
 
 pub line_fits : (l : Line) (vs : List Val) → Is N.the_row l vs → LineFits l
 line_fits l vs g =
     let f = LL.owed N.the_type N'.the_laws l vs g in
-    record { seed_fits = seed_is l.seed _ f.1.1.0; outcome_fits = outcome_is l.outcome _ f.1.1.1.0 }
+    record { seed_fits = seed_numbers_fit l.seed _ f.1.1.0; outcome_fits = outcome_numbers_fit l.outcome _ f.1.1.1.0 }

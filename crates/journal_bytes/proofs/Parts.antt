@@ -11,10 +11,10 @@ use Rattle.journal_line.specs.declared.Line.{Line}
 use Rattle.journal_line.specs.Line.{decimal_width, decimal, real, reason_letter, eight, outcome_fields, rest_of_line, line_bytes, writable, Writable}
 use Rattle.journal_line.specs.Steps.{comma_fields, Stored}
 use Rattle.journal_line.proofs.DigitLaws.{decimal_length}
-use Rattle.journal_line.proofs.FieldLaws.{real_length, rest_of_commas, rest_length}
-use Rattle.journal_line.proofs.Unique.{line_length, line_bounds}
+use Rattle.journal_line.proofs.FieldLaws.{real_length, rest_of_line_append, rest_of_line_length}
+use Rattle.journal_line.proofs.Unique.{line_length, line_length_bounds}
 use Rattle.journal_line.specs.Writing.{refuses_line, write_reply, write_into}
-use Rattle.journal_bytes.proofs.Stores.{stored_then, stored_as, stored_front}
+use Rattle.journal_bytes.proofs.Stores.{stored_append, stored_same_bytes, stored_front}
 
 -- ---- number and round
 module _ (number round n : ℕ) (o o₁ o₂ o₃ : List ℕ) (en : n ≡ decimal_width number) where
@@ -23,9 +23,9 @@ module _ (number round n : ℕ) (o o₁ o₂ o₃ : List ℕ) (en : n ≡ decima
       let d = decimal number in
       let e = decimal round in
       let k = decimal_length number in
-      let s = stored_then d (44 ∷ []) o o₁ o₂ 0 n a b (omega arith) in
-      let t = stored_then (d ++ (44 ∷ [])) e o o₂ o₃ 0 (n + 1) s c (omega (arith, length-append d (44 ∷ []))) in
-      stored_as o 0 ((d ++ (44 ∷ [])) ++ e) (d ++ 44 ∷ e) o₃ (append_snoc d 44 e) t
+      let s = stored_append d (44 ∷ []) o o₁ o₂ 0 n a b (omega arith) in
+      let t = stored_append (d ++ (44 ∷ [])) e o o₂ o₃ 0 (n + 1) s c (omega (arith, length-append d (44 ∷ []))) in
+      stored_same_bytes o 0 ((d ++ (44 ∷ [])) ++ e) (d ++ 44 ∷ e) o₃ (append_snoc d 44 e) t
 
 -- ---- the outcome
 comma_fields_length : (xs : List Float) → length (comma_fields (map real xs)) ≡ 17 * length xs
@@ -34,19 +34,19 @@ comma_fields_length [] = refl
 comma_fields_length (x ∷ xs) = omega (arith, length-append (real x) (comma_fields (map real xs)), real_length x, comma_fields_length xs)
 
 -- a letter, fields and the newline behind it
-ends_with : (a b : ℕ) (fs : List (List ℕ)) → rest_of_line ((b ∷ []) ∷ (fs ++ [])) ≡ ((44 ∷ b ∷ []) ++ comma_fields fs) ++ (10 ∷ [])
+letter_and_fields_end_with_newline : (a b : ℕ) (fs : List (List ℕ)) → rest_of_line ((b ∷ []) ∷ (fs ++ [])) ≡ ((44 ∷ b ∷ []) ++ comma_fields fs) ++ (10 ∷ [])
 unfolding rest_of_line
-ends_with a b fs = ap (λ (r : List ℕ). 44 ∷ b ∷ r) (rest_of_commas fs [])
+letter_and_fields_end_with_newline a b fs = ap (λ (r : List ℕ). 44 ∷ b ∷ r) (rest_of_line_append fs [])
 
 module _ (at w : ℕ) (b : ℕ) (fs : List (List ℕ)) (k : length (comma_fields fs) ≡ w) (o o₁ o₂ o₃ o₄ : List ℕ) where
-  letter_stored : Stored o at (44 ∷ []) o₁ → Stored o₁ (at + 1) (b ∷ []) o₂ → Stored o₂ (at + 2) (comma_fields fs) o₃ → Stored o₃ (at + (2 + w)) (10 ∷ []) o₄
+  letter_and_fields_stored : Stored o at (44 ∷ []) o₁ → Stored o₁ (at + 1) (b ∷ []) o₂ → Stored o₂ (at + 2) (comma_fields fs) o₃ → Stored o₃ (at + (2 + w)) (10 ∷ []) o₄
       → (length (rest_of_line ((b ∷ []) ∷ (fs ++ []))) ≡ 3 + w) × Stored o at (rest_of_line ((b ∷ []) ∷ (fs ++ []))) o₄
-  letter_stored p q r s =
-      let t = stored_then (44 ∷ []) (b ∷ []) o o₁ o₂ at (at + 1) p q refl in
-      let u = stored_then (44 ∷ b ∷ []) (comma_fields fs) o o₂ o₃ at (at + 2) t r refl in
-      let v = stored_then ((44 ∷ b ∷ []) ++ comma_fields fs) (10 ∷ []) o o₃ o₄ at (at + (2 + w)) u s (omega arith) in (
-        ap length (ends_with 0 b fs) ∙ omega (arith, length-append ((44 ∷ b ∷ []) ++ comma_fields fs) (10 ∷ [])),
-        stored_as o at (((44 ∷ b ∷ []) ++ comma_fields fs) ++ (10 ∷ [])) (rest_of_line ((b ∷ []) ∷ (fs ++ []))) o₄ (sym (ends_with 0 b fs)) v,
+  letter_and_fields_stored p q r s =
+      let t = stored_append (44 ∷ []) (b ∷ []) o o₁ o₂ at (at + 1) p q refl in
+      let u = stored_append (44 ∷ b ∷ []) (comma_fields fs) o o₂ o₃ at (at + 2) t r refl in
+      let v = stored_append ((44 ∷ b ∷ []) ++ comma_fields fs) (10 ∷ []) o o₃ o₄ at (at + (2 + w)) u s (omega arith) in (
+        ap length (letter_and_fields_end_with_newline 0 b fs) ∙ omega (arith, length-append ((44 ∷ b ∷ []) ++ comma_fields fs) (10 ∷ [])),
+        stored_same_bytes o at (((44 ∷ b ∷ []) ++ comma_fields fs) ++ (10 ∷ [])) (rest_of_line ((b ∷ []) ∷ (fs ++ []))) o₄ (sym (letter_and_fields_end_with_newline 0 b fs)) v,
       )
 
 module _ (at : ℕ) (o o₁ o₂ o₃ o₄ : List ℕ) (out : Recorded) where
@@ -55,7 +55,7 @@ module _ (at : ℕ) (o o₁ o₂ o₃ o₄ : List ℕ) (out : Recorded) where
       → (at + 139 ≡ at + length (rest_of_line (outcome_fields out))) × Stored o at (rest_of_line (outcome_fields out)) o₄
   unfolding outcome_fields
   scored_stored r xs e f p q s t =
-      let z = letter_stored at 136 83 (map real (eight r)) (comma_fields_length (eight r)) o o₁ o₂ o₃ o₄ p q (rw f at s) t in
+      let z = letter_and_fields_stored at 136 83 (map real (eight r)) (comma_fields_length (eight r)) o o₁ o₂ o₃ o₄ p q (rw f at s) t in
       rw e (omega (arith, z.0), z.1)
 
   pub skipped_stored : (n : SkipReason) (b : ℕ) → out ≡ Err n → b ≡ reason_letter n
@@ -63,34 +63,34 @@ module _ (at : ℕ) (o o₁ o₂ o₃ o₄ : List ℕ) (out : Recorded) where
       → (at + 19 ≡ at + length (rest_of_line (outcome_fields out))) × Stored o at (rest_of_line (outcome_fields out)) o₄
   unfolding outcome_fields comma_fields
   skipped_stored n b e f p q s t =
-      let z = letter_stored at 16 (reason_letter n) (replicate 8 (45 ∷ [])) refl o o₁ o₂ o₃ o₄ p (rw f at q) s t in
+      let z = letter_and_fields_stored at 16 (reason_letter n) (replicate 8 (45 ∷ [])) refl o o₁ o₂ o₃ o₄ p (rw f at q) s t in
       rw e (omega (arith, z.0), z.1)
 
 -- ---- the whole line
-line_parts : (l : Line) → ((decimal l.number ++ 44 ∷ decimal l.round) ++ comma_fields (map real (six l.seed))) ++ rest_of_line (outcome_fields l.outcome) ≡ line_bytes l
+line_bytes_of_parts : (l : Line) → ((decimal l.number ++ 44 ∷ decimal l.round) ++ comma_fields (map real (six l.seed))) ++ rest_of_line (outcome_fields l.outcome) ≡ line_bytes l
 unfolding line_bytes rest_of_line
-line_parts l =
+line_bytes_of_parts l =
     let d = decimal l.number in
     let e = decimal l.round in
     let a = comma_fields (map real (six l.seed)) in
     let b = rest_of_line (outcome_fields l.outcome) in
-    append_assoc (d ++ 44 ∷ e) a b ∙ append_assoc d (44 ∷ e) (a ++ b) ∙ ap (λ (r : List ℕ). d ++ 44 ∷ (e ++ r)) (sym (rest_of_commas (map real (six l.seed)) (outcome_fields l.outcome)))
+    append_assoc (d ++ 44 ∷ e) a b ∙ append_assoc d (44 ∷ e) (a ++ b) ∙ ap (λ (r : List ℕ). d ++ 44 ∷ (e ++ r)) (sym (rest_of_line_append (map real (six l.seed)) (outcome_fields l.outcome)))
 
 -- what the writer's test says, and what is known where it passes
-pub refuses_so : (l : Line) (o : List ℕ) (b : Bool) → b ≡ writable l → (ltb (length o) 256 || not b) ≡ refuses_line l o
+pub refuses_line_by_test : (l : Line) (o : List ℕ) (b : Bool) → b ≡ writable l → (ltb (length o) 256 || not b) ≡ refuses_line l o
 unfolding refuses_line
-refuses_so l o b e = rw e
+refuses_line_by_test l o b e = rw e
 
-pub taken_so : (l : Line) (o : List ℕ) → refuses_line l o ≡ false → (256 ≤ length o) × Writable l
+pub taken_line_has_room_and_is_writable : (l : Line) (o : List ℕ) → refuses_line l o ≡ false → (256 ≤ length o) × Writable l
 unfolding refuses_line
-taken_so l o e = let b = both_false (ltb (length o) 256) (not (writable l)) e in (ltb-false (length o) 256 b.0, not-false (writable l) b.1)
+taken_line_has_room_and_is_writable l o e = let b = both_false (ltb (length o) 256) (not (writable l)) e in (ltb-false (length o) 256 b.0, not-false (writable l) b.1)
 
 module _ (l : Line) (o o₁ o₂ o₃ : List ℕ) (taken : refuses_line l o ≡ false) where
-  accepts : (n : ℕ) → n ≡ length (line_bytes l) → Stored o 0 (line_bytes l) o₃ → (Ok n ≡ write_reply l o) × (o₃ ≡ write_into l o)
+  stored_line_is_written : (n : ℕ) → n ≡ length (line_bytes l) → Stored o 0 (line_bytes l) o₃ → (Ok n ≡ write_reply l o) × (o₃ ≡ write_into l o)
   unfolding write_reply write_into
-  accepts n e s =
-      let k = taken_so l o taken in
-      let b = line_bounds l k.1 in
+  stored_line_is_written n e s =
+      let k = taken_line_has_room_and_is_writable l o taken in
+      let b = line_length_bounds l k.1 in
       (rw (taken, e), rw taken (stored_front (line_bytes l) o o₃ (omega arith) s))
 
   pub line_stored : (at n : ℕ) (xs : List Float) → at ≡ decimal_width l.number + (decimal_width l.round + 1) → xs ≡ six l.seed
@@ -104,6 +104,6 @@ module _ (l : Line) (o o₁ o₂ o₃ : List ℕ) (taken : refuses_line l o ≡ 
       let k = decimal_length l.number in
       let m = decimal_length l.round in
       let hl = length-append (decimal l.number) (44 ∷ decimal l.round) in
-      let s = stored_then h a o o₁ o₂ 0 at p (rw f at q) (omega arith) in
-      let t = stored_then (h ++ a) w o o₂ o₃ 0 (at + 102) s r (omega (arith, length-append h a, comma_fields_length (six l.seed))) in
-      accepts n (omega (arith, line_length l, rest_length (outcome_fields l.outcome))) (stored_as o 0 ((h ++ a) ++ w) (line_bytes l) o₃ (line_parts l) t)
+      let s = stored_append h a o o₁ o₂ 0 at p (rw f at q) (omega arith) in
+      let t = stored_append (h ++ a) w o o₂ o₃ 0 (at + 102) s r (omega (arith, length-append h a, comma_fields_length (six l.seed))) in
+      stored_line_is_written n (omega (arith, line_length l, rest_of_line_length (outcome_fields l.outcome))) (stored_same_bytes o 0 ((h ++ a) ++ w) (line_bytes l) o₃ (line_bytes_of_parts l) t)

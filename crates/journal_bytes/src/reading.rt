@@ -2,7 +2,7 @@
 // as it is written, it is the line that stands there.
 ghost use Rattle.std.specs.Prelude.{◌≡◌, ◌≤◌, length, get_or, drop};
 ghost use Rattle.seed_rules.specs.Layout.{seed_at};
-ghost use Rattle.journal_line.specs.Reading.{digit_of, number_at, decimal_width_at, real_at, reals, scored_at, reason_of, outcome_at, unchecked_line, begins, newlines, line_number_of, read_line, place_after};
+ghost use Rattle.journal_line.specs.Reading.{digit_of, number_at, decimal_width_at, real_at, reals, scored_at, reason_of, outcome_at, unchecked_line, begins, newlines, line_number_of, read_line, position_after};
 
 use crate::writing::write_line;
 use journal_line::{Line, Read, Recorded, ScoredFields};
@@ -156,11 +156,11 @@ pub fn count_newlines(s: &[u8]) -> usize
 
 // The number of the line that stands at a place. Bytes and place are two parameters, here and in `read_line`: the
 // struct of both is the reader's, in a crate above this one, and the walk has no such struct.
-fn not_of_form(bytes: &[u8], at: usize) -> Read
+fn not_a_line(bytes: &[u8], at: usize) -> Read
     requires { at ≤ length bytes.now }
-    ensures { result ≡ Read.NotOfForm (line_number_of bytes.now at) }
+    ensures { result ≡ Read.NotALine (line_number_of bytes.now at) }
 {
-    Read::NotOfForm(count_newlines(&bytes[..at]) + 1)
+    Read::NotALine(count_newlines(&bytes[..at]) + 1)
 }
 
 // What stands at a place of a journal.
@@ -172,25 +172,25 @@ pub fn read_line(bytes: &[u8], at: usize) -> Read
     }
     let s = &bytes[at..];
     let Some(line) = unchecked_line(s) else {
-        return not_of_form(bytes, at);
+        return not_a_line(bytes, at);
     };
     let mut buffer = [0u8; 256];
     let Ok(n) = write_line(line, &mut buffer) else {
-        return not_of_form(bytes, at);
+        return not_a_line(bytes, at);
     };
     if begins_with(s, &buffer[..n]) {
         return Read::Got(line, at + n);
     }
-    not_of_form(bytes, at)
+    not_a_line(bytes, at)
 }
 
 // The place from which the next line is read: behind a line, else where it was.
-pub fn place_after(answer: Read, at: usize) -> usize
-    ensures { result ≡ place_after answer at }
+pub fn position_after(answer: Read, at: usize) -> usize
+    ensures { result ≡ position_after answer at }
 {
     match answer {
         Read::Got(_, next) => next,
         Read::End => at,
-        Read::NotOfForm(_) => at,
+        Read::NotALine(_) => at,
     }
 }

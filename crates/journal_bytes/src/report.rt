@@ -15,12 +15,12 @@ fn put_decimals(out: &mut [u8], at: usize, ns: &[usize]) -> usize
     requires { at + 4 * length ns.now ≤ length out.old }
     ensures { (result ≡ at + length (comma_fields (map decimal ns.now))) × Stored out.old at (comma_fields (map decimal ns.now)) out.new × (result ≤ at + 4 * length ns.now) }
 {
-    let mut place = at;
+    let mut position = at;
     for n in ns {
-        out[place] = b',';
-        place = put_decimal(out, place + 1, *n);
+        out[position] = b',';
+        position = put_decimal(out, position + 1, *n);
     }
-    place
+    position
 }
 
 // Writes the report to the front of the buffer, or refuses it and writes nothing.

@@ -68,9 +68,9 @@ fn put_reals(out: &mut [u8], at: usize, xs: &[f64])
     ensures { Stored out.old at (comma_fields (map real xs.now)) out.new }
 {
     for (i, x) in xs.iter().enumerate() {
-        let place = at + 17 * i;
-        out[place] = b',';
-        put_digits(out, place + 1, 16, 16, float::to_bits(*x));
+        let position = at + 17 * i;
+        out[position] = b',';
+        put_digits(out, position + 1, 16, 16, float::to_bits(*x));
     }
 }
 

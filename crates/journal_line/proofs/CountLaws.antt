@@ -5,7 +5,7 @@ use Rattle.journal_line.specs.declared.Counts.{Counts}
 use Rattle.journal_line.specs.declared.Line.{Line}
 use Rattle.score_outcome.specs.declared.SkipReason.TheVariants.{HostFailed, BadCamera, NoMean, NoNumber}
 use Rattle.journal_line.specs.Outcome.{Recorded}
-use Rattle.journal_line.specs.Counts.{Kind, kind_of, one, count_in, counts_in, with_count}
+use Rattle.journal_line.specs.Counts.{Kind, kind_of, one_if_of_kind, count_in, counts_in, with_count}
 use Rattle.journal_line.specs.Report.{total}
 
 pub count_append : (k : Kind) (ls ms : List Line) → count_in k (ls ++ ms) ≡ count_in k ls + count_in k ms
@@ -14,20 +14,20 @@ count_append k [] ms = omega arith
 count_append k (l ∷ ls) ms = omega (arith, count_append k ls ms)
 
 -- a line more is one more of its kind
-pub count_snoc : (k : Kind) (ls : List Line) (l : Line) → count_in k (ls ++ l ∷ []) ≡ count_in k ls + one k (kind_of l.outcome)
+pub count_snoc : (k : Kind) (ls : List Line) (l : Line) → count_in k (ls ++ l ∷ []) ≡ count_in k ls + one_if_of_kind k (kind_of l.outcome)
 unfolding count_in
 count_snoc k ls l = omega (arith, count_append k ls (l ∷ []))
 
 pub counts_snoc : (ls : List Line) (l : Line) → counts_in (ls ++ l ∷ []) ≡ with_count (counts_in ls) l.outcome
 counts_snoc ls l = rw (count_snoc None ls l, count_snoc (Some HostFailed) ls l, count_snoc (Some BadCamera) ls l, count_snoc (Some NoMean) ls l, count_snoc (Some NoNumber) ls l)
 
-pub five_kinds : (k : Kind) → one None k + one (Some HostFailed) k + one (Some BadCamera) k + one (Some NoMean) k + one (Some NoNumber) k ≡ 1
-five_kinds None = refl
-five_kinds (Some HostFailed) = refl
-five_kinds (Some BadCamera) = refl
-five_kinds (Some NoMean) = refl
-five_kinds (Some NoNumber) = refl
+pub each_kind_is_one_of_five : (k : Kind) → one_if_of_kind None k + one_if_of_kind (Some HostFailed) k + one_if_of_kind (Some BadCamera) k + one_if_of_kind (Some NoMean) k + one_if_of_kind (Some NoNumber) k ≡ 1
+each_kind_is_one_of_five None = refl
+each_kind_is_one_of_five (Some HostFailed) = refl
+each_kind_is_one_of_five (Some BadCamera) = refl
+each_kind_is_one_of_five (Some NoMean) = refl
+each_kind_is_one_of_five (Some NoNumber) = refl
 
-pub total_with : (c : Counts) (o : Recorded) → total (with_count c o) ≡ total c + 1
+pub total_with_count : (c : Counts) (o : Recorded) → total (with_count c o) ≡ total c + 1
 unfolding total
-total_with c o = omega (arith, five_kinds (kind_of o))
+total_with_count c o = omega (arith, each_kind_is_one_of_five (kind_of o))

@@ -13,12 +13,12 @@ use Rattle.common.specs.Each.{All}
 use Rattle.common.specs.Tests.{case}
 use Rattle.journal_line.specs.declared.Line.{Line}
 use Rattle.journal_line.specs.declared.Read.{Read}
-use Rattle.journal_line.specs.declared.Read.TheVariants.{Got, End, NotOfForm}
+use Rattle.journal_line.specs.declared.Read.TheVariants.{Got, End, NotALine}
 use Rattle.journal_line.specs.Line.{line_bytes, LineFits, Writable, journal_bytes}
 use Rattle.journal_line.specs.Reading.{newlines, read_line, Ending, ended, refused, unread, Lines, goes_on, read_all, read_journal}
 use Rattle.journal_line.specs.Theorem.{Correct}
-use Rattle.journal_line.proofs.Unique.{read_correct, line_bounds, line_injective}
-use Rattle.journal_line.proofs.Numbers.{newlines_append, line_newlines, cut_line}
+use Rattle.journal_line.proofs.Unique.{read_correct, line_length_bounds, line_injective}
+use Rattle.journal_line.proofs.Numbers.{newlines_append, line_has_one_newline, cut_line_no_newline}
 use Rattle.journal_line.proofs.Whole.{whole_stops}
 use Rattle.journal_line.specs.Theorem.{NoLine}
 
@@ -32,12 +32,12 @@ pub record Front (s : List ℕ) (r : Lines) : Type 0 where
   pub at_end : r.ending ≡ ended → rest ≡ []
   pub before_end : (k : ℕ) → r.ending ≡ refused k → rest ≡ [] → ⊥
 
-no_line_in_nothing : NoLine []
-no_line_in_nothing l rest ok can e = let b = line_bounds l can in omega (arith, ap length e, length-append (line_bytes l) rest)
+no_line_in_empty : NoLine []
+no_line_in_empty l rest ok can e = let b = line_length_bounds l can in omega (arith, ap length e, length-append (line_bytes l) rest)
 
-read_front : (n : ℕ) (s : List ℕ) (at : ℕ) → Front (drop at s) (read_all n s at)
+read_all_front : (n : ℕ) (s : List ℕ) (at : ℕ) → Front (drop at s) (read_all n s at)
 unfolding read_all goes_on journal_bytes
-read_front zero s at = record {
+read_all_front zero s at = record {
   lines_fit = tt;
   can_be_written = tt;
   rest = drop at s;
@@ -46,7 +46,7 @@ read_front zero s at = record {
   at_end = λ h. let z : ◌≡◌ {A = ℕ} 0 1 = cc in absurd (omega arith);
   before_end = λ k h e. let z : ◌≡◌ {A = ℕ} 0 1 = cc in omega arith;
 }
-read_front (suc n) s at = one (read_line s at) (read_correct s at) (read_front n s)
+read_all_front (suc n) s at = one (read_line s at) (read_correct s at) (read_all_front n s)
   where
     one : (r : Read) → Correct s at r → ((next : ℕ) → Front (drop next s) (read_all n s next)) → Front (drop at s) (goes_on (read_all n s) r)
     one End t ih = record {
@@ -54,11 +54,11 @@ read_front (suc n) s at = one (read_line s at) (read_correct s at) (read_front n
       can_be_written = tt;
       rest = [];
       bytes_are = drop_of_length-le s t;
-      none_there = λ h. no_line_in_nothing;
+      none_there = λ h. no_line_in_empty;
       at_end = λ h. refl;
       before_end = λ k h e. let z : ◌≡◌ {A = ℕ} 0 1 = cc in omega arith;
     }
-    one (NotOfForm m) t ih = record {
+    one (NotALine m) t ih = record {
       lines_fit = tt;
       can_be_written = tt;
       rest = drop at s;
@@ -81,10 +81,10 @@ read_front (suc n) s at = one (read_line s at) (read_correct s at) (read_front n
 
 -- ---- of any bytes
 pub whole_front : (s : List ℕ) → Front s (read_journal s)
-whole_front s = read_front (suc (length s)) s 0
+whole_front s = read_all_front (suc (length s)) s 0
 
-pub whole_rest : (s : List ℕ) → NoLine (whole_front s).rest
-whole_rest s = (whole_front s).none_there (whole_stops s)
+pub whole_rest_has_no_line : (s : List ℕ) → NoLine (whole_front s).rest
+whole_rest_has_no_line s = (whole_front s).none_there (whole_stops s)
 
 -- ---- in one way alone: lines that stand in front are those that are read first
 pub record Further (ls ms : List Line) (r q : List ℕ) : Type 0 where
@@ -108,12 +108,12 @@ module _ (ls : List Line) (rest : List ℕ) (ok : All LineFits ls) (can : All Wr
   pub front_read_first : Further ls (read_journal (journal_bytes ls ++ rest)).lines rest (whole_front (journal_bytes ls ++ rest)).rest
   front_read_first =
       let w = whole_front (journal_bytes ls ++ rest) in
-      fronts_agree ls (read_journal (journal_bytes ls ++ rest)).lines rest w.rest ok can w.lines_fit w.can_be_written (whole_rest (journal_bytes ls ++ rest)) w.bytes_are
+      fronts_agree ls (read_journal (journal_bytes ls ++ rest)).lines rest w.rest ok can w.lines_fit w.can_be_written (whole_rest_has_no_line (journal_bytes ls ++ rest)) w.bytes_are
 
   -- where no line begins there
   module _ (none : NoLine rest) where
-    alone : ((read_journal (journal_bytes ls ++ rest)).lines ≡ ls) × ((whole_front (journal_bytes ls ++ rest)).rest ≡ rest)
-    alone = none_more front_read_first.more front_read_first.lines_are front_read_first.rest_is
+    front_and_rest_are_the_only_ones : ((read_journal (journal_bytes ls ++ rest)).lines ≡ ls) × ((whole_front (journal_bytes ls ++ rest)).rest ≡ rest)
+    front_and_rest_are_the_only_ones = none_more front_read_first.more front_read_first.lines_are front_read_first.rest_is
       where
         all_fit : (ms : List Line) → (read_journal (journal_bytes ls ++ rest)).lines ≡ ls ++ ms → All LineFits (ls ++ ms) × All Writable (ls ++ ms)
         all_fit ms e = let w = whole_front (journal_bytes ls ++ rest) in (rw e at w.lines_fit, rw e at w.can_be_written)
@@ -129,21 +129,21 @@ module _ (ls : List Line) (rest : List ℕ) (ok : All LineFits ls) (can : All Wr
             let h = behind ls (m ∷ ms) (all_fit (m ∷ ms) e) in
             absurd (none m (journal_bytes ms ++ (whole_front (journal_bytes ls ++ rest)).rest) h.0.0 h.1.0 (q ∙ append_assoc (line_bytes m) (journal_bytes ms) (whole_front (journal_bytes ls ++ rest)).rest))
 
-    pub front_read : (read_journal (journal_bytes ls ++ rest)).lines ≡ ls
-    front_read = alone.0
+    pub front_lines_read_back : (read_journal (journal_bytes ls ++ rest)).lines ≡ ls
+    front_lines_read_back = front_and_rest_are_the_only_ones.0
 
     pub front_ended : rest ≡ [] → (read_journal (journal_bytes ls ++ rest)).ending ≡ ended
     front_ended e = by_ending (read_journal (journal_bytes ls ++ rest)).ending refl
       where
         by_ending : (x : Ending) → (read_journal (journal_bytes ls ++ rest)).ending ≡ x → x ≡ ended
         by_ending ended h = refl
-        by_ending (refused k) h = absurd ((whole_front (journal_bytes ls ++ rest)).before_end k h (alone.1 ∙ e))
+        by_ending (refused k) h = absurd ((whole_front (journal_bytes ls ++ rest)).before_end k h (front_and_rest_are_the_only_ones.1 ∙ e))
         by_ending unread h = absurd (whole_stops (journal_bytes ls ++ rest) h)
 
 -- ---- a journal that was cut off
 -- bytes without a newline are no line
-pub cut_no_line : (s : List ℕ) → newlines s ≡ 0 → NoLine s
-cut_no_line s h l rest ok can e = omega (arith, ap newlines e, newlines_append (line_bytes l) rest, line_newlines l)
+pub no_newline_no_line : (s : List ℕ) → newlines s ≡ 0 → NoLine s
+no_newline_no_line s h l rest ok can e = omega (arith, ap newlines e, newlines_append (line_bytes l) rest, line_has_one_newline l)
 
 -- after `at` bytes: whole lines, and a part of the next one, without its newline
 pub record Cut (ls : List Line) (at : ℕ) : Type 0 where
@@ -153,16 +153,16 @@ pub record Cut (ls : List Line) (at : ℕ) : Type 0 where
   pub cut_is : take at (journal_bytes ls) ≡ journal_bytes (take whole ls) ++ part
   pub no_newline : newlines part ≡ 0
 
-pub cut_journal_lem : (ls : List Line) (at : ℕ) → Cut ls at
+pub cut_journal_is_lines_and_part : (ls : List Line) (at : ℕ) → Cut ls at
 unfolding journal_bytes newlines
-cut_journal_lem [] zero = record { whole = 0; part = []; no_more = omega arith; cut_is = refl; no_newline = refl }
-cut_journal_lem [] (suc at) = record { whole = 0; part = []; no_more = omega arith; cut_is = refl; no_newline = refl }
-cut_journal_lem (l ∷ ls) at =
+cut_journal_is_lines_and_part [] zero = record { whole = 0; part = []; no_more = omega arith; cut_is = refl; no_newline = refl }
+cut_journal_is_lines_and_part [] (suc at) = record { whole = 0; part = []; no_more = omega arith; cut_is = refl; no_newline = refl }
+cut_journal_is_lines_and_part (l ∷ ls) at =
     case (ltb at (length (line_bytes l)))
     (λ e.
     let h = ltb-true at (length (line_bytes l)) e in
-    record { whole = 0; part = take at (line_bytes l); no_more = omega arith; cut_is = take-append-le at (line_bytes l) (journal_bytes ls) (omega arith); no_newline = cut_line l at h })
-    (λ e. more l ls at (ltb-false at (length (line_bytes l)) e) (cut_journal_lem ls (at - length (line_bytes l))))
+    record { whole = 0; part = take at (line_bytes l); no_more = omega arith; cut_is = take-append-le at (line_bytes l) (journal_bytes ls) (omega arith); no_newline = cut_line_no_newline l at h })
+    (λ e. more l ls at (ltb-false at (length (line_bytes l)) e) (cut_journal_is_lines_and_part ls (at - length (line_bytes l))))
   where
     more : (l : Line) (ls : List Line) (at : ℕ) → length (line_bytes l) ≤ at → Cut ls (at - length (line_bytes l)) → Cut (l ∷ ls) at
     more l ls at h c = unfold journal_bytes in
@@ -177,7 +177,7 @@ cut_journal_lem (l ∷ ls) at =
         }
 
 -- ---- journals, one behind the other
-pub journal_append : (ls ms : List Line) → journal_bytes (ls ++ ms) ≡ journal_bytes ls ++ journal_bytes ms
+pub journal_bytes_append : (ls ms : List Line) → journal_bytes (ls ++ ms) ≡ journal_bytes ls ++ journal_bytes ms
 unfolding journal_bytes
-journal_append [] ms = refl
-journal_append (l ∷ ls) ms = ap (λ (z : List ℕ). line_bytes l ++ z) (journal_append ls ms) ∙ sym (append_assoc (line_bytes l) (journal_bytes ls) (journal_bytes ms))
+journal_bytes_append [] ms = refl
+journal_bytes_append (l ∷ ls) ms = ap (λ (z : List ℕ). line_bytes l ++ z) (journal_bytes_append ls ms) ∙ sym (append_assoc (line_bytes l) (journal_bytes ls) (journal_bytes ms))

@@ -5,9 +5,9 @@ use Rattle.common.specs.Each.{All}
 use Rattle.common.specs.Tests.{both_false}
 use Rattle.journal_line.proofs.ReportLaws.{Small}
 
-abbrev pub some_large : List ℕ → Bool
-some_large ns = list_any (λ n. ltb 656 n) ns
+abbrev pub any_above_656 : List ℕ → Bool
+any_above_656 ns = list_any (λ n. ltb 656 n) ns
 
-pub each_small : (ns : List ℕ) → some_large ns ≡ false → All Small ns
-each_small [] h = tt
-each_small (n ∷ ns) h = let p = both_false (ltb 656 n) (some_large ns) h in (ltb-false 656 n p.0, each_small ns p.1)
+pub all_small_if_none_above_656 : (ns : List ℕ) → any_above_656 ns ≡ false → All Small ns
+all_small_if_none_above_656 [] h = tt
+all_small_if_none_above_656 (n ∷ ns) h = let p = both_false (ltb 656 n) (any_above_656 ns) h in (ltb-false 656 n p.0, all_small_if_none_above_656 ns p.1)

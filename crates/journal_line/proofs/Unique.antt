@@ -20,53 +20,53 @@ use Rattle.journal_line.specs.declared.Line.{Line}
 use Rattle.journal_line.specs.declared.Read.TheVariants.{Got}
 use Rattle.journal_line.specs.Line.{decimal_width, decimal, real, reason_letter, eight, outcome_fields, rest_of_line, line_bytes, recordable, writable, Fits, recorded_numbers, LineFits, Writable}
 use Rattle.journal_line.specs.Reading.{real_at, reals, scored_at, reason_of, outcome_at, from_round, from_seed, line_with, unchecked_line, begins, of_form, read_line}
-use Rattle.journal_line.proofs.DigitLaws.{width_back, number_back, decimal_length, width_fits}
-use Rattle.journal_line.proofs.FieldLaws.{next_field, reals_back, past_reals, wide, rest_length, reals_wide}
+use Rattle.journal_line.proofs.DigitLaws.{decimal_width_read_back, decimal_read_back, decimal_length, decimal_width_fits}
+use Rattle.journal_line.proofs.FieldLaws.{rest_of_line_cons_append, reals_read_back, drop_past_reals, rest_width, rest_of_line_length, rest_width_of_reals}
 use Rattle.journal_line.specs.Theorem.{LineAt, Correct}
 
 -- ---- what was written is what the bytes would be
-reason_back : (r : SkipReason) → (eqb (reason_letter r) 83 ≡ false) × (reason_of (reason_letter r) ≡ Some r)
+reason_read_back : (r : SkipReason) → (eqb (reason_letter r) 83 ≡ false) × (reason_of (reason_letter r) ≡ Some r)
 unfolding reason_letter reason_of
-reason_back HostFailed = (refl, refl)
-reason_back BadCamera = (refl, refl)
-reason_back NoMean = (refl, refl)
-reason_back NoNumber = (refl, refl)
+reason_read_back HostFailed = (refl, refl)
+reason_read_back BadCamera = (refl, refl)
+reason_read_back NoMean = (refl, refl)
+reason_read_back NoNumber = (refl, refl)
 
-outcome_back : (o : Recorded) (s : List ℕ) → All Fits (recorded_numbers o) → outcome_at (rest_of_line (outcome_fields o) ++ s) ≡ Some o
+outcome_read_back : (o : Recorded) (s : List ℕ) → All Fits (recorded_numbers o) → outcome_at (rest_of_line (outcome_fields o) ++ s) ≡ Some o
 unfolding outcome_at outcome_fields rest_of_line
-outcome_back (Ok r) s k = ap (λ (l : List Float). Some (Ok (scored_at l))) (reals_back [] s (eight r) k)
-outcome_back (Err r) s k = let e = reason_back r in rw (e.0, e.1)
+outcome_read_back (Ok r) s k = ap (λ (l : List Float). Some (Ok (scored_at l))) (reals_read_back [] s (eight r) k)
+outcome_read_back (Err r) s k = let e = reason_read_back r in rw (e.0, e.1)
 
-pub past_comma : (f s : List ℕ) (n : ℕ) → length f ≡ n → drop (n + 1) (f ++ 44 ∷ s) ≡ s
-past_comma f s n e = sym (drop-drop 1 n (f ++ 44 ∷ s)) ∙ ap (drop 1) (drop_at f (44 ∷ s) n e)
+pub drop_past_comma : (f s : List ℕ) (n : ℕ) → length f ≡ n → drop (n + 1) (f ++ 44 ∷ s) ≡ s
+drop_past_comma f s n e = sym (drop-drop 1 n (f ++ 44 ∷ s)) ∙ ap (drop 1) (drop_at f (44 ∷ s) n e)
 
 module _ (n r : ℕ) (hn : n < 1000) (hr : r < 1000) where
-  head_at : (t : List ℕ) (o : Recorded) → outcome_at (drop 102 (44 ∷ t)) ≡ Some o
+  unchecked_line_at_seed : (t : List ℕ) (o : Recorded) → outcome_at (drop 102 (44 ∷ t)) ≡ Some o
       → unchecked_line (decimal n ++ 44 ∷ (decimal r ++ 44 ∷ t)) ≡ Some (record { number = n; round = r; seed = seed_at (reals 6 (44 ∷ t)) 0; outcome = o })
   unfolding unchecked_line from_round from_seed
-  head_at t o h =
+  unchecked_line_at_seed t o h =
       let x : List ℕ = decimal r ++ 44 ∷ t in
-      let w = width_back n hn x in
-      let p = past_comma (decimal n) x (decimal_width n) (decimal_length n) in
-      let v = width_back r hr t in
+      let w = decimal_width_read_back n hn x in
+      let p = drop_past_comma (decimal n) x (decimal_width n) (decimal_length n) in
+      let v = decimal_width_read_back r hr t in
       let d = drop_at (decimal r) (44 ∷ t) (decimal_width r) (decimal_length r) in
-      rw (w, p, v, d, h, w, number_back n hn x, p, v, number_back r hr t, d)
+      rw (w, p, v, d, h, w, decimal_read_back n hn x, p, v, decimal_read_back r hr t, d)
 
-  head_back : (u t : List ℕ) (o : Recorded) → u ≡ 44 ∷ t → outcome_at (drop 102 u) ≡ Some o
+  unchecked_line_of_head : (u t : List ℕ) (o : Recorded) → u ≡ 44 ∷ t → outcome_at (drop 102 u) ≡ Some o
       → unchecked_line (decimal n ++ 44 ∷ (decimal r ++ u)) ≡ Some (record { number = n; round = r; seed = seed_at (reals 6 u) 0; outcome = o })
-  head_back u t o e h = rw e (head_at t o (rw e at h))
+  unchecked_line_of_head u t o e h = rw e (unchecked_line_at_seed t o (rw e at h))
 
 -- the bytes of a line in front of others
-line_then : (l : Line) (s : List ℕ) → line_bytes l ++ s ≡ decimal l.number ++ 44 ∷ (decimal l.round ++ (rest_of_line (map real (six l.seed) ++ outcome_fields l.outcome) ++ s))
+line_bytes_append : (l : Line) (s : List ℕ) → line_bytes l ++ s ≡ decimal l.number ++ 44 ∷ (decimal l.round ++ (rest_of_line (map real (six l.seed) ++ outcome_fields l.outcome) ++ s))
 unfolding line_bytes
-line_then l s =
+line_bytes_append l s =
     append_assoc (decimal l.number) (rest_of_line (decimal l.round ∷ (map real (six l.seed) ++ outcome_fields l.outcome))) s
-    ∙ ap (λ (r : List ℕ). decimal l.number ++ r) (next_field (decimal l.round) (map real (six l.seed) ++ outcome_fields l.outcome) s)
+    ∙ ap (λ (r : List ℕ). decimal l.number ++ r) (rest_of_line_cons_append (decimal l.round) (map real (six l.seed) ++ outcome_fields l.outcome) s)
 
 -- what the writer takes
-pub can_write : (l : Line) → Writable l → (l.number ≤ 655) × (l.round ≤ 16) × (recordable l.outcome ≡ true)
+pub writable_bounds : (l : Line) → Writable l → (l.number ≤ 655) × (l.round ≤ 16) × (recordable l.outcome ≡ true)
 unfolding writable
-can_write l can =
+writable_bounds l can =
     let a = both_true (leb l.number 655 && leb l.round 16) (recordable l.outcome) can in
     let b = both_true (leb l.number 655) (leb l.round 16) a.0 in
     (leb-true l.number 655 b.0, leb-true l.round 16 b.1, a.1)
@@ -75,34 +75,34 @@ module _ (l : Line) (ok : LineFits l) (can : Writable l) (s : List ℕ) where
   abbrev rest : List ℕ
   rest = rest_of_line (map real (six l.seed) ++ outcome_fields l.outcome) ++ s
 
-  pub unchecked_back : unchecked_line (line_bytes l ++ s) ≡ Some l
-  unchecked_back =
-      let bounds = can_write l can in
+  pub unchecked_line_read_back : unchecked_line (line_bytes l ++ s) ≡ Some l
+  unchecked_line_read_back =
+      let bounds = writable_bounds l can in
       let fs = outcome_fields l.outcome in
-      let q = next_field (real l.seed.reference_k.fx) (drop 1 (map real (six l.seed)) ++ fs) s in
-      let a : reals 6 rest ≡ six l.seed = reals_back fs s (six l.seed) ok.seed_fits in
-      let b : drop 102 rest ≡ rest_of_line fs ++ s = past_reals fs s (six l.seed) in
-      let c : outcome_at (drop 102 rest) ≡ Some l.outcome = ap outcome_at b ∙ outcome_back l.outcome s ok.outcome_fits in
-      ap unchecked_line (line_then l s) ∙ head_back l.number l.round (omega arith) (omega arith) rest _ l.outcome q c ∙ rw a
+      let q = rest_of_line_cons_append (real l.seed.reference_k.fx) (drop 1 (map real (six l.seed)) ++ fs) s in
+      let a : reals 6 rest ≡ six l.seed = reals_read_back fs s (six l.seed) ok.seed_fits in
+      let b : drop 102 rest ≡ rest_of_line fs ++ s = drop_past_reals fs s (six l.seed) in
+      let c : outcome_at (drop 102 rest) ≡ Some l.outcome = ap outcome_at b ∙ outcome_read_back l.outcome s ok.outcome_fits in
+      ap unchecked_line (line_bytes_append l s) ∙ unchecked_line_of_head l.number l.round (omega arith) (omega arith) rest _ l.outcome q c ∙ rw a
 
 -- ---- beginning with
-begins_own : (w s : List ℕ) → begins w (w ++ s) ≡ true
+begins_with_itself : (w s : List ℕ) → begins w (w ++ s) ≡ true
 unfolding begins
-begins_own [] s = refl
-begins_own (c ∷ w) s = rw (eq-eqb c c refl) (begins_own w s)
+begins_with_itself [] s = refl
+begins_with_itself (c ∷ w) s = rw (eq-eqb c c refl) (begins_with_itself w s)
 
-pub begins_is : (w s : List ℕ) → begins w s ≡ true → s ≡ w ++ drop (length w) s
+pub begins_is_append : (w s : List ℕ) → begins w s ≡ true → s ≡ w ++ drop (length w) s
 unfolding begins
-begins_is [] s h = refl
-begins_is (c ∷ w) [] h = absurd (true≢false (sym h))
-begins_is (c ∷ w) (d ∷ s) h =
+begins_is_append [] s h = refl
+begins_is_append (c ∷ w) [] h = absurd (true≢false (sym h))
+begins_is_append (c ∷ w) (d ∷ s) h =
     let p = both_true (eqb c d) (begins w s) h in
-    rw (eqb-true c d p.0) (ap (λ (r : List ℕ). d ∷ r) (begins_is w s p.1))
+    rw (eqb-true c d p.0) (ap (λ (r : List ℕ). d ∷ r) (begins_is_append w s p.1))
 
 -- ---- of the form: the bytes begin with a line that can be written
-pub form_own : (l : Line) → LineFits l → Writable l → (s : List ℕ) → of_form (line_bytes l ++ s) l ≡ true
+pub line_is_of_form : (l : Line) → LineFits l → Writable l → (s : List ℕ) → of_form (line_bytes l ++ s) l ≡ true
 unfolding of_form
-form_own l ok can s = rw (can, begins_own (line_bytes l) s)
+line_is_of_form l ok can s = rw (can, begins_with_itself (line_bytes l) s)
 
 pub record Begins (s : List ℕ) (l : Line) : Type 0 where
   pub can_be_written : Writable l
@@ -134,20 +134,20 @@ unchecked_fits s l h = by_outcome (outcome_at (drop 102 (from_seed s))) refl h
     by_outcome (Some o) u e = unfold reals in
         subst LineFits (same_Some (line_with s o) l e) (record { seed_fits = reals_fits 6 (from_seed s); outcome_fits = outcome_fits (drop 102 (from_seed s)) o u })
 
-pub form_is : (s : List ℕ) (l : Line) → unchecked_line s ≡ Some l → of_form s l ≡ true → Begins s l
+pub begins_if_of_form : (s : List ℕ) (l : Line) → unchecked_line s ≡ Some l → of_form s l ≡ true → Begins s l
 unfolding of_form
-form_is s l u h =
+begins_if_of_form s l u h =
     let p = both_true (writable l) (begins (line_bytes l) s) h in
-    record { can_be_written = p.0; line_fits = unchecked_fits s l u; written_so = begins_is (line_bytes l) s p.1 }
+    record { can_be_written = p.0; line_fits = unchecked_fits s l u; written_so = begins_is_append (line_bytes l) s p.1 }
 
 -- ---- how long a line is
-outcome_wide : (o : Recorded) → (19 ≤ wide (outcome_fields o)) × (wide (outcome_fields o) ≤ 139)
-unfolding outcome_fields wide
-outcome_wide (Ok r) = omega (arith, reals_wide (eight r) [])
-outcome_wide (Err r) = (omega arith, omega arith)
+outcome_width_bounds : (o : Recorded) → (19 ≤ rest_width (outcome_fields o)) × (rest_width (outcome_fields o) ≤ 139)
+unfolding outcome_fields rest_width
+outcome_width_bounds (Ok r) = omega (arith, rest_width_of_reals (eight r) [])
+outcome_width_bounds (Err r) = (omega arith, omega arith)
 
-pub line_length : (l : Line) → length (line_bytes l) ≡ decimal_width l.number + (suc (decimal_width l.round) + (102 + wide (outcome_fields l.outcome)))
-unfolding line_bytes wide
+pub line_length : (l : Line) → length (line_bytes l) ≡ decimal_width l.number + (suc (decimal_width l.round) + (102 + rest_width (outcome_fields l.outcome)))
+unfolding line_bytes rest_width
 line_length l =
     let fs = map real (six l.seed) ++ outcome_fields l.outcome in
     omega (
@@ -155,21 +155,21 @@ line_length l =
       length-append (decimal l.number) (rest_of_line (decimal l.round ∷ fs)),
       decimal_length l.number,
       decimal_length l.round,
-      rest_length (decimal l.round ∷ fs),
-      reals_wide (six l.seed) (outcome_fields l.outcome),
+      rest_of_line_length (decimal l.round ∷ fs),
+      rest_width_of_reals (six l.seed) (outcome_fields l.outcome),
     )
 
-two_digits : (r : ℕ) → r ≤ 16 → decimal_width r ≤ 2
+round_width_le_two : (r : ℕ) → r ≤ 16 → decimal_width r ≤ 2
 unfolding decimal_width
-two_digits r h = case (ltb r 10) (λ e. rw e (omega arith)) (λ e. rw (e, lt-ltb r 100 (omega arith)) (omega arith))
+round_width_le_two r h = case (ltb r 10) (λ e. rw e (omega arith)) (λ e. rw (e, lt-ltb r 100 (omega arith)) (omega arith))
 
-pub line_bounds : (l : Line) → Writable l → (124 ≤ length (line_bytes l)) × (length (line_bytes l) ≤ 247)
-line_bounds l can =
-    let b = can_write l can in
-    let d = width_fits l.number (omega arith) in
-    let e = width_fits l.round (omega arith) in
-    let f = two_digits l.round b.1 in
-    let g = outcome_wide l.outcome in
+pub line_length_bounds : (l : Line) → Writable l → (124 ≤ length (line_bytes l)) × (length (line_bytes l) ≤ 247)
+line_length_bounds l can =
+    let b = writable_bounds l can in
+    let d = decimal_width_fits l.number (omega arith) in
+    let e = decimal_width_fits l.round (omega arith) in
+    let f = round_width_le_two l.round b.1 in
+    let g = outcome_width_bounds l.outcome in
     let h = line_length l in
     (omega arith, omega arith)
 
@@ -177,29 +177,29 @@ line_bounds l can =
 -- no line's bytes begin another's
 pub line_injective : (l m : Line) → LineFits l → Writable l → LineFits m → Writable m → (s t : List ℕ) → line_bytes l ++ s ≡ line_bytes m ++ t → (l ≡ m) × (s ≡ t)
 line_injective l m a b c d s t e =
-    let p : l ≡ m = same_Some l m (sym (unchecked_back l a b s) ∙ ap unchecked_line e ∙ unchecked_back m c d t) in
+    let p : l ≡ m = same_Some l m (sym (unchecked_line_read_back l a b s) ∙ ap unchecked_line e ∙ unchecked_line_read_back m c d t) in
     (p, sym (drop-append_seam (line_bytes l) s) ∙ ap₂ (λ (k : Line) (r : List ℕ). drop (length (line_bytes k)) r) p e ∙ drop-append_seam (line_bytes m) t)
 
-pub one_reading_at : (s : List ℕ) (at : ℕ) (l : Line) (rest : List ℕ) → LineFits l → Writable l → drop at s ≡ line_bytes l ++ rest → read_line s at ≡ Got l (at + length (line_bytes l))
+pub written_line_is_read_at : (s : List ℕ) (at : ℕ) (l : Line) (rest : List ℕ) → LineFits l → Writable l → drop at s ≡ line_bytes l ++ rest → read_line s at ≡ Got l (at + length (line_bytes l))
 unfolding read_line
-one_reading_at s at l rest ok can e =
-    let k : at < length s = omega (arith, ap length e, length-drop at s, length-append (line_bytes l) rest, line_bounds l can) in
-    rw (lt-ltb at (length s) k, e, unchecked_back l ok can rest, e, form_own l ok can rest)
+written_line_is_read_at s at l rest ok can e =
+    let k : at < length s = omega (arith, ap length e, length-drop at s, length-append (line_bytes l) rest, line_length_bounds l can) in
+    rw (lt-ltb at (length s) k, e, unchecked_line_read_back l ok can rest, e, line_is_of_form l ok can rest)
 
-pub one_reading : (l : Line) → LineFits l → Writable l → (before rest : List ℕ)
+pub written_line_is_read : (l : Line) → LineFits l → Writable l → (before rest : List ℕ)
     → read_line (before ++ (line_bytes l ++ rest)) (length before) ≡ Got l (length before + length (line_bytes l))
-one_reading l ok can before rest = one_reading_at (before ++ (line_bytes l ++ rest)) (length before) l rest ok can (drop-append_seam before (line_bytes l ++ rest))
+written_line_is_read l ok can before rest = written_line_is_read_at (before ++ (line_bytes l ++ rest)) (length before) l rest ok can (drop-append_seam before (line_bytes l ++ rest))
 
 -- ---- each reading has one line
 module _ (s : List ℕ) (at : ℕ) where
-  found : (l : Line) → unchecked_line (drop at s) ≡ Some l → of_form (drop at s) l ≡ true → LineAt s at (at + length (line_bytes l)) l
-  found l u h =
-      let b = form_is (drop at s) l u h in
+  line_at_if_of_form : (l : Line) → unchecked_line (drop at s) ≡ Some l → of_form (drop at s) l ≡ true → LineAt s at (at + length (line_bytes l)) l
+  line_at_if_of_form l u h =
+      let b = begins_if_of_form (drop at s) l u h in
       record { can_be_written = b.can_be_written; line_fits = b.line_fits; next_is = refl; bytes_are = b.written_so ∙ ap (λ (r : List ℕ). line_bytes l ++ r) (drop-drop (length (line_bytes l)) at s) }
 
   -- bytes that begin with a line would be that line, and of its form
-  of_line : (l : Line) (rest : List ℕ) → LineFits l → Writable l → drop at s ≡ line_bytes l ++ rest → (unchecked_line (drop at s) ≡ Some l) × (of_form (drop at s) l ≡ true)
-  of_line l rest ok can q = (ap unchecked_line q ∙ unchecked_back l ok can rest, ap (λ (t : List ℕ). of_form t l) q ∙ form_own l ok can rest)
+  line_in_front_is_of_form : (l : Line) (rest : List ℕ) → LineFits l → Writable l → drop at s ≡ line_bytes l ++ rest → (unchecked_line (drop at s) ≡ Some l) × (of_form (drop at s) l ≡ true)
+  line_in_front_is_of_form l rest ok can q = (ap unchecked_line q ∙ unchecked_line_read_back l ok can rest, ap (λ (t : List ℕ). of_form t l) q ∙ line_is_of_form l ok can rest)
 
   pub read_correct : Correct s at (read_line s at)
   unfolding read_line
@@ -207,17 +207,17 @@ module _ (s : List ℕ) (at : ℕ) where
     where
       by_line : (o : Option Line) → unchecked_line (drop at s) ≡ o → ltb at (length s) ≡ true → Correct s at (read_line s at)
       by_line None u e = unfold read_line in
-          rw (e, u) (refl, ltb-true at (length s) e, λ l rest ok can q. let p : ◌≡◌ {A = Option Line} None (Some l) = sym u ∙ (of_line l rest ok can q).0 in cc)
+          rw (e, u) (refl, ltb-true at (length s) e, λ l rest ok can q. let p : ◌≡◌ {A = Option Line} None (Some l) = sym u ∙ (line_in_front_is_of_form l rest ok can q).0 in cc)
       by_line (Some l) u e = unfold read_line in
           case (of_form (drop at s) l)
-          (λ f. rw (e, u, f) (found l u f))
+          (λ f. rw (e, u, f) (line_at_if_of_form l u f))
           (λ f. rw (e, u, f) (
             refl,
             ltb-true at (length s) e,
             λ m rest ok can q.
-                let p = of_line m rest ok can q in
+                let p = line_in_front_is_of_form m rest ok can q in
                 true≢false (sym p.1 ∙ ap (λ (k : Line). of_form (drop at s) k) (sym (same_Some l m (sym u ∙ p.0))) ∙ f),
           ))
 
-  pub one_line : (l : Line) (next : ℕ) → read_line s at ≡ Got l next → LineAt s at next l
-  one_line l next e = rw e at read_correct
+  pub line_that_is_read_stands_there : (l : Line) (next : ℕ) → read_line s at ≡ Got l next → LineAt s at next l
+  line_that_is_read_stands_there l next e = rw e at read_correct

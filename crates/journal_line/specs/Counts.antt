@@ -20,13 +20,13 @@ kind_number None = 0
 kind_number (Some reason) = reason_number reason
 
 -- 1 if a kind is k, else 0
-abbrev pub one : Kind → Kind → ℕ
-one k kind = cond (eqb (kind_number kind) (kind_number k)) 1 0
+abbrev pub one_if_of_kind : Kind → Kind → ℕ
+one_if_of_kind k kind = cond (eqb (kind_number kind) (kind_number k)) 1 0
 
 -- how many of some lines are of kind k
 unfoldable pub count_in : Kind → List Line → ℕ
 count_in k [] = 0
-count_in k (l ∷ ls) = one k (kind_of l.outcome) + count_in k ls
+count_in k (l ∷ ls) = one_if_of_kind k (kind_of l.outcome) + count_in k ls
 
 -- ---- the five counts
 abbrev pub counts_in : List Line → Counts
@@ -40,9 +40,9 @@ abbrev pub with_count : Counts → Recorded → Counts
 with_count c o =
     let k = kind_of o in
     record {
-      scored = c.scored + one None k;
-      host_failed = c.host_failed + one (Some HostFailed) k;
-      bad_camera = c.bad_camera + one (Some BadCamera) k;
-      no_mean = c.no_mean + one (Some NoMean) k;
-      no_number = c.no_number + one (Some NoNumber) k;
+      scored = c.scored + one_if_of_kind None k;
+      host_failed = c.host_failed + one_if_of_kind (Some HostFailed) k;
+      bad_camera = c.bad_camera + one_if_of_kind (Some BadCamera) k;
+      no_mean = c.no_mean + one_if_of_kind (Some NoMean) k;
+      no_number = c.no_number + one_if_of_kind (Some NoNumber) k;
     }

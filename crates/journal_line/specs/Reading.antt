@@ -10,7 +10,7 @@ use Rattle.score_outcome.specs.declared.SkipReason.{SkipReason}
 use Rattle.score_outcome.specs.declared.SkipReason.TheVariants.{HostFailed, BadCamera, NoMean, NoNumber}
 use Rattle.journal_line.specs.declared.Line.{Line}
 use Rattle.journal_line.specs.declared.Read.{Read}
-use Rattle.journal_line.specs.declared.Read.TheVariants.{Got, End, NotOfForm}
+use Rattle.journal_line.specs.declared.Read.TheVariants.{Got, End, NotALine}
 use Rattle.journal_line.specs.Outcome.{Recorded}
 use Rattle.journal_line.specs.Line.{line_bytes, writable}
 
@@ -96,16 +96,16 @@ unfoldable pub read_line : List ℕ → ℕ → Read
 read_line s at =
     cond (ltb at (length s))
     (elim (unchecked_line (drop at s)) [
-      | Some l ↦ cond (of_form (drop at s) l) (Got l (at + length (line_bytes l))) (NotOfForm (line_number_of s at))
-      | None ↦ NotOfForm (line_number_of s at)
+      | Some l ↦ cond (of_form (drop at s) l) (Got l (at + length (line_bytes l))) (NotALine (line_number_of s at))
+      | None ↦ NotALine (line_number_of s at)
     ])
     End
 
 -- the place from which the next line is read: behind a line, else where it was
-abbrev pub place_after : Read → ℕ → ℕ
-place_after (Got l next) at = next
-place_after End at = at
-place_after (NotOfForm n) at = at
+abbrev pub position_after : Read → ℕ → ℕ
+position_after (Got l next) at = next
+position_after End at = at
+position_after (NotALine n) at = at
 
 -- ---- all lines from a place on, as many as n, and what came last
 pub data Ending : Type 0 where
@@ -120,7 +120,7 @@ pub record Lines : Type 0 where
 -- what comes of one answer, where r reads the rest from a place
 unfoldable pub goes_on : (ℕ → Lines) → Read → Lines
 goes_on r End = record { lines = []; ending = ended }
-goes_on r (NotOfForm line) = record { lines = []; ending = refused line }
+goes_on r (NotALine line) = record { lines = []; ending = refused line }
 goes_on r (Got l next) = record { lines = l ∷ (r next).lines; ending = (r next).ending }
 
 unfoldable pub read_all : ℕ → List ℕ → ℕ → Lines

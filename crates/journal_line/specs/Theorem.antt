@@ -9,7 +9,7 @@ use Rattle.score_outcome.specs.declared.SkipReason.TheVariants.{HostFailed, BadC
 use Rattle.journal_line.specs.declared.Counts.{Counts}
 use Rattle.journal_line.specs.declared.Line.{Line}
 use Rattle.journal_line.specs.declared.Read.{Read}
-use Rattle.journal_line.specs.declared.Read.TheVariants.{Got, End, NotOfForm}
+use Rattle.journal_line.specs.declared.Read.TheVariants.{Got, End, NotALine}
 use Rattle.journal_line.specs.Line.{decimal, real, reason_letter, line_bytes, LineFits, Writable, journal_bytes}
 use Rattle.journal_line.specs.Reading.{newlines, line_number_of, read_line, ended, refused, unread, read_journal}
 use Rattle.journal_line.specs.Steps.{comma_fields}
@@ -26,7 +26,7 @@ pub record LineAt (s : List ℕ) (at next : ℕ) (l : Line) : Type 0 where
 abbrev pub Correct : List ℕ → ℕ → Read → Type 0
 Correct s at (Got l next) = LineAt s at next l
 Correct s at End = length s ≤ at
-Correct s at (NotOfForm n) = (n ≡ line_number_of s at) × (at < length s) × ((l : Line) (rest : List ℕ) → LineFits l → Writable l → drop at s ≡ line_bytes l ++ rest → ⊥)
+Correct s at (NotALine n) = (n ≡ line_number_of s at) × (at < length s) × ((l : Line) (rest : List ℕ) → LineFits l → Writable l → drop at s ≡ line_bytes l ++ rest → ⊥)
 
 -- no line that the writer takes begins here
 abbrev pub NoLine : List ℕ → Type 0
@@ -80,8 +80,8 @@ pub record ReportIsExact : Type 0 where
   pub no_two_alike : (c d : Counts) → total c ≤ 656 → total d ≤ 656 → report_bytes c ≡ report_bytes d → c ≡ d
 
 -- ---- computed
-abbrev pub of : ℕ → ℕ → ℕ → ℕ → ℕ → Counts
-of s h c e n = record { scored = s; host_failed = h; bad_camera = c; no_mean = e; no_number = n }
+abbrev pub counts_of : ℕ → ℕ → ℕ → ℕ → ℕ → Counts
+counts_of s h c e n = record { scored = s; host_failed = h; bad_camera = c; no_mean = e; no_number = n }
 
 pub record FieldsWritten : Type 0 where
   -- "0", "10", "655"; 1.0 is 3ff0000000000000 and NaN is 7ff8000000000000; H, C, E, N
@@ -90,10 +90,10 @@ pub record FieldsWritten : Type 0 where
   pub not_a_number : real nan ≡ 55 ∷ 102 ∷ 102 ∷ 56 ∷ replicate 12 48
   pub letters : map reason_letter (HostFailed ∷ BadCamera ∷ NoMean ∷ NoNumber ∷ []) ≡ 72 ∷ 67 ∷ 69 ∷ 78 ∷ []
   -- "0,0,0,0,0,0" and a newline, "7,1,20,300,0,328" and a newline; 24 bytes are the most
-  pub nothing_yet : report_bytes (of 0 0 0 0 0) ≡ 48 ∷ 44 ∷ 48 ∷ 44 ∷ 48 ∷ 44 ∷ 48 ∷ 44 ∷ 48 ∷ 44 ∷ 48 ∷ 10 ∷ []
-  pub in_order : report_bytes (of 7 1 20 300 0) ≡ 55 ∷ 44 ∷ 49 ∷ 44 ∷ 50 ∷ 48 ∷ 44 ∷ 51 ∷ 48 ∷ 48 ∷ 44 ∷ 48 ∷ 44 ∷ 51 ∷ 50 ∷ 56 ∷ 10 ∷ []
-  pub longest : length (report_bytes (of 100 100 100 100 100)) ≡ 24
+  pub nothing_yet : report_bytes (counts_of 0 0 0 0 0) ≡ 48 ∷ 44 ∷ 48 ∷ 44 ∷ 48 ∷ 44 ∷ 48 ∷ 44 ∷ 48 ∷ 44 ∷ 48 ∷ 10 ∷ []
+  pub in_order : report_bytes (counts_of 7 1 20 300 0) ≡ 55 ∷ 44 ∷ 49 ∷ 44 ∷ 50 ∷ 48 ∷ 44 ∷ 51 ∷ 48 ∷ 48 ∷ 44 ∷ 48 ∷ 44 ∷ 51 ∷ 50 ∷ 56 ∷ 10 ∷ []
+  pub longest : length (report_bytes (counts_of 100 100 100 100 100)) ≡ 24
   -- a total of 656 is written, 657 isn't, nor is 2^64; a buffer of 23 bytes is refused and left as it was
-  pub totals : map (λ (c : Counts). report_reply c (replicate 24 0)) (of 656 0 0 0 0 ∷ of 600 20 20 10 6 ∷ of 656 1 0 0 0 ∷ of 0 0 0 0 657 ∷ []) ≡ Ok 16 ∷ Ok 19 ∷ Err NotWritable ∷ Err NotWritable ∷ []
-  pub no_wrap : report_reply (of 18446744073709551615 0 0 0 1) (replicate 24 0) ≡ Err NotWritable
-  pub small_buffer : (report_reply (of 0 0 0 0 0) (replicate 23 7) ≡ Err NotWritable) × (report_into (of 0 0 0 0 0) (replicate 23 7) ≡ replicate 23 7)
+  pub totals : map (λ (c : Counts). report_reply c (replicate 24 0)) (counts_of 656 0 0 0 0 ∷ counts_of 600 20 20 10 6 ∷ counts_of 656 1 0 0 0 ∷ counts_of 0 0 0 0 657 ∷ []) ≡ Ok 16 ∷ Ok 19 ∷ Err NotWritable ∷ Err NotWritable ∷ []
+  pub no_wrap : report_reply (counts_of 18446744073709551615 0 0 0 1) (replicate 24 0) ≡ Err NotWritable
+  pub small_buffer : (report_reply (counts_of 0 0 0 0 0) (replicate 23 7) ≡ Err NotWritable) × (report_into (counts_of 0 0 0 0 0) (replicate 23 7) ≡ replicate 23 7)

@@ -50,5 +50,5 @@ pub struct Counts {
 pub enum Read {
     Got(Line, usize),
     End,
-    NotOfForm(usize),
+    NotALine(usize),
 }

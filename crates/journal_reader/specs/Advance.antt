@@ -2,9 +2,9 @@
 use Rattle.std.specs.Prelude.{◌≡◌}
 use Rattle.journal_line.specs.declared.Read.{Read}
 use Rattle.journal_reader.specs.declared.Reader.{Reader}
-use Rattle.journal_line.specs.Reading.{read_line, place_after}
+use Rattle.journal_line.specs.Reading.{read_line, position_after}
 
 pub record Advanced (before : Reader) (answer : Read) (after : Reader) : Type 0 where
   pub answer_is : answer ≡ read_line before.bytes.now before.at
   pub same_bytes : after.bytes ≡ before.bytes
-  pub place_is : after.at ≡ place_after answer before.at
+  pub position_is : after.at ≡ position_after answer before.at

@@ -25,19 +25,19 @@ impl<'a> Reader<'a> {
     }
 
     // What stands at the reader's place.
-    pub fn next(self) -> Read
+    pub fn peek(self) -> Read
         ensures { result ≡ read_line self.entry.bytes.now self.entry.at }
     {
         reading::read_line(self.bytes, self.at)
     }
 
     // What stands at the reader's place; the reader moves behind a line, and stays at the end and where no line is.
-    pub fn advance(&mut self) -> Read
+    pub fn next(&mut self) -> Read
         ensures { Advanced self.old result self.new }
     {
         let at = self.at;
         let answer = reading::read_line(self.bytes, at);
-        let next = reading::place_after(answer, at);
+        let next = reading::position_after(answer, at);
         self.at = next;
         answer
     }
@@ -47,5 +47,5 @@ impl<'a> Reader<'a> {
 pub fn read_at(bytes: &[u8], at: usize) -> Read
     ensures { result ≡ read_line bytes.now at }
 {
-    Reader::new(bytes, at).next()
+    Reader::new(bytes, at).peek()
 }

@@ -11,8 +11,8 @@ use Rattle.search_start.specs.Start.{start_reply, start_list}
 use Rattle.search_calls.specs.declared.next.Handed.{Handed}
 use Rattle.search_calls.specs.declared.next.Handed.TheVariants.{Candidate, Over}
 use Rattle.search_calls.specs.Next.{next_def}
-use Rattle.journal_replay.specs.declared.Stop.{Stop}
-use Rattle.journal_replay.specs.declared.Stop.TheVariants.{AllTaken, NotOfForm, NotTheRun}
+use Rattle.journal_replay.specs.declared.WalkEnd.{WalkEnd}
+use Rattle.journal_replay.specs.declared.WalkEnd.TheVariants.{AllTaken, NotALine, NotTheRun}
 use Rattle.journal_replay.specs.declared.Standing.{Standing}
 use Rattle.journal_replay.specs.declared.Standing.TheVariants.{Winner, Unfinished}
 use Rattle.journal_replay.specs.declared.ReplayRefusal.{ReplayRefusal}
@@ -34,13 +34,13 @@ of_no_line (Ok s) = Ok s
 of_no_line (Err why) = Err (Refused why)
 
 -- ---- the reply: 29 or 30 with the number of the line behind the taken ones, from 1
-abbrev pub reply_by : Stop → ℕ → Result Standing Refusal → Result Standing ReplayRefusal
+abbrev pub reply_by : WalkEnd → ℕ → Result Standing Refusal → Result Standing ReplayRefusal
 reply_by AllTaken n s = of_no_line s
-reply_by NotOfForm n s = Err (At refusal.NotOfForm (suc n))
+reply_by NotALine n s = Err (At refusal.NotALine (suc n))
 reply_by NotTheRun n s = Err (At refusal.NotTheRun (suc n))
 
 unfoldable pub reply_to : RunWalk → Result Standing ReplayRefusal
-reply_to w = reply_by w.stop w.lines (standing_of w.run w.list)
+reply_to w = reply_by w.walk_end w.lines (standing_of w.run w.list)
 
 -- the reply, and the lent list after it
 pub record ReplayLeft : Type 0 where

@@ -13,25 +13,25 @@ use Rattle.journal_replay.specs.Replay.{standing_of, reply_by, reply_to, replay_
 use Rattle.journal_replay.specs.declared.Walked.{Walked}
 use Rattle.journal_replay.specs.Resume.{is_cut_line, resumed_by, resume_from}
 
-no_newline : (s : List ℕ) → not (list_any (λ c. eqb c 10) s) ≡ eqb (newlines s) 0
+no_newline_found_if_none_counted : (s : List ℕ) → not (list_any (λ c. eqb c 10) s) ≡ eqb (newlines s) 0
 unfolding newlines
-no_newline [] = refl
-no_newline (c ∷ s) = by_first (eqb c 10) _ _ (no_newline s)
+no_newline_found_if_none_counted [] = refl
+no_newline_found_if_none_counted (c ∷ s) = by_first (eqb c 10) _ _ (no_newline_found_if_none_counted s)
   where
     by_first : (b x : Bool) (n : ℕ) → not x ≡ eqb n 0 → not (b || x) ≡ eqb (cond b 1 0 + n) 0
     by_first true x n h = sym (ne_eqb (1 + n) 0 (λ q. omega arith))
     by_first false x n h = rw zero-add h
 
 -- the same by a search for one
-pub cut_by_search : (s : List ℕ) → (not (eqb (length s) 0) && not (list_any (λ c. eqb c 10) s)) ≡ is_cut_line s
-cut_by_search [] = refl
-cut_by_search (c ∷ s) = rw (ne_eqb (length (c ∷ s)) 0 (λ q. omega arith)) (no_newline (c ∷ s))
+pub cut_line_by_search : (s : List ℕ) → (not (eqb (length s) 0) && not (list_any (λ c. eqb c 10) s)) ≡ is_cut_line s
+cut_line_by_search [] = refl
+cut_line_by_search (c ∷ s) = rw (ne_eqb (length (c ∷ s)) 0 (λ q. omega arith)) (no_newline_found_if_none_counted (c ∷ s))
 
 -- ---- what replay and resume give, by Start's reply s and its list l
 module _ (s t : Result Run Refusal) (l k : List Float) (bs : List ℕ) (s-is : s ≡ t) (l-is : l ≡ k) where
 
   module _ (r : Run) (w : Walked) (m : List Float) (h : s ≡ Ok r) (w-is : w ≡ walked_as (walk_of r l bs)) (m-is : m ≡ (walk_of r l bs).list) where
-    pub replay_walked : (y : Result Standing ReplayRefusal) → y ≡ reply_by w.stop w.lines (standing_of w.run m) → (y ≡ (replay_from t k bs).reply) × (m ≡ (replay_from t k bs).list)
+    pub replay_walked : (y : Result Standing ReplayRefusal) → y ≡ reply_by w.walk_end w.lines (standing_of w.run m) → (y ≡ (replay_from t k bs).reply) × (m ≡ (replay_from t k bs).list)
     unfolding reply_to
     replay_walked y y-is = rw (← s-is, ← l-is, h) (y-is ∙ rw (w-is, m-is), m-is)
 

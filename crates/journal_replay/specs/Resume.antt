@@ -7,11 +7,11 @@ use Rattle.journal_line.specs.Reading.{newlines}
 use Rattle.search_record.specs.declared.run.Options.{Options}
 use Rattle.search_record.specs.declared.run.Run.{Run}
 use Rattle.search_start.specs.Start.{start_reply, start_list}
-use Rattle.journal_replay.specs.declared.Stop.{Stop}
-use Rattle.journal_replay.specs.declared.Stop.TheVariants.{AllTaken, NotOfForm, NotTheRun}
+use Rattle.journal_replay.specs.declared.WalkEnd.{WalkEnd}
+use Rattle.journal_replay.specs.declared.WalkEnd.TheVariants.{AllTaken, NotALine, NotTheRun}
 use Rattle.journal_replay.specs.declared.EndedBy.{EndedBy}
-use Rattle.journal_replay.specs.declared.EndedBy.TheVariants.{MissingNewline, Stopped}
-use Rattle.journal_replay.specs.declared.Report.{Report}
+use Rattle.journal_replay.specs.declared.EndedBy.TheVariants.{MissingNewline, WalkEnded}
+use Rattle.journal_replay.specs.declared.KeptLines.{KeptLines}
 use Rattle.journal_replay.specs.declared.Resumed.{Resumed}
 use Rattle.journal_replay.specs.declared.Walked.{Walked}
 use Rattle.journal_replay.specs.Walk.{walk_of, walked_as}
@@ -19,9 +19,9 @@ use Rattle.journal_replay.specs.Walk.{walk_of, walked_as}
 -- the number of what ended the kept lines: nothing behind them, a missing newline, 29, 30
 abbrev pub ended_number : EndedBy → ℕ
 ended_number MissingNewline = 1
-ended_number (Stopped AllTaken) = 0
-ended_number (Stopped NotOfForm) = 29
-ended_number (Stopped NotTheRun) = 30
+ended_number (WalkEnded AllTaken) = 0
+ended_number (WalkEnded NotALine) = 29
+ended_number (WalkEnded NotTheRun) = 30
 
 -- ---- something is left, and no newline in it: a line was cut off
 abbrev pub is_cut_line : List ℕ → Bool
@@ -29,17 +29,17 @@ is_cut_line [] = false
 is_cut_line (c ∷ cs) = eqb (newlines (c ∷ cs)) 0
 
 -- a missing newline is looked for before 29 and 30
-unfoldable pub ended_by_of : Stop → List ℕ → EndedBy
-ended_by_of e rest = cond (is_cut_line rest) MissingNewline (Stopped e)
+unfoldable pub ended_by_of : WalkEnd → List ℕ → EndedBy
+ended_by_of e rest = cond (is_cut_line rest) MissingNewline (WalkEnded e)
 
 -- Kept bytes are those of the taken lines, dropped ones those that stand behind them.
-unfoldable pub report_on : Walked → List ℕ → Report
-report_on w bs =
+unfoldable pub kept_lines_of : Walked → List ℕ → KeptLines
+kept_lines_of w bs =
     let rest = drop w.bytes bs in
-    record { lines = w.lines; kept = w.bytes; dropped = length rest; ended_by = ended_by_of w.stop rest }
+    record { lines = w.lines; kept = w.bytes; dropped = length rest; ended_by = ended_by_of w.walk_end rest }
 
 abbrev pub resumed_by : Walked → List ℕ → Resumed
-resumed_by w bs = record { run = w.run; report = report_on w bs }
+resumed_by w bs = record { run = w.run; kept_lines = kept_lines_of w bs }
 
 -- ---- the reply, and the lent list after it
 pub record ResumeLeft : Type 0 where

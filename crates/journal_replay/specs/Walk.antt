@@ -12,8 +12,8 @@ use Rattle.search_calls.specs.declared.next.Handed.{Handed}
 use Rattle.search_calls.specs.declared.next.Handed.TheVariants.{Candidate, Over}
 use Rattle.search_calls.specs.Next.{next_def}
 use Rattle.search_answer.specs.Answer.{Left, enter_def}
-use Rattle.journal_replay.specs.declared.Stop.{Stop}
-use Rattle.journal_replay.specs.declared.Stop.TheVariants.{AllTaken, NotOfForm, NotTheRun}
+use Rattle.journal_replay.specs.declared.WalkEnd.{WalkEnd}
+use Rattle.journal_replay.specs.declared.WalkEnd.TheVariants.{AllTaken, NotALine, NotTheRun}
 use Rattle.journal_replay.specs.declared.Walked.{Walked}
 use Rattle.journal_replay.specs.Stand.{same_reals, can_stand}
 
@@ -60,26 +60,26 @@ pub record RunWalk : Type 0 where
   pub list : List Float
   pub lines : ℕ
   pub bytes : ℕ
-  pub stop : Stop
+  pub walk_end : WalkEnd
 
 -- n lines of k bytes were taken; behind the last line of those that follow the walk stops by e
-unfoldable pub walk_lines : Run → List Float → ℕ → ℕ → List Line → Stop → RunWalk
-walk_lines r l n k [] e = record { run = r; list = l; lines = n; bytes = k; stop = e }
+unfoldable pub walk_lines : Run → List Float → ℕ → ℕ → List Line → WalkEnd → RunWalk
+walk_lines r l n k [] e = record { run = r; list = l; lines = n; bytes = k; walk_end = e }
 walk_lines r l n k (m ∷ ms) e = elim (take_line r l m) [
-  | None ↦ record { run = r; list = l; lines = n; bytes = k; stop = NotTheRun }
+  | None ↦ record { run = r; list = l; lines = n; bytes = k; walk_end = NotTheRun }
   | Some t ↦ walk_lines t.run t.list (suc n) (k + length (line_bytes m)) ms e
 ]
 
 -- the reader's End, or its 29
-abbrev pub stop_at : Ending → Stop
-stop_at ended = AllTaken
-stop_at (refused k) = NotOfForm
-stop_at unread = NotOfForm
+abbrev pub walk_end_at : Ending → WalkEnd
+walk_end_at ended = AllTaken
+walk_end_at (refused k) = NotALine
+walk_end_at unread = NotALine
 
 -- the lines that the reader gives of a journal, from a run and its list on
 unfoldable pub walk_of : Run → List Float → List ℕ → RunWalk
-walk_of r l bs = let j = read_journal bs in walk_lines r l 0 0 j.lines (stop_at j.ending)
+walk_of r l bs = let j = read_journal bs in walk_lines r l 0 0 j.lines (walk_end_at j.ending)
 
 -- all but the list, which is lent
 abbrev pub walked_as : RunWalk → Walked
-walked_as w = record { run = w.run; lines = w.lines; bytes = w.bytes; stop = w.stop }
+walked_as w = record { run = w.run; lines = w.lines; bytes = w.bytes; walk_end = w.walk_end }

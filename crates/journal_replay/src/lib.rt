@@ -20,9 +20,9 @@ use seed_rules::CandidateSeed;
 // What stopped a walk: the end of the journal; a line that isn't of the form, 29; or one that can't be the run's next
 // answer, 30. A Result of Refusal would admit refusals that no walk gives.
 #[derive(Clone, Copy)]
-pub enum Stop {
+pub enum WalkEnd {
     AllTaken,
-    NotOfForm,
+    NotALine,
     NotTheRun,
 }
 
@@ -32,7 +32,7 @@ pub struct Walked {
     pub run: Run,
     pub lines: usize,
     pub bytes: usize,
-    pub stop: Stop,
+    pub walk_end: WalkEnd,
 }
 
 // Where a run stands: the winner's number and score, or the seed that comes next in a run that isn't over. It is no
@@ -63,7 +63,7 @@ impl From<Refusal> for ReplayRefusal {
 #[derive(Clone, Copy)]
 pub enum EndedBy {
     MissingNewline,
-    Stopped(Stop),
+    WalkEnded(WalkEnd),
 }
 
 // The numbers that other languages are told.
@@ -73,16 +73,16 @@ impl From<EndedBy> for u8 {
     fn from(ended: EndedBy) -> u8 {
         match ended {
             EndedBy::MissingNewline => 1,
-            EndedBy::Stopped(Stop::AllTaken) => 0,
-            EndedBy::Stopped(Stop::NotOfForm) => Refusal::NotOfForm.into(),
-            EndedBy::Stopped(Stop::NotTheRun) => Refusal::NotTheRun.into(),
+            EndedBy::WalkEnded(WalkEnd::AllTaken) => 0,
+            EndedBy::WalkEnded(WalkEnd::NotALine) => Refusal::NotALine.into(),
+            EndedBy::WalkEnded(WalkEnd::NotTheRun) => Refusal::NotTheRun.into(),
         }
     }
 }
 
 // How many lines are kept, how many bytes they have, how many bytes follow them, and why those aren't kept.
 #[derive(Clone, Copy)]
-pub struct Report {
+pub struct KeptLines {
     pub lines: usize,
     pub kept: usize,
     pub dropped: usize,
@@ -93,5 +93,5 @@ pub struct Report {
 #[derive(Clone, Copy)]
 pub struct Resumed {
     pub run: Run,
-    pub report: Report,
+    pub kept_lines: KeptLines,
 }

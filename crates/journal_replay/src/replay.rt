@@ -4,7 +4,7 @@ ghost use Rattle.std.specs.Prelude.{◌≡◌, ◌<◌};
 ghost use Rattle.journal_replay.specs.Replay.{standing_of, reply_by, replay_def};
 
 use crate::walk::walk;
-use crate::{ReplayRefusal, Standing, Stop, Walked};
+use crate::{ReplayRefusal, Standing, WalkEnd, Walked};
 use common::Refusal;
 use search_calls::next::{Handed, next};
 use search_record::run::Run;
@@ -28,12 +28,12 @@ fn standing(run: Run, list: &[f64]) -> Result<Standing, Refusal>
 // The reply to a walk that stopped here.
 fn reply_to(walked: Walked, list: &[f64]) -> Result<Standing, ReplayRefusal>
     requires { walked.lines < 0x8000000000000000 }
-    ensures { result ≡ reply_by walked.stop walked.lines (standing_of walked.run list.now) }
+    ensures { result ≡ reply_by walked.walk_end walked.lines (standing_of walked.run list.now) }
 {
-    match walked.stop {
-        Stop::AllTaken => Ok(standing(walked.run, list)?),
-        Stop::NotOfForm => Err(ReplayRefusal::At(Refusal::NotOfForm, walked.lines + 1)),
-        Stop::NotTheRun => Err(ReplayRefusal::At(Refusal::NotTheRun, walked.lines + 1)),
+    match walked.walk_end {
+        WalkEnd::AllTaken => Ok(standing(walked.run, list)?),
+        WalkEnd::NotALine => Err(ReplayRefusal::At(Refusal::NotALine, walked.lines + 1)),
+        WalkEnd::NotTheRun => Err(ReplayRefusal::At(Refusal::NotTheRun, walked.lines + 1)),
     }
 }
 

@@ -4,7 +4,7 @@ ghost use Rattle.std.specs.Prelude.{◌≡◌, ◌≤◌, length};
 ghost use Rattle.journal_replay.specs.Resume.{is_cut_line, ended_by_of, resumed_by, resume_def};
 
 use crate::walk::walk;
-use crate::{EndedBy, Report, Resumed, Stop, Walked};
+use crate::{EndedBy, KeptLines, Resumed, WalkEnd, Walked};
 use common::Refusal;
 use search_start::{Inputs, start};
 
@@ -17,17 +17,17 @@ fn is_cut_line(rest: &[u8]) -> bool
 
 // What ended the kept lines, where this is what stands behind them.
 #[tactic(auto, unfolding(crate::specs::Resume::ended_by_of))]
-fn ended_by(stop: Stop, rest: &[u8]) -> EndedBy
-    ensures { result ≡ ended_by_of stop rest.now }
+fn ended_by(walk_end: WalkEnd, rest: &[u8]) -> EndedBy
+    ensures { result ≡ ended_by_of walk_end rest.now }
 {
     if is_cut_line(rest) {
         return EndedBy::MissingNewline;
     }
-    EndedBy::Stopped(stop)
+    EndedBy::WalkEnded(walk_end)
 }
 
 // The run that the walk left, and the report on the journal.
-#[tactic(auto, unfolding(crate::specs::Resume::report_on))]
+#[tactic(auto, unfolding(crate::specs::Resume::kept_lines_of))]
 fn resumed(walked: Walked, bytes: &[u8]) -> Resumed
     requires { walked.bytes ≤ length bytes.now }
     ensures { result ≡ resumed_by walked bytes.now }
@@ -36,11 +36,11 @@ fn resumed(walked: Walked, bytes: &[u8]) -> Resumed
     let rest = &bytes[kept..];
     Resumed {
         run: walked.run,
-        report: Report {
+        kept_lines: KeptLines {
             lines: walked.lines,
             kept,
             dropped: rest.len(),
-            ended_by: ended_by(walked.stop, rest),
+            ended_by: ended_by(walked.walk_end, rest),
         },
     }
 }

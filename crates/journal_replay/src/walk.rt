@@ -4,7 +4,7 @@ ghost use Rattle.std.specs.Prelude.{◌≡◌, ◌*◌, ◌≤◌, length};
 ghost use Rattle.journal_replay.specs.Walk.{run_taken, list_taken, walk_of, walked_as};
 
 use crate::stand::answers_waiting;
-use crate::{Stop, Walked};
+use crate::{WalkEnd, Walked};
 use journal_bytes::reading::read_line;
 use journal_line::outcome::outcome_in;
 use journal_line::{Line, Read};
@@ -37,24 +37,24 @@ pub fn walk(mut run: Run, bytes: &[u8], list: &mut [f64]) -> Walked
 {
     let mut lines = 0;
     let mut at = 0;
-    let stop = loop {
+    let walk_end = loop {
         match read_line(bytes, at) {
             Read::Got(line, behind) => {
                 let Some(after) = take_line(run, list, line) else {
-                    break Stop::NotTheRun;
+                    break WalkEnd::NotTheRun;
                 };
                 run = after;
                 at = behind;
                 lines += 1;
             }
-            Read::NotOfForm(_) => break Stop::NotOfForm,
-            Read::End => break Stop::AllTaken,
+            Read::NotALine(_) => break WalkEnd::NotALine,
+            Read::End => break WalkEnd::AllTaken,
         }
     };
     Walked {
         run,
         lines,
         bytes: at,
-        stop,
+        walk_end,
     }
 }

@@ -7,9 +7,9 @@ use Rattle.float.specs.Sign.{abs_unsigned}
 use Rattle.float_laws.specs.OneTest.{size_by_square}
 use Rattle.point_homography.specs.Line.{least_cross}
 
-unsigned : sign_bit least_cross ≡ false
+least_cross_has_no_minus : sign_bit least_cross ≡ false
 unfolding sign_bit of_bits
-unsigned = refl
+least_cross_has_no_minus = refl
 
-pub near_line : (c : Float) → lt (c *₆₄ c) (least_cross *₆₄ least_cross) ≡ true → lt least_cross (abs_of c) ≡ false
-near_line c h = rw (abs_unsigned least_cross unsigned) at (size_by_square c least_cross h)
+pub small_square_is_near_line : (c : Float) → lt (c *₆₄ c) (least_cross *₆₄ least_cross) ≡ true → lt least_cross (abs_of c) ≡ false
+small_square_is_near_line c h = rw (abs_unsigned least_cross least_cross_has_no_minus) at (size_by_square c least_cross h)

@@ -12,14 +12,14 @@ use Rattle.camera_models.specs.declared.math.Pt2.{Pt2}
 use Rattle.point_normalise.specs.Linalg.{epsilon, mean_distance, centroid_of, degenerate}
 use Rattle.point_homography.specs.Line.{collinear_of}
 use Rattle.point_homography.specs.Rows.{design_conditions, rows_refusal}
-use Rattle.point_homography.specs.RowsLaws.{Fine, fine}
-use Rattle.point_homography.specs.Spread.{mean_close, close_collinear, two_points, three_points}
+use Rattle.point_homography.specs.RowsLaws.{Accepted, accepted_lists}
+use Rattle.point_homography.specs.Spread.{close_of_small_mean, close_collinear, two_points, three_points}
 use Rattle.point_homography.specs.Theorem.{RowsNormalised}
 
 -- ---- so the mean distance of 3 to 400 points that aren't collinear, from any point, is not at most 2^-52
 module _ (s : List Float) (n : 6 ≤ length s) (m : length s ≤ 800) where
   pub mean_above : (c : Pt2) → collinear_of s ≡ false → le (mean_distance c s) epsilon ≡ false
-  mean_above c h = case (le (mean_distance c s) epsilon) (λ e. absurd (true≢false (sym (close_collinear c s n (mean_close c s m e)) ∙ h))) (λ e. e)
+  mean_above c h = case (le (mean_distance c s) epsilon) (λ e. absurd (true≢false (sym (close_collinear c s n (close_of_small_mean c s m e)) ∙ h))) (λ e. e)
 
   pub not_degenerate : collinear_of s ≡ false → degenerate s ≡ false
   unfolding degenerate
@@ -28,7 +28,7 @@ module _ (s : List Float) (n : 6 ≤ length s) (m : length s ≤ 800) where
 -- ---- lists that `design_rows` doesn't refuse can be normalised, the source points and the destination points alike
 pub normalised : (src dst : List Float) (room : ℕ) → rows_refusal src dst room ≡ Ok tt → (degenerate src ≡ false) × (degenerate dst ≡ false)
 normalised src dst room h =
-    let f : Fine src dst room = fine src dst room h in (
+    let f : Accepted src dst room = accepted_lists src dst room h in (
       not_degenerate src (omega (arith, f.least)) f.source f.source_off,
       not_degenerate dst (omega (arith, f.least, f.count)) (omega (arith, f.source, f.count)) f.target_off,
     )

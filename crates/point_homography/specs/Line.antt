@@ -2,7 +2,7 @@
 use Rattle.std.specs.Prelude.{◌%◌, Bool, true, false, not, ◌&&◌, cond, List, eqb, ltb, length, drop, Float, Option, Some, None, Result, Ok, Err}
 use Rattle.std.specs.Float.Ieee.{lt, le}
 use Rattle.common.specs.declared.Refusal.{Refusal}
-use Rattle.common.specs.declared.Refusal.TheVariants.{BadLength}
+use Rattle.common.specs.declared.Refusal.TheVariants.{BadPoints}
 use Rattle.float.specs.Binary64.{◌-₆₄◌, ◌*₆₄◌}
 use Rattle.float.specs.Float.{abs_of}
 use Rattle.float.specs.Literals.{ten_to_minus6, ten_to_minus9}
@@ -49,4 +49,4 @@ collinear_of s = cond (ltb (length s) 6) false (along (point_at s 0) (first_dist
 -- a list of odd length is refused
 unfoldable pub line_reply : List Float → Result Bool Refusal
 unfolding collinear_of
-line_reply s = cond (eqb (length s % 2) 0) (Ok (collinear_of s)) (Err BadLength)
+line_reply s = cond (eqb (length s % 2) 0) (Ok (collinear_of s)) (Err BadPoints)

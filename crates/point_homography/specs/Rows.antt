@@ -3,14 +3,14 @@ use Rattle.std.specs.Prelude.{ℕ, ◌*◌, Bool, not, List, [], ◌∷◌, ◌+
 use Rattle.std.specs.Float.Ieee.{neg}
 use Rattle.std.specs.List.{list_all}
 use Rattle.common.specs.declared.Refusal.{Refusal}
-use Rattle.common.specs.declared.Refusal.TheVariants.{BadLength, NoRoom, SourceNotFinite, DestinationNotFinite, TooFewPoints, CountsDiffer, SourceCollinear, DestinationCollinear}
+use Rattle.common.specs.declared.Refusal.TheVariants.{BadPoints, DestinationTooShort, SourceNotFinite, DestinationNotFinite, TooFewPoints, CountsDiffer, SourceCollinear, DestinationCollinear}
 use Rattle.common.specs.Checks.{Check, ◌when◌, first_refusal}
 use Rattle.float.specs.Binary64.{◌*₆₄◌}
 use Rattle.float.specs.Float.{is_finite}
 use Rattle.float.specs.Literals.{plus_zero, one₆₄}
 use Rattle.camera_models.specs.declared.math.Pt2.{Pt2}
 use Rattle.point_normalise.specs.declared.linalg.Similarity.{Similarity}
-use Rattle.point_normalise.specs.Points.{each_pair, bad_length}
+use Rattle.point_normalise.specs.Points.{each_pair, bad_points}
 use Rattle.point_normalise.specs.Linalg.{move_by, similarity_of}
 use Rattle.point_homography.specs.Line.{collinear_of}
 
@@ -61,8 +61,8 @@ design_rows ts td src dst = each_pair (moved_rows ts td) src dst
 
 -- ---- the refusals: a bad length of either list; less room than 18 numbers a source point; a number that isn't finite;
 -- fewer than 4 source points; counts that differ; collinear points
-abbrev pub place_conditions : List Float → List Float → List Check
-place_conditions src dst =
+abbrev pub point_conditions : List Float → List Float → List Check
+point_conditions src dst =
     (TooFewPoints when ltb (length src) 8)
     ∷ (CountsDiffer when not (eqb (length dst) (length src)))
     ∷ (SourceCollinear when collinear_of src)
@@ -71,12 +71,12 @@ place_conditions src dst =
 
 abbrev pub design_conditions : List Float → List Float → ℕ → List Check
 design_conditions src dst room =
-    (BadLength when bad_length (length src))
-    ∷ (BadLength when bad_length (length dst))
-    ∷ (NoRoom when ltb room (9 * length src))
+    (BadPoints when bad_points (length src))
+    ∷ (BadPoints when bad_points (length dst))
+    ∷ (DestinationTooShort when ltb room (9 * length src))
     ∷ (SourceNotFinite when not (all_finite src))
     ∷ (DestinationNotFinite when not (all_finite dst))
-    ∷ place_conditions src dst
+    ∷ point_conditions src dst
 
 abbrev pub rows_refusal : List Float → List Float → ℕ → Result ⊤ Refusal
 rows_refusal src dst room = first_refusal (design_conditions src dst room)

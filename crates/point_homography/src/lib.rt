@@ -8,7 +8,7 @@ ghost use Rattle.std.specs.Prelude.{◌≡◌, ◌*◌, ◌≤◌, [], ◌∷◌
 ghost use Rattle.std.proofs.lemmas.List.Edits.{sets};
 ghost use Rattle.common.specs.Checks.{first_refusal};
 ghost use Rattle.point_homography.specs.Line.{cross_of, off_line, first_distinct, any_off, collinear_of, line_reply};
-ghost use Rattle.point_homography.specs.Rows.{place_conditions, first_row, second_row, design_rows, rows_refusal, rows_reply, rows_into};
+ghost use Rattle.point_homography.specs.Rows.{point_conditions, first_row, second_row, design_rows, rows_refusal, rows_reply, rows_into};
 
 use camera_models::math::Pt2;
 use common::Refusal;
@@ -37,7 +37,7 @@ fn cross(p0: Pt2, p1: Pt2, p2: Pt2) -> f64
 }
 
 // Whether p2 is neither in the place of p0 nor on the line through p0 and p1.
-#[tactic(auto, using(crate::proofs::NearLine::near_line), unfolding(crate::specs::Line::off_line))]
+#[tactic(auto, using(crate::proofs::NearLine::small_square_is_near_line), unfolding(crate::specs::Line::off_line))]
 fn off_line(p0: Pt2, p1: Pt2, p2: Pt2) -> bool
     ensures { result ≡ off_line p0 p1 p2 }
 {
@@ -79,7 +79,7 @@ pub fn points_are_collinear(points: &[f64]) -> Result<bool, Refusal>
     ensures { result ≡ line_reply points.now }
 {
     if points.len() % 2 != 0 {
-        return Err(Refusal::BadLength);
+        return Err(Refusal::BadPoints);
     }
     Ok(collinear(points))
 }
@@ -121,8 +121,8 @@ impl<'a> Pairs<'a> {
     }
 
     // The refusals from too few points on.
-    fn check_places(self) -> Result<(), Refusal>
-        ensures { result ≡ first_refusal (place_conditions self.entry.src.now self.entry.dst.now) }
+    fn check_points(self) -> Result<(), Refusal>
+        ensures { result ≡ first_refusal (point_conditions self.entry.src.now self.entry.dst.now) }
     {
         if self.src.len() < 8 {
             return Err(Refusal::TooFewPoints);
@@ -143,11 +143,11 @@ impl<'a> Pairs<'a> {
     fn check(self, room: usize) -> Result<(), Refusal>
         ensures { result ≡ rows_refusal self.entry.src.now self.entry.dst.now room }
     {
-        if linalg::bad_length(self.src.len()) || linalg::bad_length(self.dst.len()) {
-            return Err(Refusal::BadLength);
+        if linalg::bad_points(self.src.len()) || linalg::bad_points(self.dst.len()) {
+            return Err(Refusal::BadPoints);
         }
         if room < 9 * self.src.len() {
-            return Err(Refusal::NoRoom);
+            return Err(Refusal::DestinationTooShort);
         }
         if !float::all_finite(self.src) {
             return Err(Refusal::SourceNotFinite);
@@ -155,7 +155,7 @@ impl<'a> Pairs<'a> {
         if !float::all_finite(self.dst) {
             return Err(Refusal::DestinationNotFinite);
         }
-        self.check_places()
+        self.check_points()
     }
 }
 

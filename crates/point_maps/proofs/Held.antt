@@ -9,8 +9,8 @@ use Rattle.float_laws.specs.OneTest.{lower_is_first, higher_is_first}
 use Rattle.point_maps.specs.declared.centre.Extent.{Extent}
 use Rattle.point_maps.specs.Centre.{widen}
 
-pub held : (e : Extent) (p : Pt2) → (le e.min_x p.x && le p.x e.max_x && le e.min_y p.y && le p.y e.max_y) ≡ true → e ≡ widen e p
-held e p h =
+pub pixel_inside_keeps_extent : (e : Extent) (p : Pt2) → (le e.min_x p.x && le p.x e.max_x && le e.min_y p.y && le p.y e.max_y) ≡ true → e ≡ widen e p
+pixel_inside_keeps_extent e p h =
     let a = both_true (le e.min_x p.x && le p.x e.max_x && le e.min_y p.y) (le p.y e.max_y) h in
     let b = both_true (le e.min_x p.x && le p.x e.max_x) (le e.min_y p.y) a.0 in
     let c = both_true (le e.min_x p.x) (le p.x e.max_x) b.0 in

@@ -5,5 +5,5 @@ use Rattle.point_normalise.specs.Points.{map_points}
 use Rattle.point_normalise.specs.Walk.{mapped_length}
 use Rattle.point_maps.specs.Maps.{written}
 
-pub written_whole : (f : Pt2 → Pt2) (s to : List Float) → length s % 2 ≡ 0 → map_points f s ++ drop (length (map_points f s)) to ≡ written f s to
-written_whole f s to h = ap (λ (n : ℕ). map_points f s ++ drop n to) (mapped_length f s ∙ omega (arith, h))
+pub even_list_written_whole : (f : Pt2 → Pt2) (s to : List Float) → length s % 2 ≡ 0 → map_points f s ++ drop (length (map_points f s)) to ≡ written f s to
+even_list_written_whole f s to h = ap (λ (n : ℕ). map_points f s ++ drop n to) (mapped_length f s ∙ omega (arith, h))

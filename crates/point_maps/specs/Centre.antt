@@ -2,7 +2,7 @@
 use Rattle.std.specs.Prelude.{◌%◌, Bool, ◌&&◌, cond, List, eqb, length, Result, Ok, Err, Float}
 use Rattle.std.specs.Float.Ieee.{neg, le}
 use Rattle.common.specs.declared.Refusal.{Refusal}
-use Rattle.common.specs.declared.Refusal.TheVariants.{BadLength}
+use Rattle.common.specs.declared.Refusal.TheVariants.{BadPoints}
 use Rattle.float.specs.Binary64.{◌+₆₄◌, ◌*₆₄◌}
 use Rattle.float.specs.Float.{is_finite, min_of, max_of}
 use Rattle.float.specs.Literals.{plus_zero, infinity, half₆₄}
@@ -31,8 +31,8 @@ finite_extent e = (is_finite e.min_x && is_finite e.min_y) && (is_finite e.max_x
 
 -- (0, 0) where no pixel is finite; half of the greatest coordinates where none is negative; else the middle of the
 -- range, in both coordinates.
-unfoldable pub center_of : Extent → Pt2
-center_of e =
+unfoldable pub centre_of : Extent → Pt2
+centre_of e =
     cond (finite_extent e)
     (cond (le plus_zero e.min_x && le plus_zero e.min_y)
     (record { x = half₆₄ *₆₄ e.max_x; y = half₆₄ *₆₄ e.max_y })
@@ -40,6 +40,6 @@ center_of e =
     (record { x = plus_zero; y = plus_zero })
 
 -- an odd length is refused
-unfoldable pub center_reply : List Float → Result Pt2 Refusal
-unfolding center_of extent_of
-center_reply s = cond (eqb (length s % 2) 0) (Ok (center_of (extent_of s))) (Err BadLength)
+unfoldable pub centre_reply : List Float → Result Pt2 Refusal
+unfolding centre_of extent_of
+centre_reply s = cond (eqb (length s % 2) 0) (Ok (centre_of (extent_of s))) (Err BadPoints)

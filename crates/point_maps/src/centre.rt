@@ -5,7 +5,7 @@ ghost use Rattle.std.specs.Float.Ieee.{le};
 ghost use Rattle.float.specs.Binary64.{◌+₆₄◌, ◌*₆₄◌};
 ghost use Rattle.float.specs.Float.{is_finite, min_of, max_of};
 ghost use Rattle.float.specs.Literals.{plus_zero, half₆₄};
-ghost use Rattle.point_maps.specs.Centre.{widen, extent_of, center_of, center_reply};
+ghost use Rattle.point_maps.specs.Centre.{widen, extent_of, centre_of, centre_reply};
 
 use camera_models::math::Pt2;
 use common::Refusal;
@@ -45,7 +45,7 @@ fn holds(e: Extent, p: Pt2) -> bool
 
 // The extent with one more pixel, if both of its coordinates are finite. Most pixels lie in the extent; testing for
 // that first avoids selections that wait for those of the pixel before.
-#[tactic(auto, using(crate::proofs::Held::held))]
+#[tactic(auto, using(crate::proofs::Held::pixel_inside_keeps_extent))]
 fn widened(e: Extent, p: Pt2) -> Extent
     ensures { result ≡ widen e p }
 {
@@ -94,9 +94,9 @@ fn middle(e: Extent) -> Pt2
 }
 
 // Half the greatest coordinates if none is negative, else the middle of the range.
-#[tactic(auto, unfolding(crate::specs::Centre::center_of))]
-fn center_of(e: Extent) -> Pt2
-    ensures { result ≡ center_of e }
+#[tactic(auto, unfolding(crate::specs::Centre::centre_of))]
+fn centre_of(e: Extent) -> Pt2
+    ensures { result ≡ centre_of e }
 {
     if float::all_finite(&[e.min_x, e.min_y, e.max_x, e.max_y]) {
         if none_negative(e) {
@@ -110,12 +110,12 @@ fn center_of(e: Extent) -> Pt2
     Pt2::default()
 }
 
-#[tactic(auto, unfolding(crate::specs::Centre::center_reply))]
+#[tactic(auto, unfolding(crate::specs::Centre::centre_reply))]
 pub fn observed_pixel_center(pixels: &[f64]) -> Result<Pt2, Refusal>
-    ensures { result ≡ center_reply pixels.now }
+    ensures { result ≡ centre_reply pixels.now }
 {
     if pixels.len() % 2 != 0 {
-        return Err(Refusal::BadLength);
+        return Err(Refusal::BadPoints);
     }
-    Ok(center_of(extent_of(pixels)))
+    Ok(centre_of(extent_of(pixels)))
 }

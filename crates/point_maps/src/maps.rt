@@ -34,7 +34,7 @@ fn without_tilt(k: FxFyCxCy, h_inv: [[f64; 3]; 3], pixel: Pt2) -> Pt2
 
 // The pixels of a sensor that is not tilted, each taken through `lens` on the way. Intrinsics, tilt, points and
 // destination are arguments of their own, here and below, since no struct of the crates below holds two of them.
-#[tactic(auto, using(crate::proofs::Whole::written_whole))]
+#[tactic(auto, using(crate::proofs::Whole::even_list_written_whole))]
 fn map_pixels<F: Fn(Pt2) -> Pt2>(
     k: FxFyCxCy,
     trig: TiltTrig,

@@ -4,7 +4,7 @@ use Rattle.std.specs.Prelude.{ℕ, Bool, ◌||◌, cond, List, [], ◌∷◌, �
 use Rattle.std.specs.Float.{binary64}
 use Rattle.std.specs.Float.Ieee.{of_bits, neg, le}
 use Rattle.common.specs.declared.Refusal.{Refusal}
-use Rattle.common.specs.declared.Refusal.TheVariants.{NoSpread}
+use Rattle.common.specs.declared.Refusal.TheVariants.{Coincident}
 use Rattle.common.specs.Checks.{◌when◌, first_refusal}
 use Rattle.float.specs.Binary64.{◌+₆₄◌, ◌-₆₄◌, ◌*₆₄◌, ◌/₆₄◌}
 use Rattle.float.specs.Literals.{plus_zero, two₆₄}
@@ -62,7 +62,7 @@ move_points t s = map_points (move_by t) s
 -- ---- what normalising refuses: a bad length; a destination with no room for the points; points with no spread
 unfoldable pub normalize_refusal : List Float → ℕ → Result ⊤ Refusal
 unfolding degenerate
-normalize_refusal s room = first_refusal (length_checks (length s) room ++ ((NoSpread when degenerate s) ∷ []))
+normalize_refusal s room = first_refusal (length_checks (length s) room ++ ((Coincident when degenerate s) ∷ []))
 
 -- the matrix (scale, 0, -scale cx; 0, scale, -scale cy; 0, 0, 1)
 abbrev pub transform_of : Similarity → Transform

@@ -2,7 +2,7 @@
 use Rattle.std.specs.Prelude.{ℕ, ◌+◌, ◌/◌, ◌%◌, Bool, not, ◌||◌, cond, List, [], ◌∷◌, ◌++◌, eqb, ltb, pos, length, get_or, Float}
 use Rattle.std.specs.Float.{nan, binary64}
 use Rattle.std.specs.Float.Ieee.{of_int}
-use Rattle.common.specs.declared.Refusal.TheVariants.{BadLength, NoRoom}
+use Rattle.common.specs.declared.Refusal.TheVariants.{BadPoints, DestinationTooShort}
 use Rattle.common.specs.Checks.{Check, ◌when◌}
 use Rattle.float.specs.Binary64.{◌+₆₄◌, ◌-₆₄◌, ◌*₆₄◌}
 use Rattle.root.specs.Root.{root}
@@ -56,14 +56,14 @@ abbrev pub count_of : List Float → Float
 count_of s = of_int binary64 (pos (length s / 2))
 
 -- an odd length, or more than 400 points
-abbrev pub bad_length : ℕ → Bool
-bad_length n = not (eqb (n % 2) 0) || ltb 800 n
+abbrev pub bad_points : ℕ → Bool
+bad_points n = not (eqb (n % 2) 0) || ltb 800 n
 
 -- refused first: such a length; then: room for fewer numbers
 abbrev pub length_checks : ℕ → ℕ → List Check
 length_checks numbers room =
-    (BadLength when bad_length numbers)
-    ∷ (NoRoom when ltb room numbers)
+    (BadPoints when bad_points numbers)
+    ∷ (DestinationTooShort when ltb room numbers)
     ∷ []
 
 -- dx × dx + dy × dy, and its root

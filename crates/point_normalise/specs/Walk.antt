@@ -22,14 +22,14 @@ none_left : (s : List Float) (i : ℕ) → length s ≤ i + 1 → length (drop i
 none_left s i h = rw (length-drop i s) (omega arith)
 
 -- a property of lists of no number and of one number holds of every list of at most one
-at_most_one : (P : List Float → Type 0) → P [] → ((x : Float) → P (x ∷ [])) → (s : List Float) → length s ≤ 1 → P s
-at_most_one P none one [] h = none
-at_most_one P none one (x ∷ []) h = one x
-at_most_one P none one (x ∷ y ∷ s) h = absurd (omega arith)
+property_of_at_most_one : (P : List Float → Type 0) → P [] → ((x : Float) → P (x ∷ [])) → (s : List Float) → length s ≤ 1 → P s
+property_of_at_most_one P none one [] h = none
+property_of_at_most_one P none one (x ∷ []) h = one x
+property_of_at_most_one P none one (x ∷ y ∷ s) h = absurd (omega arith)
 
 -- ---- each_point
-one_more : (n k : ℕ) → k + n / 2 * k ≡ suc (suc n) / 2 * k
-one_more n k = let h : suc (suc n) / 2 ≡ suc (n / 2) = omega arith in rw h (sym (suc-mul (n / 2) k ∙ add_comm (n / 2 * k) k))
+numbers_of_one_more_point : (n k : ℕ) → k + n / 2 * k ≡ suc (suc n) / 2 * k
+numbers_of_one_more_point n k = let h : suc (suc n) / 2 ≡ suc (n / 2) = omega arith in rw h (sym (suc-mul (n / 2) k ∙ add_comm (n / 2 * k) k))
 
 module _ (f : Pt2 → List Float) where
   -- one point further
@@ -39,7 +39,7 @@ module _ (f : Pt2 → List Float) where
 
   pub each_none : (s : List Float) → length s ≤ 1 → each_point f s ≡ []
   unfolding each_point
-  each_none = at_most_one (λ s. each_point f s ≡ []) refl (λ x. refl)
+  each_none = property_of_at_most_one (λ s. each_point f s ≡ []) refl (λ x. refl)
 
   pub each_end : (s : List Float) (i : ℕ) → length s ≤ i + 1 → each_point f (drop i s) ≡ []
   each_end s i h = each_none (drop i s) (none_left s i h)
@@ -51,7 +51,7 @@ module _ (f : Pt2 → List Float) where
   each_length k e (x ∷ []) = sym (zero-mul k)
   each_length k e (x ∷ y ∷ s) =
       let q : Pt2 = record { x = x; y = y } in
-      length-append (f q) (each_point f s) ∙ rw (e q, each_length k e s) (one_more (length s) k)
+      length-append (f q) (each_point f s) ∙ rw (e q, each_length k e s) (numbers_of_one_more_point (length s) k)
 
 -- two numbers for each point
 pub mapped_length : (f : Pt2 → Pt2) (s : List Float) → length (map_points f s) ≡ length s / 2 * 2
@@ -66,7 +66,7 @@ module _ (f : Pt2 → Pt2 → List Float) where
 
   pub no_pair : (s d : List Float) → length s ≤ 1 → each_pair f s d ≡ []
   unfolding each_pair
-  no_pair s d = at_most_one (λ l. each_pair f l d ≡ []) refl (λ x. refl) s
+  no_pair s d = property_of_at_most_one (λ l. each_pair f l d ≡ []) refl (λ x. refl) s
 
   -- k numbers for each pair
   pub pair_length : (k : ℕ) → ((p q : Pt2) → length (f p q) ≡ k) → (s d : List Float) → length d ≡ length s → length (each_pair f s d) ≡ length s / 2 * k
@@ -79,7 +79,7 @@ module _ (f : Pt2 → Pt2 → List Float) where
       let p : Pt2 = record { x = x; y = y } in
       let q : Pt2 = record { x = u; y = v } in
       let n : length d ≡ length s = omega arith in
-      length-append (f p q) (each_pair f s d) ∙ rw (e p q, pair_length k e s d n) (one_more (length s) k)
+      length-append (f p q) (each_pair f s d) ∙ rw (e p q, pair_length k e s d n) (numbers_of_one_more_point (length s) k)
 
 -- ---- numbers written one after the other
 pub sets_two : (d : List Float) (i : ℕ) (a b : Float) (w : List Float) → sets (set (set d i a) (i + 1) b) (i + 2) w ≡ sets d i (a ∷ b ∷ w)

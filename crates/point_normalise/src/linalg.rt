@@ -3,7 +3,7 @@
 ghost use Rattle.std.specs.Prelude.{◌≡◌, ◌++◌, ◌+◌, ◌<◌, ◌≤◌, length, drop};
 ghost use Rattle.camera_models.specs.declared.math.Pt2.{Pt2};
 ghost use Rattle.common.specs.Checks.{first_refusal};
-ghost use Rattle.point_normalise.specs.Points.{bad_length, length_checks, point_at, map_points, squared_distance, distance_of};
+ghost use Rattle.point_normalise.specs.Points.{bad_points, length_checks, point_at, map_points, squared_distance, distance_of};
 ghost use Rattle.point_normalise.specs.Linalg.{centroid_of, mean_distance, scaled_to, similarity_of, hartley_of, move_by, transform_of, normalize_reply, normalize_into};
 
 use camera_models::math::Pt2;
@@ -41,8 +41,8 @@ impl From<Similarity> for Transform {
 
 // Whether n numbers are no list of points, or one of more than 400. Of the lists only the lengths matter, here and in
 // `check_lengths`.
-pub fn bad_length(n: usize) -> bool
-    ensures { result ≡ bad_length n }
+pub fn bad_points(n: usize) -> bool
+    ensures { result ≡ bad_points n }
 {
     n % 2 != 0 || n > 800
 }
@@ -51,11 +51,11 @@ pub fn bad_length(n: usize) -> bool
 pub fn check_lengths(numbers: usize, room: usize) -> Result<(), Refusal>
     ensures { result ≡ first_refusal (length_checks numbers room) }
 {
-    if bad_length(numbers) {
-        return Err(Refusal::BadLength);
+    if bad_points(numbers) {
+        return Err(Refusal::BadPoints);
     }
     if room < numbers {
-        return Err(Refusal::NoRoom);
+        return Err(Refusal::DestinationTooShort);
     }
     Ok(())
 }
@@ -180,7 +180,7 @@ pub fn normalize_points_2d(points: &[f64], dst: &mut [f64]) -> Result<Transform,
     ensures written { dst.new ≡ normalize_into points.now dst.old }
 {
     check_lengths(points.len(), dst.len())?;
-    let t = hartley(points).ok_or(Refusal::NoSpread)?;
+    let t = hartley(points).ok_or(Refusal::Coincident)?;
     map_points(|p| moved(t, p), points, dst);
     Ok(Transform::from(t))
 }

@@ -46,9 +46,9 @@ infinity_not_below = refl
 -- ---- a rounded root of whole numbers: no NaN, no sign
 
 -- a property of +infinity and of every fin false m e holds of each such root
-plus : (P : Float → Type 0) → P (inf false) → ((m : ℕ) (e : ℤ) → P (fin false m e)) → (f : Format) (n : ℕ) → P (root_of f n)
+property_of_root_of : (P : Float → Type 0) → P (inf false) → ((m : ℕ) (e : ℤ) → P (fin false m e)) → (f : Format) (n : ℕ) → P (root_of f n)
 unfolding root_of units odd
-plus P i g f n = go (ltb (rounded f n * 2 ^ dropped f n) (2 ^ (low f + suc (emax f)))) (rounded f n)
+property_of_root_of P i g f n = go (ltb (rounded f n * 2 ^ dropped f n) (2 ^ (low f + suc (emax f)))) (rounded f n)
   where
     go : (b : Bool) (q : ℕ) → P (cond b (odd (suc (prec f)) false q (dropped f n) (low f)) (inf false))
     go true zero = g _ _
@@ -74,7 +74,7 @@ root_not_below f (inf true) = refl
 root_not_below f (inf false) = infinity_not_below
 root_not_below f (fin s zero e) = zero_not_below s e
 root_not_below f (fin true (suc m) e) = refl
-root_not_below f (fin false (suc m) e) = plus (λ (y : Float). lt y plus_zero ≡ false) infinity_not_below plus_not_below f (radicand f (suc m) e)
+root_not_below f (fin false (suc m) e) = property_of_root_of (λ (y : Float). lt y plus_zero ≡ false) infinity_not_below plus_not_below f (radicand f (suc m) e)
 
 -- and none has a minus sign where the number has none
 pub sign_root : (f : Format) (x : Float) → sign_bit x ≡ false → sign_bit (root f x) ≡ false
@@ -84,7 +84,7 @@ sign_root f (inf true) h = absurd (true≢false h)
 sign_root f (inf false) h = refl
 sign_root f (fin s zero e) h = h
 sign_root f (fin true (suc m) e) h = absurd (true≢false h)
-sign_root f (fin false (suc m) e) h = plus (λ (y : Float). sign_bit y ≡ false) refl (λ q d. refl) f (radicand f (suc m) e)
+sign_root f (fin false (suc m) e) h = property_of_root_of (λ (y : Float). sign_bit y ≡ false) refl (λ q d. refl) f (radicand f (suc m) e)
 
 -- the root is NaN exactly for NaN and below zero
 pub root_is_nan : (f : Format) (x : Float) → is_nan (root f x) ≡ (is_nan x || lt x plus_zero)
@@ -94,7 +94,7 @@ root_is_nan f (inf true) = refl
 root_is_nan f (inf false) = refl
 root_is_nan f (fin s zero e) = sym (zero_not_below s e)
 root_is_nan f (fin true (suc m) e) = sym (minus_below m e)
-root_is_nan f (fin false (suc m) e) = plus (λ (y : Float). is_nan y ≡ false) refl (λ q d. refl) f (radicand f (suc m) e) ∙ sym (plus_not_below (suc m) e)
+root_is_nan f (fin false (suc m) e) = property_of_root_of (λ (y : Float). is_nan y ≡ false) refl (λ q d. refl) f (radicand f (suc m) e) ∙ sym (plus_not_below (suc m) e)
 
 -- of a value of the format: the root is finite exactly where that is, and not below zero
 pub root_is_finite : (f : Format) (x : Float) → T (fits f x) → is_finite (root f x) ≡ (is_finite x && not (lt x plus_zero))

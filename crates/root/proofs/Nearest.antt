@@ -15,28 +15,28 @@ use Rattle.std.specs.Float.Ieee.Exact.{HasValue, units_val}
 use Rattle.std.specs.Float.Ieee.Scale.{finite}
 use Rattle.std.specs.Float.Ieee.Nearest.{nearest-ge}
 use Rattle.std.specs.Float.Ieee.Positive.{num, den, den_pos, positive, value→cross, positive_of_value}
-use Rattle.float.specs.Exact.{power_le}
+use Rattle.float.specs.Exact.{exponent_le_of_power_le}
 use Rattle.root.specs.Root.{isqrt, dropped, kept, middle, rounded, radicand, root_of, root}
 use Rattle.root.specs.Nearer.{Nearer}
-use Rattle.root.specs.IntegerRoot.{isqrt_is, isqrt_ge, square_lt_back, square_mono}
+use Rattle.root.specs.IntegerRoot.{isqrt_is_root, isqrt_ge, square_lt_back, square_mono}
 use Rattle.root.specs.ByValue.{root_value, value_unique}
-use Rattle.root.proofs.NearestWhole.{nearest_one, no_tie}
+use Rattle.root.proofs.NearestWhole.{rounded_strictly_nearest, no_tie}
 use Rattle.root.proofs.Squares.{root_of_square}
 
 -- ---- a value that fits, in units of the format's smallest value
-pub place : (l : ℕ) (m : ℕ) (e : ℤ) → down e ≤ 2 ^ l → (j : ℕ) × (m * up e * 2 ^ l ≡ m * 2 ^ j * down e)
-place l m (pos a) h = (a + l, mul_assoc m (2 ^ a) (2 ^ l) ∙ ap (λ (x : ℕ). m * x) (sym (pow-add 2 a l)) ∙ sym (mul-one (m * 2 ^ (a + l))))
-place l m (negsuc a) h =
-    let g : suc a ≤ l = power_le (suc a) l h in
+pub placed_in_smallest_units : (l : ℕ) (m : ℕ) (e : ℤ) → down e ≤ 2 ^ l → (j : ℕ) × (m * up e * 2 ^ l ≡ m * 2 ^ j * down e)
+placed_in_smallest_units l m (pos a) h = (a + l, mul_assoc m (2 ^ a) (2 ^ l) ∙ ap (λ (x : ℕ). m * x) (sym (pow-add 2 a l)) ∙ sym (mul-one (m * 2 ^ (a + l))))
+placed_in_smallest_units l m (negsuc a) h =
+    let g : suc a ≤ l = exponent_le_of_power_le (suc a) l h in
     (l - suc a, ap (λ (x : ℕ). x * 2 ^ l) (mul-one m) ∙ ap (λ (x : ℕ). m * 2 ^ x) (sym (sub-add_cancel g)) ∙ ap (λ (x : ℕ). m * x) (pow-add 2 (l - suc a) (suc a)) ∙ sym (mul_assoc m (2 ^ (l - suc a)) (2 ^ suc a)))
 
 -- its digits, below 2 ^ prec, and their place; it is below the format's end
 abbrev pub InUnits : Format → ℕ → ℤ → Type 0
 InUnits f m e = (m < 2 ^ prec f) × (down e ≤ 2 ^ low f) × (m * up e < 2 ^ suc (emax f) * down e)
 
-pub in_units : (f : Format) (s : Bool) (m : ℕ) (e : ℤ) → T (fits f (fin s (suc m) e)) → InUnits f (suc m) e
+pub fitting_digits_in_units : (f : Format) (s : Bool) (m : ℕ) (e : ℤ) → T (fits f (fin s (suc m) e)) → InUnits f (suc m) e
 unfolding fits
-in_units f s m e h =
+fitting_digits_in_units f s m e h =
     let A = eqb (suc m % 2) 1 in
     let B = ltb (suc m) (2 ^ prec f) in
     let C = leb (down e) (2 ^ low f) in
@@ -50,11 +50,11 @@ in_units f s m e h =
 abbrev Placed : Format → Float → Type 0
 Placed f x = (c : ℕ) × (j : ℕ) × (c < 2 ^ prec f) × HasValue x false (c * 2 ^ j) (2 ^ low f)
 
-placed : (f : Format) (m : ℕ) (e : ℤ) → T (fits f (fin false m e)) → Placed f (fin false m e)
-placed f zero e h = (zero, zero, pow_pos (prec f), (refl, mul_assoc 0 (up e) (2 ^ low f) ∙ zero-mul (up e * 2 ^ low f) ∙ sym (mul_assoc 0 1 (down e) ∙ zero-mul (1 * down e))))
-placed f (suc m) e h =
-    let i = in_units f false m e h in
-    let p = place (low f) (suc m) e i.1 in
+fitting_value_placed : (f : Format) (m : ℕ) (e : ℤ) → T (fits f (fin false m e)) → Placed f (fin false m e)
+fitting_value_placed f zero e h = (zero, zero, pow_pos (prec f), (refl, mul_assoc 0 (up e) (2 ^ low f) ∙ zero-mul (up e * 2 ^ low f) ∙ sym (mul_assoc 0 1 (down e) ∙ zero-mul (1 * down e))))
+fitting_value_placed f (suc m) e h =
+    let i = fitting_digits_in_units f false m e h in
+    let p = placed_in_smallest_units (low f) (suc m) e i.1 in
     (suc m, p.0, i.0, (refl, p.1))
 
 -- ---- the root of z * 2 ^ (j + low), of a value z * 2 ^ j above zero and below 2 ^ (emax + 1)
@@ -62,55 +62,55 @@ module _ (f : Format) (P : 2 ≤ prec f) (E : 1 ≤ emax f) (L : 0 < low f) (z j
   abbrev n : ℕ
   n = z * 2 ^ (j + low f)
 
-  n_is : z * 2 ^ j * 2 ^ low f ≡ n
-  n_is = mul_assoc z (2 ^ j) (2 ^ low f) ∙ ap (λ (x : ℕ). z * x) (sym (pow-add 2 j (low f)))
+  radicand_in_units : z * 2 ^ j * 2 ^ low f ≡ n
+  radicand_in_units = mul_assoc z (2 ^ j) (2 ^ low f) ∙ ap (λ (x : ℕ). z * x) (sym (pow-add 2 j (low f)))
 
-  root_of_is : root_of f n ≡ units f false (rounded f n) (dropped f n)
+  root_of_unfolded : root_of f n ≡ units f false (rounded f n) (dropped f n)
   unfolding root_of
-  root_of_is = refl
+  root_of_unfolded = refl
 
   n_pos : 0 < n
   n_pos = mul-pos Z0 (pow_pos (j + low f))
 
-  u_le : 2 ^ dropped f n ≤ isqrt n
-  u_le = ⊎_elim (λ (e : dropped f n ≡ 0). subst (λ (x : ℕ). 2 ^ x ≤ isqrt n) (sym e) (isqrt_ge n 1 n_pos))
+  dropped_unit_at_most_root : 2 ^ dropped f n ≤ isqrt n
+  dropped_unit_at_most_root = ⊎_elim (λ (e : dropped f n ≡ 0). subst (λ (x : ℕ). 2 ^ x ≤ isqrt n) (sym e) (isqrt_ge n 1 n_pos))
       (λ (h : 0 < dropped f n). size_reaches (isqrt n) (dropped f n) (omega arith)) (eq-zero-or-pos (dropped f n))
 
-  rounded_pos : 0 < rounded f n * 2 ^ dropped f n
-  rounded_pos =
-      mul-pos (lt_of_lt_of_le ((le-div_iff_mul-le (pow_pos (dropped f n))).1 (le_trans (le_of_eq (one-mul (2 ^ dropped f n))) u_le)) (nearest-ge (kept f n) (compare (4 * n) (middle f n * middle f n))))
+  rounded_root_positive : 0 < rounded f n * 2 ^ dropped f n
+  rounded_root_positive =
+      mul-pos (lt_of_lt_of_le ((le-div_iff_mul-le (pow_pos (dropped f n))).1 (le_trans (le_of_eq (one-mul (2 ^ dropped f n))) dropped_unit_at_most_root)) (nearest-ge (kept f n) (compare (4 * n) (middle f n * middle f n))))
       (pow_pos (dropped f n))
 
   -- the result is at most 2 * w, whose square is at most 4 * n
-  result_lt : rounded f n * 2 ^ dropped f n < 2 ^ (low f + suc (emax f))
-  result_lt =
+  rounded_root_below_end : rounded f n * 2 ^ dropped f n < 2 ^ (low f + suc (emax f))
+  rounded_root_below_end =
       let w = isqrt n in
       let u = 2 ^ dropped f n in
       let a : rounded f n * u ≤ suc (kept f n) * u = mul-le-mul_right u (nearest-le (kept f n) (compare (4 * n) ((2 * kept f n + 1) * u * ((2 * kept f n + 1) * u)))) in
       let b : kept f n * u ≤ w = div-mul-le_self w u in
-      let c : suc (kept f n) * u ≤ 2 * w = omega (arith, u_le, mul_comm u (kept f n)) in
+      let c : suc (kept f n) * u ≤ 2 * w = omega (arith, dropped_unit_at_most_root, mul_comm u (kept f n)) in
       let M = low f + suc (emax f) in
-      let d : 4 * n < 4 * (2 ^ M * 2 ^ low f) = mul-lt-mul_of_pos_left (lt_of_le_of_lt (le_of_eq (sym n_is)) (mul-lt-mul_of_pos_right small (pow_pos (low f)))) (omega arith) in
+      let d : 4 * n < 4 * (2 ^ M * 2 ^ low f) = mul-lt-mul_of_pos_left (lt_of_le_of_lt (le_of_eq (sym radicand_in_units)) (mul-lt-mul_of_pos_right small (pow_pos (low f)))) (omega arith) in
       let g : 4 * (2 ^ M * 2 ^ low f) ≤ 2 ^ M * 2 ^ M =
       le_trans (le_of_eq (ap (λ (x : ℕ). 4 * x) (sym (pow-add 2 M (low f))) ∙ sym (pow-add 2 2 (M + low f)))) (le_trans (pow_mono {i = 2 + (M + low f)} {j = M + M} (omega arith)) (le_of_eq (pow-add 2 M M))) in
-      lt_of_le_of_lt (le_trans a c) (square_lt_back (2 * w) (2 ^ M) (lt_of_lt_of_le (lt_of_le_of_lt (omega (arith, (isqrt_is n).0)) d) g))
+      lt_of_le_of_lt (le_trans a c) (square_lt_back (2 * w) (2 ^ M) (lt_of_lt_of_le (lt_of_le_of_lt (omega (arith, (isqrt_is_root n).0)) d) g))
 
-  root_val : (x : Float) → HasValue x false (z * 2 ^ j) (2 ^ low f) → HasValue (root f x) false (rounded f n * 2 ^ dropped f n) (2 ^ low f)
-  root_val x h =
+  root_value_in_units : (x : Float) → HasValue x false (z * 2 ^ j) (2 ^ low f) → HasValue (root f x) false (rounded f n * 2 ^ dropped f n) (2 ^ low f)
+  root_value_in_units x h =
       subst (λ (y : Float). HasValue y false (rounded f n * 2 ^ dropped f n) (2 ^ low f))
-      (sym (root_value f x (z * 2 ^ j) h (mul-pos Z0 (pow_pos j)) ∙ ap (root_of f) n_is ∙ root_of_is))
-      (units_val f false (rounded f n) (dropped f n) result_lt)
+      (sym (root_value f x (z * 2 ^ j) h (mul-pos Z0 (pow_pos j)) ∙ ap (root_of f) radicand_in_units ∙ root_of_unfolded))
+      (units_val f false (rounded f n) (dropped f n) rounded_root_below_end)
 
 -- ---- from units of the smallest value to fractions
-lt_values : (x y : Float) (a b c : ℕ) → 0 < c → HasValue x false a c → HasValue y false b c → T (lt x y) → a < b
+lt_of_values_in_units : (x y : Float) (a b c : ℕ) → 0 < c → HasValue x false a c → HasValue y false b c → T (lt x y) → a < b
 unfolding lt
-lt_values nan y a b c C p q h = absurd p
-lt_values (inf s) y a b c C p q h = absurd p
-lt_values (fin true m e) y a b c C p q h = absurd (true≢false p.0)
-lt_values (fin false m e) nan a b c C p q h = absurd q
-lt_values (fin false m e) (inf s) a b c C p q h = absurd q
-lt_values (fin false m e) (fin true n d) a b c C p q h = absurd (true≢false q.0)
-lt_values (fin false m e) (fin false n d) a b c C p q h =
+lt_of_values_in_units nan y a b c C p q h = absurd p
+lt_of_values_in_units (inf s) y a b c C p q h = absurd p
+lt_of_values_in_units (fin true m e) y a b c C p q h = absurd (true≢false p.0)
+lt_of_values_in_units (fin false m e) nan a b c C p q h = absurd q
+lt_of_values_in_units (fin false m e) (inf s) a b c C p q h = absurd q
+lt_of_values_in_units (fin false m e) (fin true n d) a b c C p q h = absurd (true≢false q.0)
+lt_of_values_in_units (fin false m e) (fin false n d) a b c C p q h =
     lt_of_mul-lt-mul_right (down e * down d)
     (lt_of_le_of_lt (le_of_eq (sym (mul_assoc a (down e) (down d)) ∙ ap (λ (z : ℕ). z * down d) (sym p.1) ∙ mul_right_comm (m * up e) c (down d)))
     (lt_of_lt_of_le (mul-lt-mul_of_pos_right (ltb→lt (m * up e * down d) (n * up d * down e) h) C)
@@ -124,28 +124,28 @@ module _ (X dx R' dr Y' dy a r y l : ℕ) (L : 0 < l) (DX : 0 < dx) (DR : 0 < dr
   abbrev D : ℕ
   D = dr * dy
 
-  sum_is : S * l ≡ (r + y) * D
-  sum_is =
+  sum_over_common_denominator : S * l ≡ (r + y) * D
+  sum_over_common_denominator =
       add-mul (R' * dy) (Y' * dr) l
       ∙ ap (λ (z : ℕ). z + Y' * dr * l) (mul_right_comm R' dy l ∙ ap (λ (z : ℕ). z * dy) er ∙ mul_assoc r dr dy)
       ∙ ap (λ (z : ℕ). r * D + z) (mul_right_comm Y' dr l ∙ ap (λ (z : ℕ). z * dr) ey ∙ mul_assoc y dy dr ∙ ap (λ (z : ℕ). y * z) (mul_comm dy dr))
       ∙ sym (add-mul r y D)
 
-  left : 4 * X * (D * D) * (l * l) ≡ 4 * (a * l) * (D * D * dx)
-  left = simp (mul_assoc, mul_comm, mul_left_comm) (simp (mul_assoc, mul_comm, mul_left_comm) at (ap (λ (z : ℕ). 4 * z * (D * D) * l) ex))
+  left_square_in_units : 4 * X * (D * D) * (l * l) ≡ 4 * (a * l) * (D * D * dx)
+  left_square_in_units = simp (mul_assoc, mul_comm, mul_left_comm) (simp (mul_assoc, mul_comm, mul_left_comm) at (ap (λ (z : ℕ). 4 * z * (D * D) * l) ex))
 
-  right : S * S * dx * (l * l) ≡ (r + y) * (r + y) * (D * D * dx)
-  right =
-      mul_right_comm (S * S) dx (l * l) ∙ ap (λ (z : ℕ). z * dx) (mul-mul-mul_comm S S l l ∙ ap (λ (z : ℕ). z * z) sum_is ∙ mul-mul-mul_comm (r + y) D (r + y) D) ∙ mul_assoc ((r + y) * (r + y)) (D * D) dx
+  right_square_in_units : S * S * dx * (l * l) ≡ (r + y) * (r + y) * (D * D * dx)
+  right_square_in_units =
+      mul_right_comm (S * S) dx (l * l) ∙ ap (λ (z : ℕ). z * dx) (mul-mul-mul_comm S S l l ∙ ap (λ (z : ℕ). z * z) sum_over_common_denominator ∙ mul-mul-mul_comm (r + y) D (r + y) D) ∙ mul_assoc ((r + y) * (r + y)) (D * D) dx
 
   pos_scale : 0 < D * D * dx
   pos_scale = mul-pos (mul-pos (mul-pos DR DY) (mul-pos DR DY)) DX
 
-  to_below : 4 * (a * l) < (r + y) * (r + y) → 4 * X * (D * D) < S * S * dx
-  to_below h = lt_of_mul-lt-mul_right (l * l) (lt_of_le_of_lt (le_of_eq left) (lt_of_lt_of_le (mul-lt-mul_of_pos_right h pos_scale) (le_of_eq (sym right))))
+  below_middle_as_fractions : 4 * (a * l) < (r + y) * (r + y) → 4 * X * (D * D) < S * S * dx
+  below_middle_as_fractions h = lt_of_mul-lt-mul_right (l * l) (lt_of_le_of_lt (le_of_eq left_square_in_units) (lt_of_lt_of_le (mul-lt-mul_of_pos_right h pos_scale) (le_of_eq (sym right_square_in_units))))
 
-  to_above : (r + y) * (r + y) < 4 * (a * l) → S * S * dx < 4 * X * (D * D)
-  to_above h = lt_of_mul-lt-mul_right (l * l) (lt_of_le_of_lt (le_of_eq right) (lt_of_lt_of_le (mul-lt-mul_of_pos_right h pos_scale) (le_of_eq (sym left))))
+  above_middle_as_fractions : (r + y) * (r + y) < 4 * (a * l) → S * S * dx < 4 * X * (D * D)
+  above_middle_as_fractions h = lt_of_mul-lt-mul_right (l * l) (lt_of_le_of_lt (le_of_eq right_square_in_units) (lt_of_lt_of_le (mul-lt-mul_of_pos_right h pos_scale) (le_of_eq (sym left_square_in_units))))
 
 -- ---- a value above zero, in units of the smallest value, is below the format's end
 
@@ -157,8 +157,8 @@ low_pos : (f : Format) → 0 < low f
 low_pos binary32 = lit≤ tt
 low_pos binary64 = lit≤ tt
 
-small_of : (f : Format) (m : ℕ) (e : ℤ) (j : ℕ) → m * up e < 2 ^ suc (emax f) * down e → m * up e * 2 ^ low f ≡ m * 2 ^ j * down e → m * 2 ^ j < 2 ^ (low f + suc (emax f))
-small_of f m e j h p =
+value_below_format_end : (f : Format) (m : ℕ) (e : ℤ) (j : ℕ) → m * up e < 2 ^ suc (emax f) * down e → m * up e * 2 ^ low f ≡ m * 2 ^ j * down e → m * 2 ^ j < 2 ^ (low f + suc (emax f))
+value_below_format_end f m e j h p =
     lt_of_mul-lt-mul_right (down e)
     (lt_of_le_of_lt (le_of_eq (sym p))
     (lt_of_lt_of_le (mul-lt-mul_of_pos_right h (pow_pos (low f)))
@@ -230,16 +230,16 @@ module _ (f : Format) (z : ℕ) (a : ℤ) (h : T (fits f (fin false (suc z) a)))
   r = root f x
 
   abbrev inside : InUnits f (suc z) a
-  inside = in_units f false z a h
+  inside = fitting_digits_in_units f false z a h
 
   abbrev at : (j : ℕ) × (suc z * up a * 2 ^ low f ≡ suc z * 2 ^ j * down a)
-  at = place (low f) (suc z) a inside.1
+  at = placed_in_smallest_units (low f) (suc z) a inside.1
 
   abbrev j : ℕ
   j = at.0
 
   abbrev small : suc z * 2 ^ j < 2 ^ (low f + suc (emax f))
-  small = small_of f (suc z) a j inside.2 at.1
+  small = value_below_format_end f (suc z) a j inside.2 at.1
 
   -- the number under the root, and the root, in units of the smallest value
   abbrev N : ℕ
@@ -249,68 +249,68 @@ module _ (f : Format) (z : ℕ) (a : ℤ) (h : T (fits f (fin false (suc z) a)))
   R = rounded f N * 2 ^ dropped f N
 
   N-is : suc z * 2 ^ j * 2 ^ low f ≡ N
-  N-is = n_is f (two f) (emax_pos f) (low_pos f) (suc z) j inside.0 (zero-lt-suc z) small
+  N-is = radicand_in_units f (two f) (emax_pos f) (low_pos f) (suc z) j inside.0 (zero-lt-suc z) small
 
   radicand_is : radicand f (suc z) a ≡ N
   radicand_is = ap (λ (q : ℕ). q * 2 ^ low f) (ap (λ (q : ℕ). q / down a) at.1 ∙ mul-div_cancel (suc z * 2 ^ j) (down_pos a)) ∙ N-is
 
   r_value : HasValue r false R (2 ^ low f)
-  r_value = root_val f (two f) (emax_pos f) (low_pos f) (suc z) j inside.0 (zero-lt-suc z) small x (refl, at.1)
+  r_value = root_value_in_units f (two f) (emax_pos f) (low_pos f) (suc z) j inside.0 (zero-lt-suc z) small x (refl, at.1)
 
   r_pos : 0 < R
-  r_pos = rounded_pos f (two f) (emax_pos f) (low_pos f) (suc z) j inside.0 (zero-lt-suc z) small
+  r_pos = rounded_root_positive f (two f) (emax_pos f) (low_pos f) (suc z) j inside.0 (zero-lt-suc z) small
 
   -- no number c * 2 ^ i of the format's digits is as near to √N as R is
-  near : (c i : ℕ) → c < 2 ^ prec f → (R < c * 2 ^ i → 4 * N < (R + c * 2 ^ i) * (R + c * 2 ^ i)) × (c * 2 ^ i < R → (R + c * 2 ^ i) * (R + c * 2 ^ i) < 4 * N)
-  near c i C = nearest_one f (two f) (suc z) (j + low f) inside.0 (omega (arith, low_pos f)) c i C
+  root_strictly_nearest : (c i : ℕ) → c < 2 ^ prec f → (R < c * 2 ^ i → 4 * N < (R + c * 2 ^ i) * (R + c * 2 ^ i)) × (c * 2 ^ i < R → (R + c * 2 ^ i) * (R + c * 2 ^ i) < 4 * N)
+  root_strictly_nearest c i C = rounded_strictly_nearest f (two f) (suc z) (j + low f) inside.0 (omega (arith, low_pos f)) c i C
 
-  never_middle : 4 * N ≡ middle f N * middle f N → ⊥
-  never_middle = no_tie f (two f) (suc z) (j + low f) inside.0 (omega (arith, low_pos f))
+  root_never_in_middle : 4 * N ≡ middle f N * middle f N → ⊥
+  root_never_in_middle = no_tie f (two f) (suc z) (j + low f) inside.0 (omega (arith, low_pos f))
 
-  r_cross : num r * 2 ^ low f ≡ R * den r
-  r_cross = value→cross r R (2 ^ low f) r_value
+  root_cross_product : num r * 2 ^ low f ≡ R * den r
+  root_cross_product = value→cross r R (2 ^ low f) r_value
 
-  nearest_plus : (m : ℕ) (e : ℤ) → T (fits f (fin false m e)) → Nearer x r (fin false m e)
-  nearest_plus m e g =
-      let y = placed f m e g in
+  nearer_than_plus : (m : ℕ) (e : ℤ) → T (fits f (fin false m e)) → Nearer x r (fin false m e)
+  nearer_than_plus m e g =
+      let y = fitting_value_placed f m e g in
       let Y = y.0 * 2 ^ y.1 in
       record {
         below = λ t.
-            to_below (suc z * up a) (down a) (num r) (den r) (m * up e) (down e) (suc z * 2 ^ j) R Y (2 ^ low f) (pow_pos (low f)) (down_pos a) (den_pos r) (down_pos e) at.1 r_cross y.3.1
-            (subst (λ (k : ℕ). 4 * k < (R + Y) * (R + Y)) (sym N-is) ((near y.0 y.1 y.2).0 (lt_values r (fin false m e) R Y (2 ^ low f) (pow_pos (low f)) r_value y.3 t)));
+            below_middle_as_fractions (suc z * up a) (down a) (num r) (den r) (m * up e) (down e) (suc z * 2 ^ j) R Y (2 ^ low f) (pow_pos (low f)) (down_pos a) (den_pos r) (down_pos e) at.1 root_cross_product y.3.1
+            (subst (λ (k : ℕ). 4 * k < (R + Y) * (R + Y)) (sym N-is) ((root_strictly_nearest y.0 y.1 y.2).0 (lt_of_values_in_units r (fin false m e) R Y (2 ^ low f) (pow_pos (low f)) r_value y.3 t)));
         above = λ t.
-            to_above (suc z * up a) (down a) (num r) (den r) (m * up e) (down e) (suc z * 2 ^ j) R Y (2 ^ low f) (pow_pos (low f)) (down_pos a) (den_pos r) (down_pos e) at.1 r_cross y.3.1
-            (subst (λ (k : ℕ). (R + Y) * (R + Y) < 4 * k) (sym N-is) ((near y.0 y.1 y.2).1 (lt_values (fin false m e) r Y R (2 ^ low f) (pow_pos (low f)) y.3 r_value t)));
+            above_middle_as_fractions (suc z * up a) (down a) (num r) (den r) (m * up e) (down e) (suc z * 2 ^ j) R Y (2 ^ low f) (pow_pos (low f)) (down_pos a) (den_pos r) (down_pos e) at.1 root_cross_product y.3.1
+            (subst (λ (k : ℕ). (R + Y) * (R + Y) < 4 * k) (sym N-is) ((root_strictly_nearest y.0 y.1 y.2).1 (lt_of_values_in_units (fin false m e) r Y R (2 ^ low f) (pow_pos (low f)) y.3 r_value t)));
       }
 
   -- a negative number is no nearer than 0 is
-  nearest_minus : (m : ℕ) (e : ℤ) → Nearer x r (fin true m e)
-  nearest_minus m e =
+  nearer_than_minus : (m : ℕ) (e : ℤ) → Nearer x r (fin true m e)
+  nearer_than_minus m e =
       record {
         below = λ t. absurd (not_below_minus r R (2 ^ low f) m e r_value t);
         above = λ t.
             lt_of_le_of_lt (square_le (num r * down e - m * up e * den r) (num r * down e + 0 * den r) (down a) (omega arith))
-            (to_above (suc z * up a) (down a) (num r) (den r) 0 (down e) (suc z * 2 ^ j) R (0 * 2 ^ 0) (2 ^ low f) (pow_pos (low f)) (down_pos a) (den_pos r) (down_pos e) at.1 r_cross (nothing (2 ^ low f) (down e))
-            (subst (λ (k : ℕ). (R + 0 * 2 ^ 0) * (R + 0 * 2 ^ 0) < 4 * k) (sym N-is) ((near 0 0 (pow_pos (prec f))).1 r_pos)));
+            (above_middle_as_fractions (suc z * up a) (down a) (num r) (den r) 0 (down e) (suc z * 2 ^ j) R (0 * 2 ^ 0) (2 ^ low f) (pow_pos (low f)) (down_pos a) (den_pos r) (down_pos e) at.1 root_cross_product (nothing (2 ^ low f) (down e))
+            (subst (λ (k : ℕ). (R + 0 * 2 ^ 0) * (R + 0 * 2 ^ 0) < 4 * k) (sym N-is) ((root_strictly_nearest 0 0 (pow_pos (prec f))).1 r_pos)));
       }
     where
       nothing : (l d : ℕ) → 0 * l ≡ 0 * 2 ^ 0 * d
       nothing l d = omega arith
 
   -- where x is the square of a value y, the root is y
-  exact : (y : Float) → T (positive y) → T (fits f y) → num x * (den y * den y) ≡ num y * num y * den x → r ≡ y
+  root_of_square_is_value : (y : Float) → T (positive y) → T (fits f y) → num x * (den y * den y) ≡ num y * num y * den x → r ≡ y
   unfolding root
-  exact nan p g e = absurd p
-  exact (inf s) p g e = absurd p
-  exact (fin true m d) p g e = absurd p
-  exact (fin false zero d) p g e = absurd p
-  exact (fin false (suc m) d) p g e =
-      let y = in_units f false m d g in
-      let q = place (low f) (suc m) d y.1 in
+  root_of_square_is_value nan p g e = absurd p
+  root_of_square_is_value (inf s) p g e = absurd p
+  root_of_square_is_value (fin true m d) p g e = absurd p
+  root_of_square_is_value (fin false zero d) p g e = absurd p
+  root_of_square_is_value (fin false (suc m) d) p g e =
+      let y = fitting_digits_in_units f false m d g in
+      let q = placed_in_smallest_units (low f) (suc m) d y.1 in
       let Y = suc m * 2 ^ q.0 in
       let same : radicand f (suc z) a ≡ Y * Y =
       radicand_is ∙ sym N-is ∙ square_in_units (suc z * up a) (down a) (suc m * up d) (down d) (suc z * 2 ^ j) Y (2 ^ low f) (down_pos a) (down_pos d) at.1 q.1 e in
-      let v = root_of_square f Y (suc m) q.0 y.0 refl (small_of f (suc m) d q.0 y.2 q.1) in
+      let v = root_of_square f Y (suc m) q.0 y.0 refl (value_below_format_end f (suc m) d q.0 y.2 q.1) in
       value_unique f r (fin false (suc m) d) Y (root_fits f x h) g (subst (λ (n : ℕ). HasValue (root_of f n) false Y (2 ^ low f)) (sym same) v) (refl, q.1)
 
 -- ---- the theorems
@@ -323,13 +323,13 @@ root_nearest f (fin true z a) p h y t g = absurd p
 root_nearest f (fin false zero a) p h y t g = absurd p
 root_nearest f (fin false (suc z) a) p h nan t g = absurd t
 root_nearest f (fin false (suc z) a) p h (inf s) t g = absurd t
-root_nearest f (fin false (suc z) a) p h (fin false m e) t g = nearest_plus f z a h m e g
-root_nearest f (fin false (suc z) a) p h (fin true m e) t g = nearest_minus f z a h m e
+root_nearest f (fin false (suc z) a) p h (fin false m e) t g = nearer_than_plus f z a h m e g
+root_nearest f (fin false (suc z) a) p h (fin true m e) t g = nearer_than_minus f z a h m e
 
 -- The true root is never in the middle between two neighbours, so the rule for that case is never used.
 pub root_no_tie : (f : Format) (m : ℕ) (e : ℤ) → 0 < m → T (fits f (fin false m e)) → 4 * radicand f m e ≡ middle f (radicand f m e) * middle f (radicand f m e) → ⊥
 root_no_tie f zero e p h = absurd (lt_irrefl 0 p)
-root_no_tie f (suc m) e p h = subst (λ (n : ℕ). 4 * n ≡ middle f n * middle f n → ⊥) (sym (radicand_is f m e h)) (never_middle f m e h)
+root_no_tie f (suc m) e p h = subst (λ (n : ℕ). 4 * n ≡ middle f n * middle f n → ⊥) (sym (radicand_is f m e h)) (root_never_in_middle f m e h)
 
 -- The root of the square of a value of the format is that value.
 pub root_exact : (f : Format) (x y : Float) → T (positive x) → T (fits f x) → T (positive y) → T (fits f y) → num x * (den y * den y) ≡ num y * num y * den x → root f x ≡ y
@@ -337,7 +337,7 @@ root_exact f nan y p h q g e = absurd p
 root_exact f (inf s) y p h q g e = absurd p
 root_exact f (fin true z a) y p h q g e = absurd p
 root_exact f (fin false zero a) y p h q g e = absurd p
-root_exact f (fin false (suc z) a) y p h q g e = exact f z a h y q g e
+root_exact f (fin false (suc z) a) y p h q g e = root_of_square_is_value f z a h y q g e
 
 -- The root of a number above zero is one.
 pub root_positive : (f : Format) (x : Float) → T (positive x) → T (fits f x) → T (positive (root f x))

@@ -11,28 +11,28 @@ use Rattle.std.specs.Float.Ieee.Digits.{size_reaches}
 use Rattle.std.proofs.Math.Dec.{is_le, compare_is_eq, nleb→lt, eqb_refl}
 use Rattle.std.proofs.Math.Arith.{lt_of_le-ne}
 use Rattle.root.specs.Root.{isqrt, dropped, kept, middle, rounded}
-use Rattle.root.specs.IntegerRoot.{isqrt_is, square_mono, square_lt}
+use Rattle.root.specs.IntegerRoot.{isqrt_is_root, square_mono, square_lt}
 
 -- what `compare` says
-abbrev pub Cmp : Ordering → ℕ → ℕ → Type 0
-Cmp Ordering.lt a b = a < b
-Cmp Ordering.eq a b = a ≡ b
-Cmp Ordering.gt a b = b < a
+abbrev pub Compared : Ordering → ℕ → ℕ → Type 0
+Compared Ordering.lt a b = a < b
+Compared Ordering.eq a b = a ≡ b
+Compared Ordering.gt a b = b < a
 
-pub cmp : (a b : ℕ) → Cmp (compare a b) a b
-cmp a b = go (compare a b) (leb→le a b) (nleb→lt a b) (eqb→eq a b) (λ (e : a ≡ b). subst (λ (x : ℕ). T (eqb a x)) e (eqb_refl a))
+pub compare_is_right : (a b : ℕ) → Compared (compare a b) a b
+compare_is_right a b = go (compare a b) (leb→le a b) (nleb→lt a b) (eqb→eq a b) (λ (e : a ≡ b). subst (λ (x : ℕ). T (eqb a x)) e (eqb_refl a))
   where
-    go : (o : Ordering) → (T (is_le o) → a ≤ b) → (T (not (is_le o)) → b < a) → (T (compare_is_eq o) → a ≡ b) → (a ≡ b → T (compare_is_eq o)) → Cmp o a b
+    go : (o : Ordering) → (T (is_le o) → a ≤ b) → (T (not (is_le o)) → b < a) → (T (compare_is_eq o) → a ≡ b) → (a ≡ b → T (compare_is_eq o)) → Compared o a b
     go Ordering.lt h k e n = lt_of_le-ne (h tt) n
     go Ordering.eq h k e n = e tt
     go Ordering.gt h k e n = k tt
 
 -- ---- between r * 2 ^ k and (r + 1) * 2 ^ k, for an r with all p digits, there is no c * 2 ^ j with p digits
-gap : (p k r c j : ℕ) → 0 < p → (0 < k → 2 ^ (p - 1) ≤ r) → c < 2 ^ p → r * 2 ^ k < c * 2 ^ j → suc r * 2 ^ k ≤ c * 2 ^ j
-gap p k r c j P full C h = go (dec_le k j)
+no_digits_between : (p k r c j : ℕ) → 0 < p → (0 < k → 2 ^ (p - 1) ≤ r) → c < 2 ^ p → r * 2 ^ k < c * 2 ^ j → suc r * 2 ^ k ≤ c * 2 ^ j
+no_digits_between p k r c j P full C h = go (dec_le k j)
   where
-    over : (a b : ℕ) → a + b ≡ j → k ≡ b → suc r * 2 ^ k ≤ c * 2 ^ j
-    over a b e f =
+    root_below_next_kept : (a b : ℕ) → a + b ≡ j → k ≡ b → suc r * 2 ^ k ≤ c * 2 ^ j
+    root_below_next_kept a b e f =
         let s : c * 2 ^ j ≡ c * 2 ^ a * 2 ^ k = ap (λ (x : ℕ). c * 2 ^ x) (sym e) ∙ ap (λ (x : ℕ). c * x) (pow-add 2 a b) ∙ sym (mul_assoc c (2 ^ a) (2 ^ b)) ∙ ap (λ (x : ℕ). c * 2 ^ a * 2 ^ x) (sym f) in
         le_trans (mul-le-mul_right (2 ^ k) (lt_of_mul-lt-mul_right (2 ^ k) (subst (λ (x : ℕ). r * 2 ^ k < x) s h))) (le_of_eq (sym s))
 
@@ -44,7 +44,7 @@ gap p k r c j P full C h = go (dec_le k j)
         (le_trans (le_of_eq (pow-add 2 (p - 1) k)) (mul-le-mul_right (2 ^ k) (full (omega arith))))))
 
     go : Dec (k ≤ j) → suc r * 2 ^ k ≤ c * 2 ^ j
-    go (yes l) = over (j - k) k (omega arith) refl
+    go (yes l) = root_below_next_kept (j - k) k (omega arith) refl
     go (no f) = absurd (lt_irrefl (r * 2 ^ k) (lt_of_lt_of_le h (small (lt_of_not-le f))))
 
 -- n is z * 2 ^ i with a z of p digits
@@ -64,25 +64,25 @@ module _ (f : Format) (P : 2 ≤ prec f) (z i : ℕ) (Z : z < 2 ^ prec f) (I : 0
   abbrev r : ℕ
   r = kept f n
 
-  under : r * u ≤ w
-  under = div-mul-le_self w u
+  kept_at_most_root : r * u ≤ w
+  kept_at_most_root = div-mul-le_self w u
 
-  over : w < suc r * u
-  over = (div-lt_iff_lt-mul (pow_pos k)).0 (lt-suc_self r)
+  root_below_next_kept : w < suc r * u
+  root_below_next_kept = (div-lt_iff_lt-mul (pow_pos k)).0 (lt-suc_self r)
 
   -- the squares
-  sq_under : r * u * (r * u) ≤ n
-  sq_under = le_trans (square_mono (r * u) w under) (isqrt_is n).0
+  kept_square_at_most : r * u * (r * u) ≤ n
+  kept_square_at_most = le_trans (square_mono (r * u) w kept_at_most_root) (isqrt_is_root n).0
 
-  sq_over : n < suc r * u * (suc r * u)
-  sq_over = lt_of_lt_of_le (isqrt_is n).1 (square_mono (suc w) (suc r * u) over)
+  next_kept_square_above : n < suc r * u * (suc r * u)
+  next_kept_square_above = lt_of_lt_of_le (isqrt_is_root n).1 (square_mono (suc w) (suc r * u) root_below_next_kept)
 
   full : 0 < k → 2 ^ (prec f - 1) ≤ r
-  full h = le_of_suc-le-suc (lt_of_mul-lt-mul_right u (lt_of_le_of_lt (le_trans (le_of_eq (sym (pow-add 2 (prec f - 1) k))) (size_reaches w (prec f - 1 + k) (omega arith))) over))
+  full h = le_of_suc-le-suc (lt_of_mul-lt-mul_right u (lt_of_le_of_lt (le_trans (le_of_eq (sym (pow-add 2 (prec f - 1) k))) (size_reaches w (prec f - 1 + k) (omega arith))) root_below_next_kept))
 
   -- n is a multiple of u * u
-  twice : k + k ≤ i
-  twice = ⊎_elim (λ (e : k ≡ 0). omega arith) (λ (h : 0 < k). some h) (eq-zero-or-pos k)
+  unit_square_divides : k + k ≤ i
+  unit_square_divides = ⊎_elim (λ (e : k ≡ 0). omega arith) (λ (h : 0 < k). some h) (eq-zero-or-pos k)
     where
       pow_lt_back : (a b : ℕ) → 2 ^ a < 2 ^ b → a < b
       pow_lt_back a b h = lt_of_not-le (λ (g : b ≤ a). lt_irrefl (2 ^ a) (lt_of_lt_of_le h (pow_mono g)))
@@ -91,7 +91,7 @@ module _ (f : Format) (P : 2 ≤ prec f) (z i : ℕ) (Z : z < 2 ^ prec f) (I : 0
       some h =
           let l : 2 ^ (prec f - 1 + k) ≤ w = size_reaches w (prec f - 1 + k) (omega arith) in
           let g : 2 ^ (prec f - 1 + k + (prec f - 1 + k)) < 2 ^ (prec f + i) =
-          lt_of_le_of_lt (le_trans (le_of_eq (pow-add 2 (prec f - 1 + k) (prec f - 1 + k))) (le_trans (square_mono (2 ^ (prec f - 1 + k)) w l) (isqrt_is n).0))
+          lt_of_le_of_lt (le_trans (le_of_eq (pow-add 2 (prec f - 1 + k) (prec f - 1 + k))) (le_trans (square_mono (2 ^ (prec f - 1 + k)) w l) (isqrt_is_root n).0))
           (lt_of_lt_of_le (mul-lt-mul_of_pos_right Z (pow_pos i)) (le_of_eq (sym (pow-add 2 (prec f) i)))) in
           let s = pow_lt_back (prec f - 1 + k + (prec f - 1 + k)) (prec f + i) g in
           omega (arith, s)
@@ -100,7 +100,7 @@ module _ (f : Format) (P : 2 ≤ prec f) (z i : ℕ) (Z : z < 2 ^ prec f) (I : 0
   pub no_tie : 4 * n ≡ middle f n * middle f n → ⊥
   no_tie e =
       let v = z * 2 ^ (i - (k + k)) in
-      let s : n ≡ v * (u * u) = ap (λ (x : ℕ). z * 2 ^ x) (sym (sub-add_cancel twice)) ∙ ap (λ (x : ℕ). z * x) (pow-add 2 (i - (k + k)) (k + k)) ∙ sym (mul_assoc z (2 ^ (i - (k + k))) (2 ^ (k + k))) ∙ ap (λ (x : ℕ). v * x) (pow-add 2 k k) in
+      let s : n ≡ v * (u * u) = ap (λ (x : ℕ). z * 2 ^ x) (sym (sub-add_cancel unit_square_divides)) ∙ ap (λ (x : ℕ). z * x) (pow-add 2 (i - (k + k)) (k + k)) ∙ sym (mul_assoc z (2 ^ (i - (k + k))) (2 ^ (k + k))) ∙ ap (λ (x : ℕ). v * x) (pow-add 2 k k) in
       let g : 4 * v ≡ (2 * r + 1) * (2 * r + 1) = eq_of_mul-eq-mul_right (u * u) (mul-pos (pow_pos k) (pow_pos k)) (4 * v) ((2 * r + 1) * (2 * r + 1))
       (mul_assoc 4 v (u * u) ∙ ap (λ (x : ℕ). 4 * x) (sym s) ∙ e ∙ mul-mul-mul_comm (2 * r + 1) u (2 * r + 1) u) in
       odd_square v r g
@@ -113,37 +113,37 @@ module _ (f : Format) (P : 2 ≤ prec f) (z i : ℕ) (Z : z < 2 ^ prec f) (I : 0
     abbrev Y : ℕ
     Y = c * 2 ^ j
 
-    up_gap : r * u < Y → suc r * u ≤ Y
-    up_gap = gap (prec f) k r c j (omega arith) full C
+    above_kept_from_next : r * u < Y → suc r * u ≤ Y
+    above_kept_from_next = no_digits_between (prec f) k r c j (omega arith) full C
 
-    down_gap : Y < suc r * u → Y ≤ r * u
-    down_gap h = le_of_suc-le-suc (lt_of_not-le (λ (g : suc (r * u) ≤ Y). lt_irrefl Y (lt_of_lt_of_le h (up_gap g))))
+    below_next_at_most_kept : Y < suc r * u → Y ≤ r * u
+    below_next_at_most_kept h = le_of_suc-le-suc (lt_of_not-le (λ (g : suc (r * u) ≤ Y). lt_irrefl Y (lt_of_lt_of_le h (above_kept_from_next g))))
 
     abbrev Strict : ℕ → Type 0
     Strict q = (q * u < Y → 4 * n < (q * u + Y) * (q * u + Y)) × (Y < q * u → (q * u + Y) * (q * u + Y) < 4 * n)
 
-    four : (a : ℕ) → (a + a) * (a + a) ≡ 4 * (a * a)
-    four a = omega arith
+    square_of_sum_with_itself : (a : ℕ) → (a + a) * (a + a) ≡ 4 * (a * a)
+    square_of_sum_with_itself a = omega arith
 
-    middle_is : middle f n ≡ r * u + suc r * u
-    middle_is = omega (arith, mul_comm u r)
+    middle_is_sum_of_neighbours : middle f n ≡ r * u + suc r * u
+    middle_is_sum_of_neighbours = omega (arith, mul_comm u r)
 
-    lower : 4 * n < middle f n * middle f n → Strict r
-    lower h = (
-      λ g. lt_of_lt_of_le h (square_mono (middle f n) (r * u + Y) (omega (arith, middle_is, up_gap g))),
-      λ g. lt_of_lt_of_le (square_lt (r * u + Y) (r * u + r * u) (omega arith)) (le_trans (le_of_eq (four (r * u))) (omega (arith, sq_under))),
+    kept_strictly_nearest : 4 * n < middle f n * middle f n → Strict r
+    kept_strictly_nearest h = (
+      λ g. lt_of_lt_of_le h (square_mono (middle f n) (r * u + Y) (omega (arith, middle_is_sum_of_neighbours, above_kept_from_next g))),
+      λ g. lt_of_lt_of_le (square_lt (r * u + Y) (r * u + r * u) (omega arith)) (le_trans (le_of_eq (square_of_sum_with_itself (r * u))) (omega (arith, kept_square_at_most))),
     )
 
-    upper : middle f n * middle f n < 4 * n → Strict (suc r)
-    upper h = (
-      λ g. lt_of_lt_of_le (omega (arith, sq_over, four (suc r * u))) (square_mono (suc r * u + suc r * u) (suc r * u + Y) (omega arith)),
-      λ g. lt_of_le_of_lt (square_mono (suc r * u + Y) (middle f n) (omega (arith, middle_is, down_gap g))) h,
+    next_strictly_nearest : middle f n * middle f n < 4 * n → Strict (suc r)
+    next_strictly_nearest h = (
+      λ g. lt_of_lt_of_le (omega (arith, next_kept_square_above, square_of_sum_with_itself (suc r * u))) (square_mono (suc r * u + suc r * u) (suc r * u + Y) (omega arith)),
+      λ g. lt_of_le_of_lt (square_mono (suc r * u + Y) (middle f n) (omega (arith, middle_is_sum_of_neighbours, below_next_at_most_kept g))) h,
     )
 
-    pub nearest_one : Strict (rounded f n)
-    nearest_one = go (compare (4 * n) (middle f n * middle f n)) (cmp (4 * n) (middle f n * middle f n))
+    pub rounded_strictly_nearest : Strict (rounded f n)
+    rounded_strictly_nearest = go (compare (4 * n) (middle f n * middle f n)) (compare_is_right (4 * n) (middle f n * middle f n))
       where
-        go : (o : Ordering) → Cmp o (4 * n) (middle f n * middle f n) → Strict (nearest r o)
-        go Ordering.lt h = lower h
+        go : (o : Ordering) → Compared o (4 * n) (middle f n * middle f n) → Strict (nearest r o)
+        go Ordering.lt h = kept_strictly_nearest h
         go Ordering.eq h = absurd (no_tie h)
-        go Ordering.gt h = upper h
+        go Ordering.gt h = next_strictly_nearest h

@@ -12,9 +12,9 @@ use Rattle.std.specs.Float.Ieee.Fits.{up_pos, down_pos, nearest-le, kept-lt, two
 use Rattle.std.specs.Float.Ieee.Nearest.{nearest-ge, div_mono}
 use Rattle.std.specs.Float.Ieee.Order.{transfer}
 use Rattle.common.specs.Tests.{case}
-use Rattle.root.specs.IntegerRoot.{isqrt_is, isqrt_ge}
+use Rattle.root.specs.IntegerRoot.{isqrt_is_root, isqrt_ge}
 use Rattle.root.specs.Root.{isqrt, dropped, kept, rounded, radicand, root_of, root}
-use Rattle.float_laws.specs.Reaches.{Reaches, reaches_nan, reaches_zero, none_below}
+use Rattle.float_laws.specs.Reaches.{Reaches, reaches_nan, reaches_zero, positive_not_at_most_zero}
 
 -- ---- the nearer of two neighbours, by the side of the middle on which a number lies
 nearest_mono : (w a b m : ℕ) → a ≤ b → nearest w (compare a m) ≤ nearest w (compare b m)
@@ -43,39 +43,39 @@ abbrev at : ℕ → ℕ → ℕ
 at k n = nearest (part k n) (side k n)
 
 module _ (f : Format) (a b : ℕ) (h : a ≤ b) where
-  roots : isqrt a ≤ isqrt b
-  roots = isqrt_ge b (isqrt a) (le_trans (isqrt_is a).0 h)
+  isqrt_in_order : isqrt a ≤ isqrt b
+  isqrt_in_order = isqrt_ge b (isqrt a) (le_trans (isqrt_is_root a).0 h)
 
-  fewer : dropped f a ≤ dropped f b
-  fewer = let s : size (isqrt a) ≤ size (isqrt b) = size-le (isqrt a) (size (isqrt b)) (lt_of_le_of_lt roots (size-lt (isqrt b))) in omega arith
+  dropped_in_order : dropped f a ≤ dropped f b
+  dropped_in_order = let s : size (isqrt a) ≤ size (isqrt b) = size-le (isqrt a) (size (isqrt b)) (lt_of_le_of_lt isqrt_in_order (size-lt (isqrt b))) in omega arith
 
-  same_drop : (k : ℕ) → at k a ≤ at k b
-  same_drop k =
-      elim (eq-or-lt_of_le (shr_mono k roots)) [
+  in_order_at_same_drop : (k : ℕ) → at k a ≤ at k b
+  in_order_at_same_drop k =
+      elim (eq-or-lt_of_le (shr_mono k isqrt_in_order)) [
         | inl e ↦ rw e (nearest_mono (part k b) (4 * a) (4 * b) (mid k b * mid k b) (omega arith))
         | inr l ↦ le_trans (nearest-le (part k a) (side k a)) (le_trans l (nearest-ge (part k b) (side k b)))
       ]
 
   -- where digits are dropped, as many are kept as the format has
-  full : 0 < dropped f b → 2 ^ (prec f - 1) ≤ kept f b
-  full p =
+  kept_has_all_digits : 0 < dropped f b → 2 ^ (prec f - 1) ≤ kept f b
+  kept_has_all_digits p =
       let k = dropped f b in
       let n : prec f - 1 + k < size (isqrt b) = let q = two f in omega arith in
       (le-div_iff_mul-le (pow_pos k)).1 (le_trans (le_of_eq (sym (pow-add 2 (prec f - 1) k))) (size_reaches (isqrt b) (prec f - 1 + k) n))
 
   -- either as many digits are dropped, or a power of two lies between the two results
-  in_order : rounded f a * 2 ^ dropped f a ≤ rounded f b * 2 ^ dropped f b
-  in_order =
+  rounded_roots_in_order : rounded f a * 2 ^ dropped f a ≤ rounded f b * 2 ^ dropped f b
+  rounded_roots_in_order =
       let p = prec f in
       let j = dropped f a in
       let k = dropped f b in
-      elim (eq-or-lt_of_le fewer) [
-        | inl e ↦ subst (λ (x : ℕ). at x a * 2 ^ x ≤ rounded f b * 2 ^ k) (sym e) (mul-le-mul_right (2 ^ k) (same_drop k))
+      elim (eq-or-lt_of_le dropped_in_order) [
+        | inl e ↦ subst (λ (x : ℕ). at x a * 2 ^ x ≤ rounded f b * 2 ^ k) (sym e) (mul-le-mul_right (2 ^ k) (in_order_at_same_drop k))
         | inr l ↦
             le_trans (mul-le-mul_right (2 ^ j) (le_trans (nearest-le (kept f a) (side j a)) (kept-lt p (isqrt a))))
             (le_trans (le_of_eq (sym (pow-add 2 p j)))
             (le_trans (pow_mono {i = p + j} {j = p - 1 + k} (let q = two f in omega arith))
-            (le_trans (le_of_eq (pow-add 2 (p - 1) k)) (mul-le-mul_right (2 ^ k) (le_trans (full (omega arith)) (nearest-ge (kept f b) (side k b)))))))
+            (le_trans (le_of_eq (pow-add 2 (p - 1) k)) (mul-le-mul_right (2 ^ k) (le_trans (kept_has_all_digits (omega arith)) (nearest-ge (kept f b) (side k b)))))))
       ]
 
 -- ---- as values of the format
@@ -101,10 +101,10 @@ units_reaches f q j r k h =
 
 root_of_reaches : (f : Format) (a b : ℕ) → a ≤ b → Reaches (root_of f b) (root_of f a)
 unfolding root_of
-root_of_reaches f a b h = units_reaches f (rounded f b) (dropped f b) (rounded f a) (dropped f a) (in_order f a b h)
+root_of_reaches f a b h = units_reaches f (rounded f b) (dropped f b) (rounded f a) (dropped f a) (rounded_roots_in_order f a b h)
 
-radicands : (f : Format) (m n : ℕ) (e d : ℤ) → n * up d * down e ≤ m * up e * down d → radicand f n d ≤ radicand f m e
-radicands f m n e d h =
+radicands_in_order : (f : Format) (m n : ℕ) (e d : ℤ) → n * up d * down e ≤ m * up e * down d → radicand f n d ≤ radicand f m e
+radicands_in_order f m n e d h =
     let l = 2 ^ low f in
     mul-le-mul_right l (div_mono (n * up d * l) (down d) (m * up e * l) (down e) (down_pos d) (down_pos e) (rw (mul_right_comm (n * up d) l (down e), mul_right_comm (m * up e) l (down d)) (mul-le-mul_right l h)))
 
@@ -117,10 +117,10 @@ root_reaches f (fin s zero e) nan h = tt
 root_reaches f (fin s zero e) (inf t) h = absurd h
 root_reaches f (fin s zero e) (fin t zero d) h = h
 root_reaches f (fin s zero e) (fin true (suc n) d) h = tt
-root_reaches f (fin s zero e) (fin false (suc n) d) h = absurd (none_below n (up d) (down e) (up e) (down d) (up_pos d) (down_pos e) h)
+root_reaches f (fin s zero e) (fin false (suc n) d) h = absurd (positive_not_at_most_zero n (up d) (down e) (up e) (down d) (up_pos d) (down_pos e) h)
 root_reaches f (fin true (suc m) e) b h = tt
 root_reaches f (fin false (suc m) e) nan h = reaches_nan (root_of f (radicand f (suc m) e))
 root_reaches f (fin false (suc m) e) (inf t) h = absurd h
 root_reaches f (fin false (suc m) e) (fin t zero d) h = reaches_zero (root_of f (radicand f (suc m) e)) t d
 root_reaches f (fin false (suc m) e) (fin true (suc n) d) h = reaches_nan (root_of f (radicand f (suc m) e))
-root_reaches f (fin false (suc m) e) (fin false (suc n) d) h = root_of_reaches f (radicand f (suc n) d) (radicand f (suc m) e) (radicands f (suc m) (suc n) e d h)
+root_reaches f (fin false (suc m) e) (fin false (suc n) d) h = root_of_reaches f (radicand f (suc n) d) (radicand f (suc m) e) (radicands_in_order f (suc m) (suc n) e d h)

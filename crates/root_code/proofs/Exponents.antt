@@ -7,12 +7,12 @@ use Rattle.root_code.specs.Exponent.{natural, shifted}
 use Rattle.root.specs.IntegerRoot.{four_pow}
 
 -- a signed result, read back from its bits
-pub read : (e : ℤ) (g : ℕ) → mag e < 2 ^ 63 → shifted e ≡ g → shifted (to_z w64 (of_z w64 e)) ≡ g
-read e g ok h = ap shifted (to_z-of_z {w = w64} (sfits_of {w = w64} ok)) ∙ h
+pub shifted_of_read_back : (e : ℤ) (g : ℕ) → mag e < 2 ^ 63 → shifted e ≡ g → shifted (to_z w64 (of_z w64 e)) ≡ g
+shifted_of_read_back e g ok h = ap shifted (to_z-of_z {w = w64} (sfits_of {w = w64} ok)) ∙ h
 
-pub shifted_is : (e : ℤ) → 0 < shifted e → e +ℤ pos 2148 ≡ pos (shifted e)
+pub sum_is_shifted : (e : ℤ) → 0 < shifted e → e +ℤ pos 2148 ≡ pos (shifted e)
 unfolding shifted
-shifted_is e h = go (e +ℤ pos 2148) h
+sum_is_shifted e h = go (e +ℤ pos 2148) h
   where
     go : (z : ℤ) → 0 < natural z → z ≡ pos (natural z)
     go (pos n) h = refl
@@ -73,8 +73,8 @@ module _ (m g : ℕ) (m-lo : 2 ^ 52 ≤ m) (m-hi : m < 2 ^ 53) where
   pub shift_hi : m * 2 ^ (g % 2) ≤ 2 ^ 54 - 2
   shift_hi = le_trans (mul-le-mul_left m (pow_mono {i = g % 2} {j = 1} (omega arith))) (omega arith)
 
-  pub halved : m * 2 ^ (g % 2) * 4 ^ (g / 2) ≡ m * 2 ^ g
-  halved =
+  pub halved_exponent_keeps_value : m * 2 ^ (g % 2) * 4 ^ (g / 2) ≡ m * 2 ^ g
+  halved_exponent_keeps_value =
       ap (λ (x : ℕ). m * 2 ^ (g % 2) * x) (four_pow (g / 2) ∙ sym (pow-add 2 (g / 2) (g / 2)))
       ∙ mul_assoc m (2 ^ (g % 2)) (2 ^ (g / 2 + g / 2))
       ∙ ap (λ (x : ℕ). m * x) (sym (pow-add 2 (g % 2) (g / 2 + g / 2)))

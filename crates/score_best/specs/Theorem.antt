@@ -21,7 +21,7 @@ IsNumber nothing = Unit {0}
 IsNumber (chosen w) = HasNumber w
 
 -- ---- w is the best of ws: its score is a number, it is better than all before it, and none after it is better
-pub record Leads (ws : List Candidate) (w : Candidate) : Type 0 where
+pub record IsBestOf (ws : List Candidate) (w : Candidate) : Type 0 where
   pub before : List Candidate
   pub behind : List Candidate
   pub split : ws ≡ before ++ w ∷ behind
@@ -30,8 +30,8 @@ pub record Leads (ws : List Candidate) (w : Candidate) : Type 0 where
   pub unbeaten_by : All (λ v. beats v w ≡ false) behind
 
 -- ---- a list has a best, unless no score of it is a number
-abbrev pub Led : List Candidate → Type 0
-Led ws = ((w : Candidate) × Leads ws w) ⊎ All HasNan ws
+abbrev pub BestOrAllNan : List Candidate → Type 0
+BestOrAllNan ws = ((w : Candidate) × IsBestOf ws w) ⊎ All HasNan ws
 
 pub record BestRight : Type 0 where
   -- a NaN replaces nothing; a number is taken where there is no best, and replaces a best that is NaN or higher
@@ -39,8 +39,8 @@ pub record BestRight : Type 0 where
   pub first_better : (v : Candidate) (b : Best) → HasNumber v → b.found ≡ false → is_better v b ≡ true
   pub lower_better : (v : Candidate) (b : Best) → HasNumber v → b.found ≡ true → is_better v b ≡ (is_nan b.candidate.score || lt v.score b.candidate.score)
   -- of a list: the earliest of the lowest scores that are numbers
-  pub led : (ws : List Candidate) → Led ws
-  pub best_leads : (ws : List Candidate) (w : Candidate) → Leads ws w → best_of ws ≡ chosen w
+  pub led : (ws : List Candidate) → BestOrAllNan ws
+  pub best_leads : (ws : List Candidate) (w : Candidate) → IsBestOf ws w → best_of ws ≡ chosen w
   pub best_none : (ws : List Candidate) → All HasNan ws → best_of ws ≡ nothing
   -- a run that replaces its best by each better candidate keeps the best of all
   pub best_snoc : (ws : List Candidate) (v : Candidate) → held (best_of (ws ++ v ∷ [])) ≡ improved (held (best_of ws)) v

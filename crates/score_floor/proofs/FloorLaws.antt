@@ -11,7 +11,7 @@ use Rattle.float.specs.Float.{min_of}
 use Rattle.float.specs.Literals.{infinity}
 use Rattle.float.specs.Order.{lt_irrefl}
 use Rattle.float_laws.specs.NotBelow.{not_below_trans}
-use Rattle.float_laws.specs.Lower.{min_number, min_first, min_second, min_one}
+use Rattle.float_laws.specs.Lower.{min_is_not_nan, not_below_min_by_first, second_not_below_min, min_is_one_of_both}
 use Rattle.camera_models.specs.declared.math.Pt2.{Pt2}
 use Rattle.camera_tilt.specs.declared.sensor.ScheimpflugParams.{ScheimpflugParams}
 use Rattle.seed_rules.specs.declared.CandidateSeed.{CandidateSeed}
@@ -22,72 +22,72 @@ use Rattle.score_outcome.specs.Evaluation.{outcome_of}
 use Rattle.score_outcome.specs.Facts.{ScoredFacts}
 use Rattle.score_outcome.proofs.Facts.{scored_facts}
 use Rattle.score_floor.specs.Floor.{counted_penalty, floor_of}
-use Rattle.score_floor.proofs.Penalty.{scored_not_below, penalty_number}
+use Rattle.score_floor.proofs.Penalty.{scored_not_below, scored_tilt_penalty_is_number}
 use Rattle.score_floor.specs.Theorem.{Attained, FloorRight}
 
 -- ---- a number
-pub counted_number : (t : ScheimpflugParams) → is_nan (counted_penalty t) ≡ false
+pub counted_penalty_is_number : (t : ScheimpflugParams) → is_nan (counted_penalty t) ≡ false
 unfolding counted_penalty is_nan div of_bits
-counted_number t = case (is_nan (tilt_penalty t)) (λ n. rw n) (λ n. rw n n)
+counted_penalty_is_number t = case (is_nan (tilt_penalty t)) (λ n. rw n) (λ n. rw n n)
 
-pub floor_number : (ss : List CandidateSeed) → is_nan (floor_of ss) ≡ false
+pub floor_is_number : (ss : List CandidateSeed) → is_nan (floor_of ss) ≡ false
 unfolding floor_of is_nan div of_bits
-floor_number [] = refl
-floor_number (s ∷ ss) = min_number (counted_penalty s.sensor) (floor_of ss) (counted_number s.sensor) (floor_number ss)
+floor_is_number [] = refl
+floor_is_number (s ∷ ss) = min_is_not_nan (counted_penalty s.sensor) (floor_of ss) (counted_penalty_is_number s.sensor) (floor_is_number ss)
 
 -- ---- none is below it
-pub floor_below : (ss : List CandidateSeed) {s : CandidateSeed} → Memᴰ s ss → lt (counted_penalty s.sensor) (floor_of ss) ≡ false
+pub penalty_not_below_floor : (ss : List CandidateSeed) {s : CandidateSeed} → Memᴰ s ss → lt (counted_penalty s.sensor) (floor_of ss) ≡ false
 unfolding floor_of
-floor_below [] m = absurd (Memᴰ.not-nil m)
-floor_below (t ∷ ss) {s} m =
+penalty_not_below_floor [] m = absurd (Memᴰ.not-nil m)
+penalty_not_below_floor (t ∷ ss) {s} m =
     let p = counted_penalty t.sensor in
     let q = floor_of ss in
     ⊎_elim
-    (λ e. rw e (min_first p q p (counted_number t.sensor) (lt_irrefl p)))
-    (λ n. not_below_trans (counted_penalty s.sensor) q (min_of p q) (floor_number ss) (floor_below ss n) (min_second p q (counted_number t.sensor)))
+    (λ e. rw e (not_below_min_by_first p q p (counted_penalty_is_number t.sensor) (lt_irrefl p)))
+    (λ n. not_below_trans (counted_penalty s.sensor) q (min_of p q) (floor_is_number ss) (penalty_not_below_floor ss n) (second_not_below_min p q (counted_penalty_is_number t.sensor)))
     (Memᴰ.cases_cons m)
 
 -- ---- it is one of them
-not_below_infinity : (p : Float) → lt infinity p ≡ false
+infinity_not_below_any : (p : Float) → lt infinity p ≡ false
 unfolding lt div of_bits
-not_below_infinity nan = refl
-not_below_infinity (inf s) = refl
-not_below_infinity (fin s m e) = refl
+infinity_not_below_any nan = refl
+infinity_not_below_any (inf s) = refl
+infinity_not_below_any (fin s m e) = refl
 
-pub min_infinity : (p : Float) → is_nan p ≡ false → min_of p infinity ≡ p
+pub min_with_infinity : (p : Float) → is_nan p ≡ false → min_of p infinity ≡ p
 unfolding min_of
-min_infinity p n = rw (n, not_below_infinity p)
+min_with_infinity p n = rw (n, infinity_not_below_any p)
 
 pub floor_attained : (s : CandidateSeed) (ss : List CandidateSeed) → Attained (s ∷ ss)
 unfolding floor_of
-floor_attained s [] = record { seed = s; listed = Memᴰ.head refl; penalty = sym (min_infinity (counted_penalty s.sensor) (counted_number s.sensor)) }
+floor_attained s [] = record { seed = s; listed = Memᴰ.head refl; penalty = sym (min_with_infinity (counted_penalty s.sensor) (counted_penalty_is_number s.sensor)) }
 floor_attained s (t ∷ ss) =
     ⊎_elim
     (λ e. record { seed = s; listed = Memᴰ.head refl; penalty = sym e })
     (λ e. let r = floor_attained t ss in record { seed = r.seed; listed = Memᴰ.tail r.listed; penalty = r.penalty ∙ sym e })
-    (min_one (counted_penalty s.sensor) (floor_of (t ∷ ss)))
+    (min_is_one_of_both (counted_penalty s.sensor) (floor_of (t ∷ ss)))
 
 -- ---- no candidate from the seeds scores below it
-counted_scored : (t : ScheimpflugParams) (center : Pt2) (g : Scoring) → ScoredFacts t center g → counted_penalty t ≡ tilt_penalty t
+scored_penalty_is_counted : (t : ScheimpflugParams) (center : Pt2) (g : Scoring) → ScoredFacts t center g → counted_penalty t ≡ tilt_penalty t
 unfolding counted_penalty
-counted_scored t center g s = rw (penalty_number t center g s)
+scored_penalty_is_counted t center g s = rw (scored_tilt_penalty_is_number t center g s)
 
-pub above_floor : (ss : List CandidateSeed) {s : CandidateSeed} → Memᴰ s ss → (center : Pt2) (g : Scoring) → ScoredFacts s.sensor center g → lt g.score (floor_of ss) ≡ false
-above_floor ss {s} m center g f =
+pub scored_not_below_floor : (ss : List CandidateSeed) {s : CandidateSeed} → Memᴰ s ss → (center : Pt2) (g : Scoring) → ScoredFacts s.sensor center g → lt g.score (floor_of ss) ≡ false
+scored_not_below_floor ss {s} m center g f =
     let t = s.sensor in
-    not_below_trans g.score (tilt_penalty t) (floor_of ss) (penalty_number t center g f) (scored_not_below t center g f)
-    (ap (λ (x : Float). lt x (floor_of ss)) (sym (counted_scored t center g f)) ∙ floor_below ss m)
+    not_below_trans g.score (tilt_penalty t) (floor_of ss) (scored_tilt_penalty_is_number t center g f) (scored_not_below t center g f)
+    (ap (λ (x : Float). lt x (floor_of ss)) (sym (scored_penalty_is_counted t center g f)) ∙ penalty_not_below_floor ss m)
 
 -- whichever camera the host finds, and whichever rows and flags it sends
-pub floor_holds : (ss : List CandidateSeed) {s : CandidateSeed} → Memᴰ s ss → (share : ℕ) (f : Finding) (center : Pt2) (rows : List Float) (flags : List ℕ) (g : Scoring)
+pub outcome_not_below_floor : (ss : List CandidateSeed) {s : CandidateSeed} → Memᴰ s ss → (share : ℕ) (f : Finding) (center : Pt2) (rows : List Float) (flags : List ℕ) (g : Scoring)
     → outcome_of share f s.sensor center rows flags ≡ Ok g → lt g.score (floor_of ss) ≡ false
-floor_holds ss {s} m share f center rows flags g h = above_floor ss m center g (scored_facts share f s.sensor center rows flags g h)
+outcome_not_below_floor ss {s} m share f center rows flags g h = scored_not_below_floor ss m center g (scored_facts share f s.sensor center rows flags g h)
 
 pub floor_right : FloorRight
 floor_right = record {
   scored_not_below = scored_not_below;
-  floor_number = floor_number;
+  floor_number = floor_is_number;
   floor_attained = floor_attained;
-  floor_below = floor_below;
-  floor_holds = floor_holds;
+  floor_below = penalty_not_below_floor;
+  floor_holds = outcome_not_below_floor;
 }

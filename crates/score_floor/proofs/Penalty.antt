@@ -7,12 +7,12 @@ use Rattle.camera_tilt.specs.declared.sensor.ScheimpflugParams.{ScheimpflugParam
 use Rattle.score_camera.specs.Penalties.{tilt_penalty}
 use Rattle.score_outcome.specs.declared.Scoring.{Scoring}
 use Rattle.score_outcome.specs.Facts.{ScoredFacts}
-use Rattle.score_floor.specs.Penalty.{score_not_below, tilt_number_lem}
+use Rattle.score_floor.specs.Penalty.{score_not_below_tilt_penalty, tilt_penalty_is_number}
 
 -- ---- of whatever is scored: by what holds of every scored finding, whichever camera and rows the host sent
 module _ (sensor : ScheimpflugParams) (center : Pt2) (g : Scoring) (s : ScoredFacts sensor center g) where
   pub scored_not_below : lt g.score (tilt_penalty sensor) ≡ false
-  scored_not_below = rw s.score_is (score_not_below g.mean g.camera sensor center s.mean_not_below)
+  scored_not_below = rw s.score_is (score_not_below_tilt_penalty g.mean g.camera sensor center s.mean_not_below)
 
-  pub penalty_number : is_nan (tilt_penalty sensor) ≡ false
-  penalty_number = tilt_number_lem g.mean g.camera sensor center (rw s.score_is at s.score_number)
+  pub scored_tilt_penalty_is_number : is_nan (tilt_penalty sensor) ≡ false
+  scored_tilt_penalty_is_number = tilt_penalty_is_number g.mean g.camera sensor center (rw s.score_is at s.score_number)

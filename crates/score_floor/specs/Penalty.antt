@@ -12,8 +12,8 @@ use Rattle.float.specs.Float.{sign_bit}
 use Rattle.float.specs.Literals.{plus_zero}
 use Rattle.float.specs.Sign.{unsigned_not_below, sign_add, sign_mul, sign_square}
 use Rattle.float_laws.specs.NotBelow.{not_below_trans, nan_not_below}
-use Rattle.float_laws.specs.Squares.{sign_twice}
-use Rattle.float_laws.specs.Sums.{number_terms, add_commutes, add_not_below, sum_not_below}
+use Rattle.float_laws.specs.Squares.{product_by_number_twice_has_no_minus}
+use Rattle.float_laws.specs.Sums.{terms_of_sum_not_nan, add_commutes, sum_not_below_second, sum_not_below_zero}
 use Rattle.camera_models.specs.declared.math.Pt2.{Pt2}
 use Rattle.camera_models.specs.declared.intrinsics.FxFyCxCy.{FxFyCxCy}
 use Rattle.camera_models.specs.declared.distortion.BrownConrady5.{BrownConrady5}
@@ -22,31 +22,31 @@ use Rattle.score_camera.specs.declared.pinhole.PinholeCamera.{PinholeCamera}
 use Rattle.score_camera.specs.Penalties.{quarter, distortion_penalty, tilt_penalty, centre_penalty, score_of}
 
 -- ---- the penalties have no minus sign, for every camera and every centre
-quarter_plus : sign_bit quarter ≡ false
+quarter_unsigned : sign_bit quarter ≡ false
 unfolding sign_bit of_bits
-quarter_plus = refl
+quarter_unsigned = refl
 
-zero_plus : sign_bit plus_zero ≡ false
+plus_zero_unsigned : sign_bit plus_zero ≡ false
 unfolding sign_bit of_bits
-zero_plus = refl
+plus_zero_unsigned = refl
 
-abbrev Plus : Float → Type 0
-Plus x = sign_bit x ≡ false
+abbrev Unsigned : Float → Type 0
+Unsigned x = sign_bit x ≡ false
 
-times : (x y : Float) → Plus x → Plus y → Plus (x *₆₄ y)
-times x y h k = sign_mul binary64 x y (rw (h, k) refl)
+product_unsigned : (x y : Float) → Unsigned x → Unsigned y → Unsigned (x *₆₄ y)
+product_unsigned x y h k = sign_mul binary64 x y (rw (h, k) refl)
 
-distortion_plus : (d : BrownConrady5) → Plus (distortion_penalty d)
+distortion_penalty_unsigned : (d : BrownConrady5) → Unsigned (distortion_penalty d)
 unfolding distortion_penalty
-distortion_plus d =
-    times quarter _ quarter_plus
+distortion_penalty_unsigned d =
+    product_unsigned quarter _ quarter_unsigned
     (sign_add binary64 _ _
-    (sign_add binary64 _ _ (sign_add binary64 _ _ (sign_square binary64 d.k1) (sign_square binary64 d.k2)) (sign_twice binary64 quarter d.k3 quarter_plus))
+    (sign_add binary64 _ _ (sign_add binary64 _ _ (sign_square binary64 d.k1) (sign_square binary64 d.k2)) (product_by_number_twice_has_no_minus binary64 quarter d.k3 quarter_unsigned))
     (sign_add binary64 _ _ (sign_square binary64 d.p1) (sign_square binary64 d.p2)))
 
-centre_plus : (k : FxFyCxCy) (center : Pt2) → Plus (centre_penalty k center)
+centre_penalty_unsigned : (k : FxFyCxCy) (center : Pt2) → Unsigned (centre_penalty k center)
 unfolding centre_penalty
-centre_plus k center = times plus_zero _ zero_plus (sign_add binary64 _ _ (sign_square binary64 _) (sign_square binary64 _))
+centre_penalty_unsigned k center = product_unsigned plus_zero _ plus_zero_unsigned (sign_add binary64 _ _ (sign_square binary64 _) (sign_square binary64 _))
 
 distortion_fits : (d : BrownConrady5) → T (fits binary64 (distortion_penalty d))
 unfolding distortion_penalty
@@ -58,19 +58,19 @@ tilt_fits s = mul-fits binary64 quarter _
 
 -- ---- the score of a mean that isn't below 0
 module _ (mean : Float) (c : PinholeCamera) (sensor : ScheimpflugParams) (center : Pt2) where
-  pub score_not_below : lt mean plus_zero ≡ false → lt (score_of mean c sensor center) (tilt_penalty sensor) ≡ false
+  pub score_not_below_tilt_penalty : lt mean plus_zero ≡ false → lt (score_of mean c sensor center) (tilt_penalty sensor) ≡ false
   unfolding score_of
-  score_not_below h =
+  score_not_below_tilt_penalty h =
       let d = distortion_penalty c.dist in
       let t = tilt_penalty sensor in
       let z = centre_penalty c.k center in
       let a = mean +₆₄ d +₆₄ t in
-      let first : lt a t ≡ false = add_not_below (mean +₆₄ d) t (tilt_fits sensor) (sum_not_below mean d (distortion_fits c.dist) h (unsigned_not_below d (distortion_plus c.dist))) in
-      let then : lt (a +₆₄ z) a ≡ false = ap (λ (x : Float). lt x a) (add_commutes binary64 a z) ∙ add_not_below z a (add-fits binary64 (mean +₆₄ d) t) (unsigned_not_below z (centre_plus c.k center)) in
+      let first : lt a t ≡ false = sum_not_below_second (mean +₆₄ d) t (tilt_fits sensor) (sum_not_below_zero mean d (distortion_fits c.dist) h (unsigned_not_below d (distortion_penalty_unsigned c.dist))) in
+      let then : lt (a +₆₄ z) a ≡ false = ap (λ (x : Float). lt x a) (add_commutes binary64 a z) ∙ sum_not_below_second z a (add-fits binary64 (mean +₆₄ d) t) (unsigned_not_below z (centre_penalty_unsigned c.k center)) in
       case (is_nan (a +₆₄ z))
       (λ n. nan_not_below (a +₆₄ z) t n)
-      (λ n. not_below_trans (a +₆₄ z) a t (number_terms binary64 a z n).0 then first)
+      (λ n. not_below_trans (a +₆₄ z) a t (terms_of_sum_not_nan binary64 a z n).0 then first)
 
-  pub tilt_number_lem : is_nan (score_of mean c sensor center) ≡ false → is_nan (tilt_penalty sensor) ≡ false
+  pub tilt_penalty_is_number : is_nan (score_of mean c sensor center) ≡ false → is_nan (tilt_penalty sensor) ≡ false
   unfolding score_of
-  tilt_number_lem n = (number_terms binary64 (mean +₆₄ distortion_penalty c.dist) (tilt_penalty sensor) (number_terms binary64 (mean +₆₄ distortion_penalty c.dist +₆₄ tilt_penalty sensor) (centre_penalty c.k center) n).0).1
+  tilt_penalty_is_number n = (terms_of_sum_not_nan binary64 (mean +₆₄ distortion_penalty c.dist) (tilt_penalty sensor) (terms_of_sum_not_nan binary64 (mean +₆₄ distortion_penalty c.dist +₆₄ tilt_penalty sensor) (centre_penalty c.k center) n).0).1

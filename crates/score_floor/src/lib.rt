@@ -25,7 +25,7 @@ pub fn counted_penalty(sensor: ScheimpflugParams) -> f64
 }
 
 // The lower of a floor and a seed's counted penalty. Mostly this is the floor, and one comparison is enough.
-#[tactic(auto, using(crate::proofs::FloorKept::floor_kept))]
+#[tactic(auto, using(crate::proofs::FloorKept::floor_stays_if_le_penalty))]
 fn lowered(floor: f64, sensor: ScheimpflugParams) -> f64
     ensures { result ≡ min_of floor (counted_penalty sensor) }
 {

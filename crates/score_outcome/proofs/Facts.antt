@@ -3,18 +3,18 @@ use Rattle.std.specs.Prelude.{ℕ, ◌≡◌, refl, true, false, ◌&&◌, List,
 use Rattle.std.proofs.Common.{sym, subst, ◌∙◌}
 use Rattle.std.specs.Float.Ieee.{is_nan, lt, of_bits}
 use Rattle.common.specs.Tests.{case, both_true}
-use Rattle.common.specs.Results.{same_Err, err-ok}
+use Rattle.common.specs.Results.{refusals_equal, refusal_is_no_value}
 use Rattle.float.specs.Float.{is_finite, sign_bit}
-use Rattle.float.specs.Finite.{finite_number}
-use Rattle.float.specs.Sign.{unsigned_not_below, clamp_magnitude}
+use Rattle.float.specs.Finite.{finite_is_not_nan}
+use Rattle.float.specs.Sign.{unsigned_not_below, clamped_size_at_most_bound}
 use Rattle.float.specs.Literals.{plus_zero}
 use Rattle.camera_models.specs.declared.math.Pt2.{Pt2}
 use Rattle.camera_tilt.specs.declared.sensor.ScheimpflugParams.{ScheimpflugParams}
 use Rattle.score_camera.specs.declared.pinhole.PinholeCamera.{PinholeCamera}
 use Rattle.score_camera.specs.Camera.{tangential_bound, damped, damped_camera, finite_intrinsics, finite_distortion, valid_camera}
 use Rattle.score_outcome.specs.Evaluation.{solved_at, mean_with, enough_with, scoring_of, evaluated, outcome_of}
-use Rattle.score_outcome.proofs.Outcomes.{invalid_skips, few_skips, infinite_skips, nan_skips, number_scores, scored_passed}
-use Rattle.score_outcome.specs.Mean.{mean_unsigned}
+use Rattle.score_outcome.proofs.Outcomes.{invalid_camera_is_bad_camera, few_counted_is_no_mean, mean_not_finite_is_no_mean, nan_score_is_no_number, number_score_is_scored, scored_passed_tests}
+use Rattle.score_outcome.specs.Mean.{mean_with_unsigned}
 use Rattle.score_outcome.specs.declared.SolvedCamera.{SolvedCamera}
 use Rattle.score_outcome.specs.declared.Scoring.{Scoring}
 use Rattle.score_outcome.specs.declared.Finding.{Finding}
@@ -68,10 +68,10 @@ scoring_facts s sensor center rows flags v f n =
       k3_zero = refl;
       p1_finite = numbers.p1_finite;
       p2_finite = numbers.p2_finite;
-      p1_within = clamp_magnitude s.camera.dist.p1 tangential_bound refl refl (finite_number d.p1 numbers.p1_finite);
-      p2_within = clamp_magnitude s.camera.dist.p2 tangential_bound refl refl (finite_number d.p2 numbers.p2_finite);
+      p1_within = clamped_size_at_most_bound s.camera.dist.p1 tangential_bound refl refl (finite_is_not_nan d.p1 numbers.p1_finite);
+      p2_within = clamped_size_at_most_bound s.camera.dist.p2 tangential_bound refl refl (finite_is_not_nan d.p2 numbers.p2_finite);
       mean_finite = f;
-      mean_not_below = unsigned_not_below (mean_with s rows flags) (mean_unsigned s rows flags);
+      mean_not_below = unsigned_not_below (mean_with s rows flags) (mean_with_unsigned s rows flags);
       score_is = refl;
       score_number = n;
     }
@@ -89,32 +89,32 @@ reason_numbered_back NoNumber = refl
 pub scored_facts : (share : ℕ) (f : Finding) (sensor : ScheimpflugParams) (center : Pt2) (rows : List Float) (flags : List ℕ) (g : Scoring)
     → outcome_of share f sensor center rows flags ≡ Ok g → ScoredFacts sensor center g
 unfolding outcome_of
-scored_facts share Failed sensor center rows flags g h = absurd (err-ok HostFailed g h)
+scored_facts share Failed sensor center rows flags g h = absurd (refusal_is_no_value HostFailed g h)
 scored_facts share (Solved c) sensor center rows flags g h =
     let s = solved_at c sensor in
-    let p = scored_passed share s sensor center rows flags g h in
+    let p = scored_passed_tests share s sensor center rows flags g h in
     subst (λ (x : Scoring). ScoredFacts sensor center x) p.is (scoring_facts s sensor center rows flags p.valid p.finite p.number)
 
 -- a solved camera's reason is 2, 3 or 4
-solved_reason : (share : ℕ) (s : SolvedCamera) (sensor : ScheimpflugParams) (center : Pt2) (rows : List Float) (flags : List ℕ)
+solved_is_not_host_failed : (share : ℕ) (s : SolvedCamera) (sensor : ScheimpflugParams) (center : Pt2) (rows : List Float) (flags : List ℕ)
     → evaluated share s sensor center rows flags ≡ Err HostFailed → ⊥
-solved_reason share s sensor center rows flags h =
+solved_is_not_host_failed share s sensor center rows flags h =
     case (valid_camera (damped_camera s.camera))
     (λ v. case (enough_with share s rows flags)
     (λ e. case (is_finite (mean_with s rows flags))
     (λ m. case (is_nan (scoring_of s sensor center rows flags).score)
-    (λ k. let q = same_Err NoNumber HostFailed (sym (nan_skips share s sensor center rows flags v e m k) ∙ h) in cc)
-    (λ k. absurd (err-ok HostFailed (scoring_of s sensor center rows flags) (sym h ∙ number_scores share s sensor center rows flags v e m k))))
-    (λ m. let q = same_Err NoMean HostFailed (sym (infinite_skips share s sensor center rows flags v m) ∙ h) in cc))
-    (λ e. let q = same_Err NoMean HostFailed (sym (few_skips share s sensor center rows flags v e) ∙ h) in cc))
-    (λ v. let q = same_Err BadCamera HostFailed (sym (invalid_skips share s sensor center rows flags v) ∙ h) in cc)
+    (λ k. let q = refusals_equal NoNumber HostFailed (sym (nan_score_is_no_number share s sensor center rows flags v e m k) ∙ h) in cc)
+    (λ k. absurd (refusal_is_no_value HostFailed (scoring_of s sensor center rows flags) (sym h ∙ number_score_is_scored share s sensor center rows flags v e m k))))
+    (λ m. let q = refusals_equal NoMean HostFailed (sym (mean_not_finite_is_no_mean share s sensor center rows flags v m) ∙ h) in cc))
+    (λ e. let q = refusals_equal NoMean HostFailed (sym (few_counted_is_no_mean share s sensor center rows flags v e) ∙ h) in cc))
+    (λ v. let q = refusals_equal BadCamera HostFailed (sym (invalid_camera_is_bad_camera share s sensor center rows flags v) ∙ h) in cc)
 
 -- Reason 1 for Failed alone.
-pub skipped_failed : (share : ℕ) (f : Finding) (sensor : ScheimpflugParams) (center : Pt2) (rows : List Float) (flags : List ℕ)
+pub host_failed_only_if_failed : (share : ℕ) (f : Finding) (sensor : ScheimpflugParams) (center : Pt2) (rows : List Float) (flags : List ℕ)
     → outcome_of share f sensor center rows flags ≡ Err HostFailed → f ≡ Failed
 unfolding outcome_of
-skipped_failed share Failed sensor center rows flags h = refl
-skipped_failed share (Solved c) sensor center rows flags h = absurd (solved_reason share (solved_at c sensor) sensor center rows flags h)
+host_failed_only_if_failed share Failed sensor center rows flags h = refl
+host_failed_only_if_failed share (Solved c) sensor center rows flags h = absurd (solved_is_not_host_failed share (solved_at c sensor) sensor center rows flags h)
 
 pub outcomes_right : OutcomesRight
-outcomes_right = record { scored_facts = scored_facts; skipped_failed = skipped_failed }
+outcomes_right = record { scored_facts = scored_facts; skipped_failed = host_failed_only_if_failed }

@@ -3,11 +3,11 @@ use Rattle.std.specs.Prelude.{ℕ, ◌*◌, Bool, not, ◌||◌, cond, List, [],
 use Rattle.std.specs.List.{list_any}
 use Rattle.std.specs.Float.Ieee.{is_nan}
 use Rattle.common.specs.declared.Refusal.{Refusal}
-use Rattle.common.specs.declared.Refusal.TheVariants.{BadRows, BeyondHalf}
+use Rattle.common.specs.declared.Refusal.TheVariants.{BadRows, TiltTooLarge}
 use Rattle.common.specs.Checks.{Check, ◌when◌, first_refusal}
 use Rattle.float.specs.Float.{is_finite}
 use Rattle.float_series.specs.Series.{sines, cosines, series_of}
-use Rattle.float_series.specs.Answer.{beyond_half}
+use Rattle.float_series.specs.Answer.{tilt_too_large}
 use Rattle.camera_models.specs.declared.math.Pt2.{Pt2}
 use Rattle.camera_tilt.specs.declared.sensor.ScheimpflugParams.{ScheimpflugParams}
 use Rattle.score_camera.specs.declared.pinhole.PinholeCamera.{PinholeCamera}
@@ -34,7 +34,7 @@ row_checks rows flags = (BadRows when ltb 1024 (length flags)) ∷ (BadRows when
 
 -- After 13: 27 where a tilt of the seed is NaN or beyond 0.5 in size.
 unfoldable pub solved_refusal : ScheimpflugParams → List Float → List ℕ → Result ⊤ Refusal
-solved_refusal sensor rows flags = first_refusal (row_checks rows flags ++ ((BeyondHalf when (beyond_half sensor.tilt_x || beyond_half sensor.tilt_y)) ∷ []))
+solved_refusal sensor rows flags = first_refusal (row_checks rows flags ++ ((TiltTooLarge when (tilt_too_large sensor.tilt_x || tilt_too_large sensor.tilt_y)) ∷ []))
 
 -- For Failed neither rows nor tilts are read.
 unfoldable pub finding_refusal : Finding → ScheimpflugParams → List Float → List ℕ → Result ⊤ Refusal

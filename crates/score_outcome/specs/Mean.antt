@@ -16,33 +16,33 @@ use Rattle.score_rows.specs.declared.Row.{Row}
 use Rattle.score_rows.specs.declared.ErrorSum.{ErrorSum}
 use Rattle.score_outcome.specs.declared.SolvedCamera.{SolvedCamera}
 
-sign_error : (c : PinholeCamera) (h : Matrix) (r : Row) → sign_bit (row_error c h r) ≡ false
+row_error_unsigned : (c : PinholeCamera) (h : Matrix) (r : Row) → sign_bit (row_error c h r) ≡ false
 unfolding row_error
-sign_error c h r = sign_root binary64 _ (sign_add binary64 _ _ (sign_square binary64 _) (sign_square binary64 _))
+row_error_unsigned c h r = sign_root binary64 _ (sign_add binary64 _ _ (sign_square binary64 _) (sign_square binary64 _))
 
-sign_sum : (c : PinholeCamera) (h : Matrix) (rs : List Row) (s : ErrorSum) → sign_bit s.sum ≡ false → sign_bit (summed s (counted_errors c h rs)).sum ≡ false
+summed_unsigned : (c : PinholeCamera) (h : Matrix) (rs : List Row) (s : ErrorSum) → sign_bit s.sum ≡ false → sign_bit (summed s (counted_errors c h rs)).sum ≡ false
 unfolding counted_errors summed
-sign_sum c h [] s p = p
-sign_sum c h (r ∷ rs) s p =
+summed_unsigned c h [] s p = p
+summed_unsigned c h (r ∷ rs) s p =
     elim (is_counted c h r) as (λ (v : Bool). sign_bit (summed s (cond v (row_error c h r ∷ counted_errors c h rs) (counted_errors c h rs))).sum ≡ false) [
-      | true ↦ sign_sum c h rs (record { sum = s.sum +₆₄ row_error c h r; count = s.count + 1 }) (sign_add binary64 s.sum (row_error c h r) p (sign_error c h r))
-      | false ↦ sign_sum c h rs s p
+      | true ↦ summed_unsigned c h rs (record { sum = s.sum +₆₄ row_error c h r; count = s.count + 1 }) (sign_add binary64 s.sum (row_error c h r) p (row_error_unsigned c h r))
+      | false ↦ summed_unsigned c h rs s p
     ]
 
-sign_infinity : sign_bit infinity ≡ false
+infinity_unsigned : sign_bit infinity ≡ false
 unfolding sign_bit div of_bits
-sign_infinity = refl
+infinity_unsigned = refl
 
-sign_mean : (s : ErrorSum) → sign_bit s.sum ≡ false → sign_bit (mean_of s) ≡ false
+mean_of_unsigned : (s : ErrorSum) → sign_bit s.sum ≡ false → sign_bit (mean_of s) ≡ false
 unfolding mean_of
-sign_mean s p =
+mean_of_unsigned s p =
     elim (eqb s.count 0) as (λ (v : Bool). sign_bit (cond v infinity (s.sum /₆₄ of_int binary64 (pos s.count))) ≡ false) [
-      | true ↦ sign_infinity
+      | true ↦ infinity_unsigned
       | false ↦ sign_div binary64 s.sum (of_int binary64 (pos s.count)) p (sign_count binary64 s.count)
     ]
 
-pub mean_unsigned : (s : SolvedCamera) (rows : List Float) (flags : List ℕ) → sign_bit (mean_with s rows flags) ≡ false
+pub mean_with_unsigned : (s : SolvedCamera) (rows : List Float) (flags : List ℕ) → sign_bit (mean_with s rows flags) ≡ false
 unfolding mean_with errors_with error_sum sign_bit of_bits
-mean_unsigned s rows flags =
-    sign_mean (summed no_errors (counted_errors (damped_camera s.camera) (tilt_matrix s.trig) (rows_of rows flags)))
-    (sign_sum (damped_camera s.camera) (tilt_matrix s.trig) (rows_of rows flags) no_errors refl)
+mean_with_unsigned s rows flags =
+    mean_of_unsigned (summed no_errors (counted_errors (damped_camera s.camera) (tilt_matrix s.trig) (rows_of rows flags)))
+    (summed_unsigned (damped_camera s.camera) (tilt_matrix s.trig) (rows_of rows flags) no_errors refl)

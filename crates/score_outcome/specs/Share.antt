@@ -17,11 +17,11 @@ pub record RestsOn (share : ℕ) (s : SolvedCamera) (rows : List Float) (flags :
   pub enough_counted : share * length flags ≤ (errors_with s rows flags).count * 100
 
 -- ---- the outcome that asks for no share
-abbrev pub evaluated01 : SolvedCamera → ScheimpflugParams → Pt2 → List Float → List ℕ → Outcome
-evaluated01 s sensor center rows flags =
+abbrev pub evaluated_without_share : SolvedCamera → ScheimpflugParams → Pt2 → List Float → List ℕ → Outcome
+evaluated_without_share s sensor center rows flags =
     cond (not (valid_camera (damped_camera s.camera))) (Err BadCamera)
     (cond (not (is_finite (mean_with s rows flags))) (Err NoMean) (scored_as (scoring_of s sensor center rows flags)))
 
-abbrev pub outcome01 : Finding → ScheimpflugParams → Pt2 → List Float → List ℕ → Outcome
-outcome01 Failed sensor center rows flags = Err HostFailed
-outcome01 (Solved c) sensor center rows flags = evaluated01 (solved_at c sensor) sensor center rows flags
+abbrev pub outcome_without_share : Finding → ScheimpflugParams → Pt2 → List Float → List ℕ → Outcome
+outcome_without_share Failed sensor center rows flags = Err HostFailed
+outcome_without_share (Solved c) sensor center rows flags = evaluated_without_share (solved_at c sensor) sensor center rows flags

@@ -14,7 +14,7 @@ use Rattle.score_outcome.specs.declared.Finding.{Finding}
 use Rattle.score_outcome.specs.declared.Finding.TheVariants.{Failed, Solved}
 use Rattle.score_outcome.specs.declared.SkipReason.TheVariants.{HostFailed, NoMean}
 use Rattle.score_outcome.specs.Facts.{ScoredFacts}
-use Rattle.score_outcome.specs.Share.{RestsOn, outcome01}
+use Rattle.score_outcome.specs.Share.{RestsOn, outcome_without_share}
 
 pub record OutcomesRight : Type 0 where
   pub scored_facts : (share : ℕ) (f : Finding) (sensor : ScheimpflugParams) (center : Pt2) (rows : List Float) (flags : List ℕ) (g : Scoring)
@@ -28,7 +28,7 @@ pub record ShareRight : Type 0 where
   pub scored_rests : (share : ℕ) (s : SolvedCamera) (sensor : ScheimpflugParams) (center : Pt2) (rows : List Float) (flags : List ℕ) (g : Scoring)
       → evaluated share s sensor center rows flags ≡ Ok g → RestsOn share s rows flags g.mean
   -- a share of 0 asks for nothing
-  pub zero_share : (f : Finding) (sensor : ScheimpflugParams) (center : Pt2) (rows : List Float) (flags : List ℕ) → outcome_of 0 f sensor center rows flags ≡ outcome01 f sensor center rows flags
+  pub zero_share : (f : Finding) (sensor : ScheimpflugParams) (center : Pt2) (rows : List Float) (flags : List ℕ) → outcome_of 0 f sensor center rows flags ≡ outcome_without_share f sensor center rows flags
   -- no rows have every share, and no mean
   pub no_rows : (share : ℕ) (s : SolvedCamera) (sensor : ScheimpflugParams) (center : Pt2)
       → valid_camera (damped_camera s.camera) ≡ true → (enough_with share s [] [] ≡ true) × (evaluated share s sensor center [] [] ≡ Err NoMean)

@@ -13,7 +13,7 @@ ghost use Rattle.score_outcome.specs.Evaluation.{any_above_one, trig_of, solved_
 use camera_models::math::Pt2;
 use camera_tilt::sensor::{ScheimpflugParams, TiltTrig, tilt_projection_matrix};
 use common::Refusal;
-use float_series::{beyond, cosine_sum, sine_sum};
+use float_series::{tilt_too_large, cosine_sum, sine_sum};
 use score_camera::penalties::candidate_score;
 use score_camera::pinhole::{PinholeCamera, damped_camera, validate_camera};
 use score_rows::{ErrorSum, mean_reproj_error, reproj_error_sum};
@@ -103,8 +103,8 @@ fn solved_refusal(sensor: ScheimpflugParams, rows: &[f64], flags: &[u8]) -> Resu
     if any_above_one(flags) {
         return Err(Refusal::BadRows);
     }
-    if beyond(sensor.tilt_x) | beyond(sensor.tilt_y) {
-        return Err(Refusal::BeyondHalf);
+    if tilt_too_large(sensor.tilt_x) | tilt_too_large(sensor.tilt_y) {
+        return Err(Refusal::TiltTooLarge);
     }
     Ok(())
 }

@@ -91,7 +91,7 @@ fn one_in_front(flag: u8) -> u8
 
 // How many of a block's rows lie in front of the camera. With `filter` and `count` instead of the loop 900 rows take
 // 18,246 instructions more, and 12,344 more where none lies in front.
-#[tactic(auto, using(crate::proofs::Steps::front_turns))]
+#[tactic(auto, using(crate::proofs::Steps::in_front_turns))]
 fn in_front(block: Block) -> u8
     ensures { result ≡ in_front block.entry.rows.flags.now (length block.entry.rows.flags.now) }
 {
@@ -104,7 +104,7 @@ fn in_front(block: Block) -> u8
 
 // Adds the errors of a block's rows, in their order, by the flags alone. No flag is looked at where ALL rows are known
 // to lie in front of the camera.
-#[tactic(auto, using(crate::proofs::Steps::errors_turns))]
+#[tactic(auto, using(crate::proofs::Steps::add_errors_turns))]
 fn add_flagged<const ALL: bool>(total: ErrorSum, flags: &[u8], errors: &[f64]) -> ErrorSum
     requires length { length errors.now ≡ length flags.now }
     requires all_in_front { ALL ≡ true → in_front flags.now (length flags.now) ≡ length flags.now }
@@ -145,7 +145,7 @@ fn add_dense(total: ErrorSum, by: Projection, block: Block, errors: &mut [f64]) 
 }
 
 // Adds a block's rows one by one, and leaves the block out where none of them lies in front of the camera.
-#[tactic(auto, using(crate::proofs::Steps::none_counted))]
+#[tactic(auto, using(crate::proofs::Steps::none_in_front_adds_nothing))]
 fn add_sparse(total: ErrorSum, by: Projection, block: Block) -> ErrorSum
     ensures { result ≡ add_all_rows total by block.entry.rows }
 {

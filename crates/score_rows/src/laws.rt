@@ -3,7 +3,7 @@
 ghost use Rattle.score_rows.specs.Theorem.{CountedMost};
 
 /// At most as many errors count as there are flags.
-#[tactic(auto, using(crate::proofs::Counted::counted_most))]
+#[tactic(auto, using(crate::proofs::Counted::error_count_le_flags))]
 pub fn counted_law()
     ensures { CountedMost }
 {}

@@ -105,7 +105,7 @@ fn add_row(total: &mut ErrorSum, by: Projection, row: Row)
 
 // Adds some rows one by one. There are as many flags as fours; the flags are cut to that length all the same, so that
 // one test a row ends the compiled loop.
-#[tactic(auto, using(crate::proofs::Steps::turns))]
+#[tactic(auto, using(crate::proofs::Steps::add_rows_turns))]
 fn add_rows(total: ErrorSum, by: Projection, rows: Rows) -> ErrorSum
     ensures { result ≡ add_all_rows total by rows.entry }
 {
@@ -124,7 +124,7 @@ fn add_rows(total: ErrorSum, by: Projection, rows: Rows) -> ErrorSum
 
 // Sum and count of the errors of all rows. Fewer than 8 rows are added one by one: a block isn't worth while for them.
 // Inlined, so that camera and matrix aren't copied for a call.
-#[tactic(auto, using(crate::proofs::Steps::cut_rows))]
+#[tactic(auto, using(crate::proofs::Steps::add_rows_from_zero_is_error_sum))]
 #[inline(always)]
 pub fn reproj_error_sum(
     camera: PinholeCamera,

@@ -19,7 +19,7 @@ pub struct Block<'a> {
 }
 
 // The rows of two lists, cut to where one of the lists ends.
-#[tactic(auto, using(crate::proofs::Steps::rows_cut))]
+#[tactic(auto, using(crate::proofs::Steps::rows_of_lists_cut_to_fewer))]
 pub fn rows_of<'a>(numbers: &'a [f64], flags: &'a [u8]) -> Rows<'a>
     ensures { rows_of result.numbers.now result.flags.now ≡ rows_of numbers.now flags.now }
 {

@@ -2,7 +2,7 @@
 use Rattle.std.specs.Prelude.{ℕ, zero, suc, ◌-◌, not, ◌&&◌, cond, List, [], ◌∷◌, ltb, length, Float, Result, Ok, Err, ⊤}
 use Rattle.common.specs.Checks.{◌when◌, first_refusal}
 use Rattle.common.specs.declared.Refusal.{Refusal}
-use Rattle.common.specs.declared.Refusal.TheVariants.{NoSeedWaits, ShortList}
+use Rattle.common.specs.declared.Refusal.TheVariants.{NoSeedWaiting, ListShortened}
 use Rattle.seed_rules.specs.declared.CandidateSeed.{CandidateSeed}
 use Rattle.seed_rules.specs.Rules.{offsets, y_offsets, next_list}
 use Rattle.seed_rules.specs.Layout.{written}
@@ -27,7 +27,7 @@ left r l = record { run = r; list = l }
 
 -- ---- refusals: 12 no seed is waiting (or the record isn't sound), 10 the list is too short, then those of the finding for the seed that the run keeps
 abbrev pub run_refusal : Run → ℕ → Result ⊤ Refusal
-run_refusal r n = first_refusal ((NoSeedWaits when not (sound r && r.waiting.is_waiting)) ∷ (ShortList when ltb n r.place.demand) ∷ [])
+run_refusal r n = first_refusal ((NoSeedWaiting when not (sound r && r.waiting.is_waiting)) ∷ (ListShortened when ltb n r.place.demand) ∷ [])
 
 abbrev pub answer_refusal : Run → ℕ → Finding → List Float → List ℕ → Result ⊤ Refusal
 answer_refusal r n f rows flags = elim (run_refusal r n) [ Ok _ ↦ finding_refusal f r.waiting.seed.sensor rows flags | Err refusal ↦ Err refusal ]

@@ -47,7 +47,7 @@ fn answer_refusal(
     ensures { result ≡ answer_refusal run list_len finding rows.now flags.now }
 {
     if !(is_sound(run) & run.waiting.is_waiting) {
-        return Err(Refusal::NoSeedWaits);
+        return Err(Refusal::NoSeedWaiting);
     }
     run.list_refusal(list_len)?;
     score_outcome::finding_refusal(finding, run.waiting.seed.sensor, rows, flags)

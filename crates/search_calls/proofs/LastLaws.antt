@@ -10,9 +10,9 @@ use Rattle.search_record.specs.declared.run.LastAnswer.{LastAnswer}
 use Rattle.search_record.specs.declared.run.Run.{Run}
 use Rattle.search_calls.specs.Last.{has_line, recorded_in, last_def}
 
-none_recorded : (a : LastAnswer) → leb a.skipped 4 ≡ false → recorded_in a ≡ None
+reason_above_4_records_nothing : (a : LastAnswer) → leb a.skipped 4 ≡ false → recorded_in a ≡ None
 unfolding recorded_in
-none_recorded a h =
+reason_above_4_records_nothing a h =
     let n = a.skipped in
     let k = leb-false n 4 h in
     simp (ne_eqb n 0 (λ e. omega arith), ne_eqb n 1 (λ e. omega arith), ne_eqb n 2 (λ e. omega arith), ne_eqb n 3 (λ e. omega arith), ne_eqb n 4 (λ e. omega arith))
@@ -21,9 +21,9 @@ none_recorded a h =
 abbrev line_with : LastAnswer → Option Recorded → Option Line
 line_with a o = elim o [ Some outcome ↦ Some (record { number = a.number; round = a.round; seed = a.seed; outcome = outcome }) | None ↦ None ]
 
-pub line_by_record : (r : Run) → last_def r ≡ cond (sound r && r.last.found) (line_with r.last (recorded_in r.last)) None
+pub last_def_by_recorded : (r : Run) → last_def r ≡ cond (sound r && r.last.found) (line_with r.last (recorded_in r.last)) None
 unfolding last_def has_line
-line_by_record r =
+last_def_by_recorded r =
     case (sound r && r.last.found)
-    (λ h. case (leb r.last.skipped 4) (λ k. rw (h, k) refl) (λ k. rw (h, k) (ap (line_with r.last) (sym (none_recorded r.last k)))))
+    (λ h. case (leb r.last.skipped 4) (λ k. rw (h, k) refl) (λ k. rw (h, k) (ap (line_with r.last) (sym (reason_above_4_records_nothing r.last k)))))
     (λ h. rw h refl)

@@ -5,8 +5,8 @@ use Rattle.std.proofs.Common.{arith, refl, ap, subst, ◌∙◌}
 use mathlib.Core.List.{List, [], ◌∷◌, Memᴰ}
 use borrow.Author.Tests.{lt-ltb, le-ltb}
 use Rattle.std.specs.Float.Ieee.{lt}
-use Rattle.common.specs.declared.Refusal.TheVariants.{ShortList}
-use Rattle.common.specs.Results.{same_Ok, err-ok}
+use Rattle.common.specs.declared.Refusal.TheVariants.{ListShortened}
+use Rattle.common.specs.Results.{ok_values_equal, refusal_is_no_value}
 use Rattle.common.specs.Tests.{case}
 use Rattle.camera_models.specs.declared.math.Pt2.{Pt2}
 use Rattle.seed_rules.specs.declared.CandidateSeed.{CandidateSeed}
@@ -15,41 +15,41 @@ use Rattle.score_outcome.specs.declared.Scoring.{Scoring}
 use Rattle.score_outcome.specs.Evaluation.{outcome_of}
 use Rattle.score_best.specs.declared.Candidate.{Candidate}
 use Rattle.score_floor.specs.Floor.{floor_of, seeds_from, seeds_between}
-use Rattle.score_floor.proofs.FloorLaws.{floor_holds}
+use Rattle.score_floor.proofs.FloorLaws.{outcome_not_below_floor}
 use Rattle.search_record.specs.Record.{sound}
-use Rattle.search_record.specs.Laws.{bounds, waiting_at}
+use Rattle.search_record.specs.Laws.{bounds_of_sound, waiting_run_at_lt_len}
 use Rattle.search_record.specs.declared.run.Run.{Run}
 use Rattle.search_calls.specs.declared.stop.Outlook.{Outlook}
 use Rattle.search_calls.specs.Stop.{left_seeds, best_so_far, nothing_left, with_floor, outlook_of, stop_def}
 use Rattle.search_calls.specs.Theorem.{StopFloorHolds}
 
 -- ---- whether a seed is left
-between_none : (l : List Float) (i n : ℕ) → n ≤ i → seeds_between l i n ≡ []
+seeds_between_empty : (l : List Float) (i n : ℕ) → n ≤ i → seeds_between l i n ≡ []
 unfolding seeds_from
-between_none l i n h = let e : n - i ≡ 0 = omega arith in rw e
+seeds_between_empty l i n h = let e : n - i ≡ 0 = omega arith in rw e
 
-left_none : (r : Run) (l : List Float) → sound r ≡ true → r.place.len ≤ r.place.at → left_seeds r l ≡ []
+left_seeds_empty : (r : Run) (l : List Float) → sound r ≡ true → r.place.len ≤ r.place.at → left_seeds r l ≡ []
 unfolding left_seeds
-left_none r l s h =
+left_seeds_empty r l s h =
     case r.waiting.is_waiting
-    (λ w. let k = waiting_at r (bounds r s) w in absurd (omega arith))
-    (λ w. rw w (between_none l r.place.at r.place.len h))
+    (λ w. let k = waiting_run_at_lt_len r (bounds_of_sound r s) w in absurd (omega arith))
+    (λ w. rw w (seeds_between_empty l r.place.at r.place.len h))
 
 -- these seeds are left, and there is a floor
-abbrev SomeLeft : Option Candidate → List CandidateSeed → Type 0
-SomeLeft b ss = outlook_of b ss ≡ with_floor b (floor_of ss)
+abbrev HasFloor : Option Candidate → List CandidateSeed → Type 0
+HasFloor b ss = outlook_of b ss ≡ with_floor b (floor_of ss)
 
-some_between : (b : Option Candidate) (l : List Float) (i n : ℕ) → i < n → SomeLeft b (seeds_between l i n)
+seeds_between_has_floor : (b : Option Candidate) (l : List Float) (i n : ℕ) → i < n → HasFloor b (seeds_between l i n)
 unfolding outlook_of seeds_from
-some_between b l i n h = let e : suc (n - suc i) ≡ n - i = omega arith in subst (λ (k : ℕ). SomeLeft b (seeds_from l i k)) e refl
+seeds_between_has_floor b l i n h = let e : suc (n - suc i) ≡ n - i = omega arith in subst (λ (k : ℕ). HasFloor b (seeds_from l i k)) e refl
 
-left_some : (b : Option Candidate) (r : Run) (l : List Float) → r.place.at < r.place.len → SomeLeft b (left_seeds r l)
+left_seeds_has_floor : (b : Option Candidate) (r : Run) (l : List Float) → r.place.at < r.place.len → HasFloor b (left_seeds r l)
 unfolding left_seeds outlook_of
-left_some b r l h =
+left_seeds_has_floor b r l h =
     let p = r.place in
     case r.waiting.is_waiting
-    (λ w. let e : r.waiting.seed ∷ seeds_between l (p.at + 1) p.len ≡ left_seeds r l = rw w refl in subst (SomeLeft b) e refl)
-    (λ w. let e : seeds_between l p.at p.len ≡ left_seeds r l = rw w refl in subst (SomeLeft b) e (some_between b l p.at p.len h))
+    (λ w. let e : r.waiting.seed ∷ seeds_between l (p.at + 1) p.len ≡ left_seeds r l = rw w refl in subst (HasFloor b) e refl)
+    (λ w. let e : seeds_between l p.at p.len ≡ left_seeds r l = rw w refl in subst (HasFloor b) e (seeds_between_has_floor b l p.at p.len h))
 
 -- ---- the four ways that the call goes
 module _ (r : Run) (l : List Float) where
@@ -58,43 +58,43 @@ module _ (r : Run) (l : List Float) where
   stop_unsound s = simp s
 
   module _ (s : sound r ≡ true) where
-    pub stop_short : length l < r.place.demand → stop_def r l ≡ Err ShortList
+    pub stop_short : length l < r.place.demand → stop_def r l ≡ Err ListShortened
     unfolding stop_def
     stop_short h = simp (s, lt-ltb (length l) r.place.demand h)
 
-    pub stop_none : r.place.demand ≤ length l → r.place.len ≤ r.place.at → stop_def r l ≡ Ok (nothing_left (best_so_far r))
+    pub stop_with_no_seed_left : r.place.demand ≤ length l → r.place.len ≤ r.place.at → stop_def r l ≡ Ok (nothing_left (best_so_far r))
     unfolding stop_def outlook_of
-    stop_none h k = simp (s, le-ltb (length l) r.place.demand h, left_none r l s k)
+    stop_with_no_seed_left h k = simp (s, le-ltb (length l) r.place.demand h, left_seeds_empty r l s k)
 
-    pub stop_some : r.place.demand ≤ length l → r.place.at < r.place.len → stop_def r l ≡ Ok (with_floor (best_so_far r) (floor_of (left_seeds r l)))
+    pub stop_with_seeds_left : r.place.demand ≤ length l → r.place.at < r.place.len → stop_def r l ≡ Ok (with_floor (best_so_far r) (floor_of (left_seeds r l)))
     unfolding stop_def
-    stop_some h k = simp (s, le-ltb (length l) r.place.demand h, left_some (best_so_far r) r l k)
+    stop_with_seeds_left h k = simp (s, le-ltb (length l) r.place.demand h, left_seeds_has_floor (best_so_far r) r l k)
 
 -- ---- the floor of a reply
-outlook_floor : (b : Option Candidate) (ss : List CandidateSeed) (x : Float) → (outlook_of b ss).floor ≡ Some x → x ≡ floor_of ss
+outlook_floor_is_floor_of : (b : Option Candidate) (ss : List CandidateSeed) (x : Float) → (outlook_of b ss).floor ≡ Some x → x ≡ floor_of ss
 unfolding outlook_of
-outlook_floor b [] x h = cc
-outlook_floor b (s ∷ ss) x h = cc
+outlook_floor_is_floor_of b [] x h = cc
+outlook_floor_is_floor_of b (s ∷ ss) x h = cc
 
-pub stop_floor : (r : Run) (l : List Float) (o : Outlook) → stop_def r l ≡ Ok o → (x : Float) → o.floor ≡ Some x → x ≡ floor_of (left_seeds r l)
+pub stop_floor_is_floor_of_left : (r : Run) (l : List Float) (o : Outlook) → stop_def r l ≡ Ok o → (x : Float) → o.floor ≡ Some x → x ≡ floor_of (left_seeds r l)
 unfolding stop_def
-stop_floor r l o e x h =
+stop_floor_is_floor_of_left r l o e x h =
     case (sound r)
     (λ s. case (ltb (length l) r.place.demand)
-    (λ t. absurd (err-ok ShortList o (simp (s, t) at e)))
+    (λ t. absurd (refusal_is_no_value ListShortened o (simp (s, t) at e)))
     (λ t.
-    let q = same_Ok (outlook_of (best_so_far r) (left_seeds r l)) o (simp (s, t) at e) in
-    outlook_floor (best_so_far r) (left_seeds r l) x (ap (λ (p : Outlook). p.floor) q ∙ h)))
+    let q = ok_values_equal (outlook_of (best_so_far r) (left_seeds r l)) o (simp (s, t) at e) in
+    outlook_floor_is_floor_of (best_so_far r) (left_seeds r l) x (ap (λ (p : Outlook). p.floor) q ∙ h)))
     (λ s.
-    let q = same_Ok (nothing_left None) o (simp s at e) in
+    let q = ok_values_equal (nothing_left None) o (simp s at e) in
     let z : ◌≡◌ {A = Option Float} None (Some x) = ap (λ (p : Outlook). p.floor) q ∙ h in
     cc)
 
 -- no candidate from the seeds left can score below the floor, whichever camera the host finds
-pub none_below : (r : Run) (l : List Float) (o : Outlook) → stop_def r l ≡ Ok o → (x : Float) → o.floor ≡ Some x → {s : CandidateSeed} → Memᴰ s (left_seeds r l)
+pub no_outcome_below_stop_floor : (r : Run) (l : List Float) (o : Outlook) → stop_def r l ≡ Ok o → (x : Float) → o.floor ≡ Some x → {s : CandidateSeed} → Memᴰ s (left_seeds r l)
     → (share : ℕ) (f : Finding) (center : Pt2) (rows : List Float) (flags : List ℕ) (g : Scoring) → outcome_of share f s.sensor center rows flags ≡ Ok g → lt g.score x ≡ false
-none_below r l o e x h {s} m share f center rows flags g k =
-    ap (lt g.score) (stop_floor r l o e x h) ∙ floor_holds (left_seeds r l) m share f center rows flags g k
+no_outcome_below_stop_floor r l o e x h {s} m share f center rows flags g k =
+    ap (lt g.score) (stop_floor_is_floor_of_left r l o e x h) ∙ outcome_not_below_floor (left_seeds r l) m share f center rows flags g k
 
 pub stop_floor_holds : StopFloorHolds
-stop_floor_holds = record { none_below = none_below }
+stop_floor_holds = record { none_below = no_outcome_below_stop_floor }

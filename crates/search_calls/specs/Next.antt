@@ -2,7 +2,7 @@
 use Rattle.std.specs.Prelude.{ℕ, ◌*◌, Bool, not, ◌&&◌, cond, List, [], ◌∷◌, leb, ltb, length, take, drop, Float, Result, Ok, Err, ⊤}
 use Rattle.common.specs.Checks.{Check, ◌when◌, first_refusal}
 use Rattle.common.specs.declared.Refusal.{Refusal}
-use Rattle.common.specs.declared.Refusal.TheVariants.{NothingScored, SeedWaits, ShortList}
+use Rattle.common.specs.declared.Refusal.TheVariants.{NothingScored, SeedWaiting, ListShortened}
 use Rattle.seed_rules.specs.Layout.{seed_at}
 use Rattle.search_record.specs.Record.{sound, awaiting}
 use Rattle.search_record.specs.declared.run.Reply.{Reply}
@@ -15,8 +15,8 @@ use Rattle.search_calls.specs.declared.next.Handed.TheVariants.{Candidate, Over}
 abbrev pub next_checks : Run → ℕ → List Check
 next_checks r n =
     (NothingScored when not (sound r))
-    ∷ (SeedWaits when r.waiting.is_waiting)
-    ∷ (ShortList when ltb n r.place.demand)
+    ∷ (SeedWaiting when r.waiting.is_waiting)
+    ∷ (ListShortened when ltb n r.place.demand)
     ∷ (NothingScored when (r.place.over && not r.run_best.found))
     ∷ []
 

@@ -2,7 +2,7 @@
 use Rattle.std.specs.Prelude.{◌+◌, false, not, cond, List, [], ◌∷◌, ltb, length, Float, Option, Some, None, Result, Ok, Err}
 use Rattle.std.specs.Float.Ieee.{lt}
 use Rattle.common.specs.declared.Refusal.{Refusal}
-use Rattle.common.specs.declared.Refusal.TheVariants.{ShortList}
+use Rattle.common.specs.declared.Refusal.TheVariants.{ListShortened}
 use Rattle.seed_rules.specs.declared.CandidateSeed.{CandidateSeed}
 use Rattle.score_best.specs.declared.Candidate.{Candidate}
 use Rattle.score_best.specs.Best.{best_candidate}
@@ -37,5 +37,5 @@ outlook_of b (s ∷ ss) = with_floor b (floor_of (s ∷ ss))
 unfoldable pub stop_def : Run → List Float → Result Outlook Refusal
 stop_def r l =
     cond (sound r)
-    (cond (ltb (length l) r.place.demand) (Err ShortList) (Ok (outlook_of (best_so_far r) (left_seeds r l))))
+    (cond (ltb (length l) r.place.demand) (Err ListShortened) (Ok (outlook_of (best_so_far r) (left_seeds r l))))
     (Ok (nothing_left None))

@@ -17,7 +17,7 @@ fn recorded_in(last: LastAnswer) -> Option<Recorded>
 
 // The run keeps a line where a candidate was answered, and scored or skipped for reason 1 to 4. The line is made field
 // by field, since a TryFrom of the answer would name a refusal that None drops.
-#[tactic(auto, using(crate::proofs::LastLaws::line_by_record))]
+#[tactic(auto, using(crate::proofs::LastLaws::last_def_by_recorded))]
 pub fn last_line(run: Run) -> Option<Line>
     ensures { result ≡ last_def run }
 {

@@ -25,7 +25,7 @@ fn next_refusal(run: Run, list_len: usize) -> Result<(), Refusal>
         return Err(Refusal::NothingScored);
     }
     if run.waiting.is_waiting {
-        return Err(Refusal::SeedWaits);
+        return Err(Refusal::SeedWaiting);
     }
     run.list_refusal(list_len)?;
     if run.place.over & !run.run_best.found {

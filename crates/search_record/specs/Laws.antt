@@ -3,7 +3,7 @@ use Rattle.std.specs.Prelude.{ℕ, ◌+◌, ◌*◌, ◌≤◌, ◌<◌, ◌≡�
 use Rattle.std.proofs.Common.{sym, ◌∙◌, true≢false, arith, leb-true, ltb-true, ltb-false, eqb-true, le-leb, eq-eqb, ne_eqb}
 use Rattle.common.specs.Tests.{case, both_true}
 use Rattle.common.specs.declared.Refusal.{Refusal}
-use Rattle.common.specs.declared.Refusal.TheVariants.{ShortList}
+use Rattle.common.specs.declared.Refusal.TheVariants.{ListShortened}
 use Rattle.common.specs.ChecksLaws.{refuses_none}
 use Rattle.journal_line.specs.declared.Counts.{Counts}
 use Rattle.journal_line.specs.Report.{total}
@@ -13,18 +13,18 @@ use Rattle.search_record.specs.declared.run.Place.{Place}
 use Rattle.search_record.specs.declared.run.Waiting.{Waiting}
 
 -- ---- the five counts add up to a number of at most 656
-adds_up : (c : Counts) (n : ℕ) → add_up c n ≡ true → (n ≤ 656) × (total c ≡ n)
+add_up_gives_total : (c : Counts) (n : ℕ) → add_up c n ≡ true → (n ≤ 656) × (total c ≡ n)
 unfolding add_up
-adds_up c n h = let k = both_true (leb n 656) (eqb (total c) n) h in (leb-true _ _ k.0, eqb-true _ _ k.1)
+add_up_gives_total c n h = let k = both_true (leb n 656) (eqb (total c) n) h in (leb-true _ _ k.0, eqb-true _ _ k.1)
 
 pub add_up_true : (c : Counts) (n : ℕ) → n ≤ 656 → total c ≡ n → add_up c n ≡ true
 unfolding add_up
 add_up_true c n h e = simp (le-leb n 656 h, eq-eqb (total c) n e)
 
 -- a sum that is the total where one of the two is at most 656 can stand for it
-pub add_up_by : (c : Counts) (n sum : ℕ) → ltb 656 sum ≡ ltb 656 (total c) → (sum ≤ 656 → sum ≡ total c) → (leb n 656 && eqb sum n) ≡ add_up c n
+pub add_up_by_another_sum : (c : Counts) (n sum : ℕ) → ltb 656 sum ≡ ltb 656 (total c) → (sum ≤ 656 → sum ≡ total c) → (leb n 656 && eqb sum n) ≡ add_up c n
 unfolding add_up
-add_up_by c n sum e f =
+add_up_by_another_sum c n sum e f =
     case (ltb 656 sum)
     (λ t.
     let p = ltb-true 656 sum t in
@@ -45,9 +45,9 @@ pub record Bounds (r : Run) : Type 0 where
   pub demand_max : r.place.demand ≤ 3072
   pub has_place_lem : has_place r.place r.waiting ≡ true
 
-pub bounds : (r : Run) → sound r ≡ true → Bounds r
+pub bounds_of_sound : (r : Run) → sound r ≡ true → Bounds r
 unfolding sound
-bounds r h =
+bounds_of_sound r h =
     let p = r.place in
     let s = leb r.options.min_counted 100 in
     let a = s && leb r.options.refine_rounds 16 in
@@ -62,7 +62,7 @@ bounds r h =
     let h3 = both_true d (leb 54 p.demand) h2.0 in
     let h4 = both_true c (leb (6 * p.len) p.demand) h3.0 in
     let h5 = both_true b (add_up r.counts p.number) h4.0 in
-    let h8 = adds_up r.counts p.number h5.1 in
+    let h8 = add_up_gives_total r.counts p.number h5.1 in
     let h6 = both_true a (leb p.round r.options.refine_rounds) h5.0 in
     let h7 = both_true s (leb r.options.refine_rounds 16) h6.0 in
     record {
@@ -79,36 +79,36 @@ bounds r h =
     }
 
 -- an open run has a seed in its place
-open_place : (p : Place) (w : Waiting) → has_place p w ≡ true → p.over ≡ false → p.at < p.len
+open_place_within_list : (p : Place) (w : Waiting) → has_place p w ≡ true → p.over ≡ false → p.at < p.len
 unfolding has_place
-open_place p w h e = ltb-true p.at p.len (rw e at h)
+open_place_within_list p w h e = ltb-true p.at p.len (rw e at h)
 
 -- where a seed waits, the run is open
-waits_open : (p : Place) (w : Waiting) → has_place p w ≡ true → w.is_waiting ≡ true → p.over ≡ false
+open_while_seed_waits : (p : Place) (w : Waiting) → has_place p w ≡ true → w.is_waiting ≡ true → p.over ≡ false
 unfolding has_place
-waits_open p w h e = go p.over refl
+open_while_seed_waits p w h e = go p.over refl
   where
     go : (x : Bool) → p.over ≡ x → p.over ≡ false
     go false k = k
     go true k = absurd (true≢false (sym (rw (k, e) at h)))
 
-pub open_at : (r : Run) → Bounds r → r.place.over ≡ false → r.place.at < r.place.len
-open_at r b = open_place r.place r.waiting b.has_place_lem
+pub open_run_at_lt_len : (r : Run) → Bounds r → r.place.over ≡ false → r.place.at < r.place.len
+open_run_at_lt_len r b = open_place_within_list r.place r.waiting b.has_place_lem
 
-pub waiting_at : (r : Run) → Bounds r → r.waiting.is_waiting ≡ true → r.place.at < r.place.len
-waiting_at r b h = open_at r b (waits_open r.place r.waiting b.has_place_lem h)
+pub waiting_run_at_lt_len : (r : Run) → Bounds r → r.waiting.is_waiting ≡ true → r.place.at < r.place.len
+waiting_run_at_lt_len r b h = open_run_at_lt_len r b (open_while_seed_waits r.place r.waiting b.has_place_lem h)
 
 -- ---- a list that isn't refused is as long as the run demands; one that is, is shorter, and the refusal is 10
-pub demand_fits : (r : Run) (n : ℕ) → list_refusal r n ≡ Ok tt → r.place.demand ≤ n
-demand_fits r n h = ltb-false n r.place.demand (refuses_none _ ShortList _ h).0
+pub accepted_list_has_demand : (r : Run) (n : ℕ) → list_refusal r n ≡ Ok tt → r.place.demand ≤ n
+accepted_list_has_demand r n h = ltb-false n r.place.demand (refuses_none _ ListShortened _ h).0
 
-refused_by : (b : Bool) (r e : Refusal) → ◌≡◌ {A = Result ⊤ Refusal} (cond b (Err r) (Ok tt)) (Err e) → (b ≡ true) × (e ≡ r)
-refused_by true r e h = (refl, cc)
-refused_by false r e h = cc
+err_of_cond : (b : Bool) (r e : Refusal) → ◌≡◌ {A = Result ⊤ Refusal} (cond b (Err r) (Ok tt)) (Err e) → (b ≡ true) × (e ≡ r)
+err_of_cond true r e h = (refl, cc)
+err_of_cond false r e h = cc
 
-pub too_short : (r : Run) (n : ℕ) (e : Refusal) → list_refusal r n ≡ Err e → (n < r.place.demand) × (e ≡ ShortList)
-too_short r n e h = let k = refused_by (ltb n r.place.demand) ShortList e h in (ltb-true n r.place.demand k.0, k.1)
+pub refused_list_is_short : (r : Run) (n : ℕ) (e : Refusal) → list_refusal r n ≡ Err e → (n < r.place.demand) × (e ≡ ListShortened)
+refused_list_is_short r n e h = let k = err_of_cond (ltb n r.place.demand) ListShortened e h in (ltb-true n r.place.demand k.0, k.1)
 
 -- ---- the six numbers of the seed in place lie within the list
-pub in_list : (r : Run) (n : ℕ) → Bounds r → r.place.at < r.place.len → r.place.demand ≤ n → 6 * r.place.at + 6 ≤ n
-in_list r n b h k = omega (arith, b.list_fits)
+pub seed_in_place_within_list : (r : Run) (n : ℕ) → Bounds r → r.place.at < r.place.len → r.place.demand ≤ n → 6 * r.place.at + 6 ≤ n
+seed_in_place_within_list r n b h k = omega (arith, b.list_fits)

@@ -2,7 +2,7 @@
 use Rattle.std.specs.Prelude.{ℕ, ◌+◌, ◌*◌, Bool, true, false, not, ◌&&◌, cond, [], ◌∷◌, leb, ltb, eqb, Float, Result, Ok, Err, ⊤}
 use Rattle.common.specs.Checks.{◌when◌, first_refusal}
 use Rattle.common.specs.declared.Refusal.{Refusal}
-use Rattle.common.specs.declared.Refusal.TheVariants.{ShortList}
+use Rattle.common.specs.declared.Refusal.TheVariants.{ListShortened}
 use Rattle.float.specs.Binary64.{◌*₆₄◌}
 use Rattle.float.specs.Literals.{plus_zero, half₆₄}
 use Rattle.camera_tilt.specs.declared.sensor.ScheimpflugParams.{ScheimpflugParams}
@@ -45,7 +45,7 @@ sound r =
 
 -- ---- 10 where a list of n numbers is shorter than the run demands
 abbrev pub list_refusal : Run → ℕ → Result ⊤ Refusal
-list_refusal r n = first_refusal ((ShortList when ltb n r.place.demand) ∷ [])
+list_refusal r n = first_refusal ((ListShortened when ltb n r.place.demand) ∷ [])
 
 -- ---- the seed that waits
 abbrev pub no_seed : CandidateSeed
@@ -54,8 +54,8 @@ no_seed = record {
   sensor = record { tilt_x = plus_zero; tilt_y = plus_zero };
 }
 
-abbrev pub nobody : Waiting
-nobody = record { is_waiting = false; seed = no_seed }
+abbrev pub no_waiting_seed : Waiting
+no_waiting_seed = record { is_waiting = false; seed = no_seed }
 
 unfoldable pub awaiting : Run → CandidateSeed → Run
 awaiting r s = record {
@@ -94,7 +94,7 @@ entered r o =
       options = r.options;
       center = r.center;
       place = record { demand = p.demand; round = p.round; step = p.step; len = p.len; at = p.at + 1; number = p.number + 1; over = p.over };
-      waiting = nobody;
+      waiting = no_waiting_seed;
       round_best = with_outcome r.round_best p.number t o;
       run_best = with_outcome r.run_best p.number t o;
       last = last_answer p.number p.round r.waiting.seed (recorded_as o);

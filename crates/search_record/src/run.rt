@@ -116,7 +116,7 @@ impl Run {
         ensures { result ≡ list_refusal self list_len }
     {
         if list_len < self.place.demand {
-            return Err(Refusal::ShortList);
+            return Err(Refusal::ListShortened);
         }
         Ok(())
     }

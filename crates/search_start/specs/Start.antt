@@ -5,7 +5,7 @@ use Rattle.std.specs.Float.Ieee.{lt, eq}
 use Rattle.common.specs.Each.{every}
 use Rattle.common.specs.Checks.{Check, ◌when◌, first_refusal}
 use Rattle.common.specs.declared.Refusal.{Refusal}
-use Rattle.common.specs.declared.Refusal.TheVariants.{TooFewViews, NoTilts, BadBound, BadStep, TooMany, BadSeed, TiltNotFinite, SmallBuffer, BeyondHalf, TwoAxes, TiltedSeed, ShareAboveAll}
+use Rattle.common.specs.declared.Refusal.TheVariants.{TooFewViews, NoTilts, BadBound, BadStep, TooMany, BadSeed, TiltNotFinite, ListTooShort, TiltTooLarge, TiltsOffAxis, SeedOffAxis, ShareTooLarge}
 use Rattle.float.specs.Float.{is_finite}
 use Rattle.float.specs.Literals.{plus_zero, half₆₄}
 use Rattle.camera_models.specs.declared.math.Pt2.{Pt2}
@@ -15,7 +15,7 @@ use Rattle.seed_rules.specs.Rules.{in_bound, untilted_y, initial_list}
 use Rattle.seed_rules.specs.Layout.{all_seeds, written}
 use Rattle.score_best.specs.Best.{no_best}
 use Rattle.journal_line.specs.Counts.{no_counts}
-use Rattle.search_record.specs.Record.{nobody, no_answer}
+use Rattle.search_record.specs.Record.{no_waiting_seed, no_answer}
 use Rattle.search_record.specs.declared.run.Options.{Options}
 use Rattle.search_record.specs.declared.run.Run.{Run}
 
@@ -56,7 +56,7 @@ opening_of options center demand n = record {
   options = options;
   center = center;
   place = record { demand = demand; round = 0; step = plus_zero; len = n; at = 0; number = 0; over = eqb n 0 };
-  waiting = nobody;
+  waiting = no_waiting_seed;
   round_best = no_best;
   run_best = no_best;
   last = no_answer;
@@ -77,13 +77,13 @@ options_checks views options x y d =
 
 abbrev pub last_checks : Options → List Float → List Float → List Check
 last_checks options ys decomposition =
-    (TwoAxes when (options.one_axis && not (only_zero ys)))
-    ∷ (TiltedSeed when (options.one_axis && not (every untilted_seed (all_seeds decomposition))))
-    ∷ (ShareAboveAll when ltb 100 options.min_counted)
+    (TiltsOffAxis when (options.one_axis && not (only_zero ys)))
+    ∷ (SeedOffAxis when (options.one_axis && not (every untilted_seed (all_seeds decomposition))))
+    ∷ (ShareTooLarge when ltb 100 options.min_counted)
     ∷ []
 
 abbrev pub further_checks : Options → List Float → List Float → List Check
-further_checks options ys decomposition = (BeyondHalf when lt half₆₄ options.max_abs_tilt) ∷ last_checks options ys decomposition
+further_checks options ys decomposition = (TiltTooLarge when lt half₆₄ options.max_abs_tilt) ∷ last_checks options ys decomposition
 
 -- The inputs are the parameters of these parts; n is how many numbers the lent list has.
 module _ (views : ℕ) (options : Options) (xs ys decomposition : List Float) where
@@ -94,7 +94,7 @@ module _ (views : ℕ) (options : Options) (xs ys decomposition : List Float) wh
   lists_checks n =
       (BadSeed when not (every (good_seed options.max_abs_tilt) (all_seeds decomposition)))
       ∷ (TiltNotFinite when not (every is_finite xs && every is_finite ys))
-      ∷ (SmallBuffer when ltb n start_demand)
+      ∷ (ListTooShort when ltb n start_demand)
       ∷ further_checks options ys decomposition
 
   abbrev pub start_checks : ℕ → List Check

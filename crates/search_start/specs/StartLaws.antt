@@ -7,7 +7,7 @@ use Rattle.std.specs.Float.Ieee.{lt}
 use Rattle.common.specs.Each.{every}
 use Rattle.common.specs.Tests.{both_false}
 use Rattle.common.specs.declared.Refusal.{Refusal}
-use Rattle.common.specs.declared.Refusal.TheVariants.{TooFewViews, NoTilts, BadBound, BadStep, TooMany, BadSeed, TiltNotFinite, SmallBuffer, BeyondHalf, TwoAxes, TiltedSeed, ShareAboveAll}
+use Rattle.common.specs.declared.Refusal.TheVariants.{TooFewViews, NoTilts, BadBound, BadStep, TooMany, BadSeed, TiltNotFinite, ListTooShort, TiltTooLarge, TiltsOffAxis, SeedOffAxis, ShareTooLarge}
 use Rattle.common.specs.Checks.{Check, ◌when◌, first_refusal}
 use Rattle.common.specs.ChecksLaws.{refuses_none}
 use Rattle.float.specs.Float.{is_finite}
@@ -24,9 +24,9 @@ pub record Sizes (x y d rounds : ℕ) : Type 0 where
   pub decomposition_max : d / 6 ≤ 256
   pub rounds_max : rounds ≤ 16
 
-pub too_many_passed : (x y d rounds : ℕ) → too_many x y d rounds ≡ false → Sizes x y d rounds
+pub sizes_if_not_too_many : (x y d rounds : ℕ) → too_many x y d rounds ≡ false → Sizes x y d rounds
 unfolding too_many
-too_many_passed x y d rounds h =
+sizes_if_not_too_many x y d rounds h =
     let a = ltb 16 x || ltb 16 y in
     let b = a || ltb 256 (d / 6) in
     let h1 = both_false (b || ltb 16 rounds) _ h in
@@ -40,9 +40,9 @@ too_many_passed x y d rounds h =
       rounds_max = ltb-false 16 rounds h2.1;
     }
 
-pub demand_covers : (d x y : ℕ) → 6 * (d + x * y) ≤ demand_of d x y
+pub demand_covers_round_0 : (d x y : ℕ) → 6 * (d + x * y) ≤ demand_of d x y
 unfolding demand_of
-demand_covers d x y = go (6 * (d + x * y)) (ltb (6 * (d + x * y)) 54) refl
+demand_covers_round_0 d x y = go (6 * (d + x * y)) (ltb (6 * (d + x * y)) 54) refl
   where
     go : (n : ℕ) (b : Bool) → ltb n 54 ≡ b → n ≤ cond b 54 n
     go n true h = le_of_lt (ltb-true n 54 h)
@@ -60,20 +60,20 @@ first_five false false false false true p q r s t rest = refl
 first_five false false false false false p q r s t rest = refl
 
 -- ---- checks in front of others: their refusal where they refuse, else the others'
-refused_first : (cs ds : List Check) (e : Refusal) → first_refusal cs ≡ Err e → first_refusal (cs ++ ds) ≡ Err e
-refused_first [] ds e h = cc
-refused_first ((r when true) ∷ cs) ds e h = h
-refused_first ((r when false) ∷ cs) ds e h = refused_first cs ds e h
+refused_by_first_checks : (cs ds : List Check) (e : Refusal) → first_refusal cs ≡ Err e → first_refusal (cs ++ ds) ≡ Err e
+refused_by_first_checks [] ds e h = cc
+refused_by_first_checks ((r when true) ∷ cs) ds e h = h
+refused_by_first_checks ((r when false) ∷ cs) ds e h = refused_by_first_checks cs ds e h
 
-passed_first : (cs ds : List Check) → first_refusal cs ≡ Ok tt → first_refusal (cs ++ ds) ≡ first_refusal ds
-passed_first [] ds h = refl
-passed_first ((r when true) ∷ cs) ds h = cc
-passed_first ((r when false) ∷ cs) ds h = passed_first cs ds h
+refused_by_rest_if_first_pass : (cs ds : List Check) → first_refusal cs ≡ Ok tt → first_refusal (cs ++ ds) ≡ first_refusal ds
+refused_by_rest_if_first_pass [] ds h = refl
+refused_by_rest_if_first_pass ((r when true) ∷ cs) ds h = cc
+refused_by_rest_if_first_pass ((r when false) ∷ cs) ds h = refused_by_rest_if_first_pass cs ds h
 
-none_first : (cs ds : List Check) → first_refusal (cs ++ ds) ≡ Ok tt → first_refusal cs ≡ Ok tt
-none_first [] ds h = refl
-none_first ((r when true) ∷ cs) ds h = cc
-none_first ((r when false) ∷ cs) ds h = none_first cs ds h
+first_checks_pass_if_all_do : (cs ds : List Check) → first_refusal (cs ++ ds) ≡ Ok tt → first_refusal cs ≡ Ok tt
+first_checks_pass_if_all_do [] ds h = refl
+first_checks_pass_if_all_do ((r when true) ∷ cs) ds h = cc
+first_checks_pass_if_all_do ((r when false) ∷ cs) ds h = first_checks_pass_if_all_do cs ds h
 
 module _ (views : ℕ) (options : Options) (xs ys decomposition : List Float) (n : ℕ) where
   -- the refusals of the options, and the others
@@ -88,23 +88,23 @@ module _ (views : ℕ) (options : Options) (xs ys decomposition : List Float) (n
       first_five (ltb views 3) (eqb (length xs) 0 || eqb (length ys) 0) (not (positive options.max_abs_tilt)) (ltb 0 options.refine_rounds && not (positive options.refine_step)) (too_many (length xs) (length ys) (length decomposition) options.refine_rounds) TooFewViews NoTilts BadBound BadStep TooMany lists_refusal
 
   pub options_refused : (e : Refusal) → options_refusal ≡ Err e → start_refusal views options xs ys decomposition n ≡ Err e
-  options_refused e h = refused_first (options_checks views options (length xs) (length ys) (length decomposition)) (lists_checks views options xs ys decomposition n) e h
+  options_refused e h = refused_by_first_checks (options_checks views options (length xs) (length ys) (length decomposition)) (lists_checks views options xs ys decomposition n) e h
 
   pub options_passed : options_refusal ≡ Ok tt → start_refusal views options xs ys decomposition n ≡ lists_refusal
-  options_passed h = passed_first (options_checks views options (length xs) (length ys) (length decomposition)) (lists_checks views options xs ys decomposition n) h
+  options_passed h = refused_by_rest_if_first_pass (options_checks views options (length xs) (length ys) (length decomposition)) (lists_checks views options xs ys decomposition n) h
 
-  pub sizes_fit : options_refusal ≡ Ok tt → Sizes (length xs) (length ys) (length decomposition) options.refine_rounds
-  sizes_fit h =
+  pub sizes_if_options_pass : options_refusal ≡ Ok tt → Sizes (length xs) (length ys) (length decomposition) options.refine_rounds
+  sizes_if_options_pass h =
       let h1 = (refuses_none (ltb views 3) TooFewViews _ h).1 in
       let h2 = (refuses_none (eqb (length xs) 0 || eqb (length ys) 0) NoTilts _ h1).1 in
       let h3 = (refuses_none (not (positive options.max_abs_tilt)) BadBound _ h2).1 in
       let h4 = (refuses_none (ltb 0 options.refine_rounds && not (positive options.refine_step)) BadStep _ h3).1 in
-      too_many_passed _ _ _ _ (refuses_none (too_many (length xs) (length ys) (length decomposition) options.refine_rounds) TooMany _ h4).0
+      sizes_if_not_too_many _ _ _ _ (refuses_none (too_many (length xs) (length ys) (length decomposition) options.refine_rounds) TooMany _ h4).0
 
-where_set : (a b : Bool) → (a && not b) ≡ false → a ≡ true → b ≡ true
-where_set a b h e = not-false b (rw e at h)
+holds_where_set : (a b : Bool) → (a && not b) ≡ false → a ≡ true → b ≡ true
+holds_where_set a b h e = not-false b (rw e at h)
 
-pub record Passed (views : ℕ) (options : Options) (xs ys decomposition : List Float) (n : ℕ) : Type 0 where
+pub record StartPassed (views : ℕ) (options : Options) (xs ys decomposition : List Float) (n : ℕ) : Type 0 where
   pub sizes : Sizes (length xs) (length ys) (length decomposition) options.refine_rounds
   pub good_seeds : every (good_seed options.max_abs_tilt) (all_seeds decomposition) ≡ true
   pub demand_fits : start_demand views options xs ys decomposition ≤ n
@@ -114,23 +114,23 @@ pub record Passed (views : ℕ) (options : Options) (xs ys decomposition : List 
   pub share_most : options.min_counted ≤ 100
 
 pub start_passed : (views : ℕ) (options : Options) (xs ys decomposition : List Float) (n : ℕ)
-    → start_refusal views options xs ys decomposition n ≡ Ok tt → Passed views options xs ys decomposition n
+    → start_refusal views options xs ys decomposition n ≡ Ok tt → StartPassed views options xs ys decomposition n
 start_passed views options xs ys decomposition n h =
-    let first = none_first (options_checks views options (length xs) (length ys) (length decomposition)) (lists_checks views options xs ys decomposition n) h in
+    let first = first_checks_pass_if_all_do (options_checks views options (length xs) (length ys) (length decomposition)) (lists_checks views options xs ys decomposition n) h in
     let h6 = refuses_none (not (every (good_seed options.max_abs_tilt) (all_seeds decomposition))) BadSeed _ (sym (options_passed views options xs ys decomposition n first) ∙ h) in
     let h7 = (refuses_none (not (every is_finite xs && every is_finite ys)) TiltNotFinite _ h6.1).1 in
-    let h8 = refuses_none (ltb n (start_demand views options xs ys decomposition)) SmallBuffer _ h7 in
-    let h9 = refuses_none (lt half₆₄ options.max_abs_tilt) BeyondHalf _ h8.1 in
-    let h10 = refuses_none (options.one_axis && not (only_zero ys)) TwoAxes _ h9.1 in
-    let h11 = refuses_none (options.one_axis && not (every untilted_seed (all_seeds decomposition))) TiltedSeed _ h10.1 in
-    let h12 = (refuses_none (ltb 100 options.min_counted) ShareAboveAll _ h11.1).0 in
+    let h8 = refuses_none (ltb n (start_demand views options xs ys decomposition)) ListTooShort _ h7 in
+    let h9 = refuses_none (lt half₆₄ options.max_abs_tilt) TiltTooLarge _ h8.1 in
+    let h10 = refuses_none (options.one_axis && not (only_zero ys)) TiltsOffAxis _ h9.1 in
+    let h11 = refuses_none (options.one_axis && not (every untilted_seed (all_seeds decomposition))) SeedOffAxis _ h10.1 in
+    let h12 = (refuses_none (ltb 100 options.min_counted) ShareTooLarge _ h11.1).0 in
     record {
-      sizes = sizes_fit views options xs ys decomposition n first;
+      sizes = sizes_if_options_pass views options xs ys decomposition n first;
       good_seeds = not-false _ h6.0;
       demand_fits = ltb-false n _ h8.0;
       bound_small = h9.0;
-      one_y = where_set options.one_axis (only_zero ys) h10.0;
-      untilted_seeds = where_set options.one_axis (every untilted_seed (all_seeds decomposition)) h11.0;
+      one_y = holds_where_set options.one_axis (only_zero ys) h10.0;
+      untilted_seeds = holds_where_set options.one_axis (every untilted_seed (all_seeds decomposition)) h11.0;
       share_most = ltb-false 100 _ h12;
     }
 

@@ -133,13 +133,13 @@ fn last_refusal(inputs: Inputs) -> Result<(), Refusal>
 {
     let options = inputs.options;
     if options.one_axis & !is_only_zero(inputs.tilt_y_seeds) {
-        return Err(Refusal::TwoAxes);
+        return Err(Refusal::TiltsOffAxis);
     }
     if options.one_axis & !all_seeds(inputs.decomposition, is_untilted_seed) {
-        return Err(Refusal::TiltedSeed);
+        return Err(Refusal::SeedOffAxis);
     }
     if 100 < options.min_counted {
-        return Err(Refusal::ShareAboveAll);
+        return Err(Refusal::ShareTooLarge);
     }
     Ok(())
 }
@@ -150,7 +150,7 @@ fn further_refusal(inputs: Inputs) -> Result<(), Refusal>
 {
     let options = inputs.options;
     if 0.5 < options.max_abs_tilt {
-        return Err(Refusal::BeyondHalf);
+        return Err(Refusal::TiltTooLarge);
     }
     last_refusal(inputs)
 }
@@ -172,7 +172,7 @@ fn lists_refusal(inputs: Inputs, demand: usize, list_len: usize) -> Result<(), R
         return Err(Refusal::TiltNotFinite);
     }
     if list_len < demand {
-        return Err(Refusal::SmallBuffer);
+        return Err(Refusal::ListTooShort);
     }
     further_refusal(inputs)
 }

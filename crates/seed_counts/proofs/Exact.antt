@@ -12,32 +12,32 @@ use Rattle.seed_rules.proofs.Unmerged.{keep_apart}
 use Rattle.seed_counts.specs.Admissible.{admitted, seed_count, least_step, most_step}
 use Rattle.seed_counts.specs.Theorem.{TiltsApart}
 use Rattle.seed_counts.proofs.Counts.{exact_length}
-use Rattle.seed_counts.proofs.Offsets.{step_of}
-use Rattle.seed_counts.proofs.Anywhere.{offsets_admitted}
+use Rattle.seed_counts.proofs.Offsets.{step_from_bounds}
+use Rattle.seed_counts.proofs.Anywhere.{admitted_offsets_apart}
 use Rattle.seed_counts.proofs.Cases.{six_in_x, six_in_y, two_in_x, nine_by_half, far_admissible, far_merges, small_admissible, small_step_merges}
 use Rattle.seed_counts.specs.Theorem.{ExactLength}
 
 -- ---- the two lists of offsets that a run has: -s, 0, s, and 0 alone
-three_apart : (max c s : Float) → lt half₆₄ max ≡ false → le least_step s ≡ true → le s most_step ≡ true → TiltsApart (admitted max c (offsets s))
-three_apart max c s h l u = offsets_admitted max c s h (step_of s l u)
+three_offsets_apart : (max c s : Float) → lt half₆₄ max ≡ false → le least_step s ≡ true → le s most_step ≡ true → TiltsApart (admitted max c (offsets s))
+three_offsets_apart max c s h l u = admitted_offsets_apart max c s h (step_from_bounds s l u)
 
-one_apart : (max c d : Float) → TiltsApart (admitted max c (d ∷ []))
+one_offset_apart : (max c d : Float) → TiltsApart (admitted max c (d ∷ []))
 unfolding admitted
-one_apart max c d = keep_apart (closer tilt_limit) (within max) (moved c (d ∷ [])) (tt, tt)
+one_offset_apart max c d = keep_apart (closer tilt_limit) (within max) (moved c (d ∷ [])) (tt, tt)
 
 -- the offsets of tilt_y, in either kind of run
-y_apart : (one_axis : Bool) (max c s : Float) → lt half₆₄ max ≡ false → le least_step s ≡ true → le s most_step ≡ true → TiltsApart (admitted max c (y_offsets one_axis s))
+y_offsets_apart : (one_axis : Bool) (max c s : Float) → lt half₆₄ max ≡ false → le least_step s ≡ true → le s most_step ≡ true → TiltsApart (admitted max c (y_offsets one_axis s))
 unfolding y_offsets
-y_apart true max c s h l u = one_apart max c plus_zero
-y_apart false max c s h l u = three_apart max c s h l u
+y_offsets_apart true max c s h l u = one_offset_apart max c plus_zero
+y_offsets_apart false max c s h l u = three_offsets_apart max c s h l u
 
 pub round_length : (one_axis : Bool) (s : Float) (centre : ScheimpflugParams) (camera : FxFyCxCy) (max : Float) → lt half₆₄ max ≡ false → le least_step s ≡ true → le s most_step ≡ true
     → length (next_list (offsets s) (y_offsets one_axis s) centre camera max) ≡ seed_count (offsets s) (y_offsets one_axis s) centre max
 round_length one_axis s centre camera max h l u =
-    exact_length (offsets s) (y_offsets one_axis s) centre camera max (three_apart max centre.tilt_x s h l u) (y_apart one_axis max centre.tilt_y s h l u)
+    exact_length (offsets s) (y_offsets one_axis s) centre camera max (three_offsets_apart max centre.tilt_x s h l u) (y_offsets_apart one_axis max centre.tilt_y s h l u)
 
-pub list_length : ExactLength
-list_length = record {
+pub list_length_is_exact : ExactLength
+list_length_is_exact = record {
   exact_length = exact_length;
   round_length = round_length;
   six_in_x = six_in_x;

@@ -8,7 +8,7 @@ ghost use Rattle.seed_counts.specs.Theorem.{ExactLength};
 
 /// With a bound of at most 0.5 and a step from 1e-11 to 1, a later round's list has exactly as many seeds as there are
 /// admissible x tilts times admissible y tilts.
-#[tactic(auto, using(crate::proofs::Exact::list_length))]
+#[tactic(auto, using(crate::proofs::Exact::list_length_is_exact))]
 pub fn exact_length_law()
     ensures { ExactLength }
 {}

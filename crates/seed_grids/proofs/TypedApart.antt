@@ -14,31 +14,31 @@ module _ (k : FxFyCxCy) (t : ScheimpflugParams) (ks : List CandidateSeed) where
   abbrev s : CandidateSeed
   s = seed_with k t
 
-  one_more_far : (ys : List CandidateSeed) (u : ScheimpflugParams) → has_near near ys s ≡ false → tilt_near u t ≡ false → has_near near (ys ++ seed_with k u ∷ []) s ≡ false
+  typed_seed_not_near_snoc : (ys : List CandidateSeed) (u : ScheimpflugParams) → has_near near ys s ≡ false → tilt_near u t ≡ false → has_near near (ys ++ seed_with k u ∷ []) s ≡ false
   unfolding has_near near
-  one_more_far [] u h e = rw e
-  one_more_far (y ∷ ys) u h e = let p = both_false (near y s) (has_near near ys s) h in rw p.0 (one_more_far ys u p.1 e)
+  typed_seed_not_near_snoc [] u h e = rw e
+  typed_seed_not_near_snoc (y ∷ ys) u h e = let p = both_false (near y s) (has_near near ys s) h in rw p.0 (typed_seed_not_near_snoc ys u p.1 e)
 
-  dropped : (ys : List CandidateSeed) (v : CandidateSeed) → has_near near (ks ++ ys) v ≡ true → push near (ks ++ ys) v ≡ ks ++ ys
+  push_drops_near : (ys : List CandidateSeed) (v : CandidateSeed) → has_near near (ks ++ ys) v ≡ true → push near (ks ++ ys) v ≡ ks ++ ys
   unfolding push
-  dropped ys v e = rw e
+  push_drops_near ys v e = rw e
 
-  stored : (ys : List CandidateSeed) (v : CandidateSeed) → has_near near (ks ++ ys) v ≡ false → push near (ks ++ ys) v ≡ ks ++ (ys ++ v ∷ [])
+  push_appends_far : (ys : List CandidateSeed) (v : CandidateSeed) → has_near near (ks ++ ys) v ≡ false → push near (ks ++ ys) v ≡ ks ++ (ys ++ v ∷ [])
   unfolding push
-  stored ys v e = rw e (append_assoc ks ys (v ∷ []))
+  push_appends_far ys v e = rw e (append_assoc ks ys (v ∷ []))
 
-  kept_far : (ys : List CandidateSeed) (ts : List ScheimpflugParams) → has_near near ys s ≡ false → has_near tilt_near ts t ≡ false
+  merged_typed_seeds_not_near : (ys : List CandidateSeed) (ts : List ScheimpflugParams) → has_near near ys s ≡ false → has_near tilt_near ts t ≡ false
       → has_near near (drop (length ks) (merged_into near (ks ++ ys) (map (seed_with k) ts))) s ≡ false
   unfolding has_near merged_into
-  kept_far ys [] h e = rw drop-append_seam h
-  kept_far ys (u ∷ ts) h e =
+  merged_typed_seeds_not_near ys [] h e = rw drop-append_seam h
+  merged_typed_seeds_not_near ys (u ∷ ts) h e =
       let v = seed_with k u in
       let p = both_false (tilt_near u t) (has_near tilt_near ts t) e in
       let P : List CandidateSeed → Type 0 = λ q. has_near near (drop (length ks) (merged_into near q (map (seed_with k) ts))) s ≡ false in
       case (has_near near (ks ++ ys) v)
-      (λ b. subst P (sym (dropped ys v b)) (kept_far ys ts h p.1))
-      (λ b. subst P (sym (stored ys v b)) (kept_far (ys ++ v ∷ []) ts (one_more_far ys u h p.0) p.1))
+      (λ b. subst P (sym (push_drops_near ys v b)) (merged_typed_seeds_not_near ys ts h p.1))
+      (λ b. subst P (sym (push_appends_far ys v b)) (merged_typed_seeds_not_near (ys ++ v ∷ []) ts (typed_seed_not_near_snoc ys u h p.0) p.1))
 
-  pub typed_far : (ts : List ScheimpflugParams) → has_near tilt_near ts t ≡ false → has_near near (drop (length ks) (merged_into near ks (map (seed_with k) ts))) s ≡ false
+  pub typed_seeds_not_near : (ts : List ScheimpflugParams) → has_near tilt_near ts t ≡ false → has_near near (drop (length ks) (merged_into near ks (map (seed_with k) ts))) s ≡ false
   unfolding has_near
-  typed_far ts e = rw append-nil at (kept_far [] ts refl e)
+  typed_seeds_not_near ts e = rw append-nil at (merged_typed_seeds_not_near [] ts refl e)

@@ -5,5 +5,5 @@ use Rattle.seed_rules.specs.Merge.{has_near}
 use Rattle.seed_rules.specs.Rules.{tilt_near}
 
 -- none of them is near an earlier one
-abbrev pub TiltsApart : List ScheimpflugParams → Type 0
-TiltsApart ts = (earlier : List ScheimpflugParams) (t : ScheimpflugParams) (later : List ScheimpflugParams) → ts ≡ earlier ++ t ∷ later → has_near tilt_near earlier t ≡ false
+abbrev pub TypedPairsApart : List ScheimpflugParams → Type 0
+TypedPairsApart ts = (earlier : List ScheimpflugParams) (t : ScheimpflugParams) (later : List ScheimpflugParams) → ts ≡ earlier ++ t ∷ later → has_near tilt_near earlier t ≡ false

@@ -8,20 +8,20 @@ ghost use Rattle.seed_rules.specs.Layout.{six, two, read_from, seeds_of, tilts_o
 ghost use Rattle.seed_lists.specs.Pushed.{Pushed};
 ghost use Rattle.seed_rules.specs.Merge.{merged_into, merged};
 ghost use Rattle.seed_rules.specs.Rules as rules;
-ghost use Rattle.seed_rules.specs.Rules.{tilts, pairs, seed_with, entries_within, seed_grid, initial_list, next_list};
-ghost use Rattle.seed_grids.specs.Typed.{TiltsApart};
+ghost use Rattle.seed_rules.specs.Rules.{tilts, pairs, seed_with, items_within, seed_grid, initial_list, next_list};
+ghost use Rattle.seed_grids.specs.Typed.{TypedPairsApart};
 
 use camera_models::intrinsics::FxFyCxCy;
 use camera_tilt::sensor::ScheimpflugParams;
-use seed_lists::{Entries, Entry};
+use seed_lists::{Items, Item};
 use seed_rules::CandidateSeed;
 
 // ---- the pairs of two axes. The tilts along an axis are what a closure gives for its numbers: typed tilts as they
 // are, or offsets added to a centre's tilt.
 
 // Offers one x tilt with every y tilt, each pair within the bound as an entry.
-fn push_row<E: Entry, Y: Fn(f64) -> f64>(
-    list: &mut Entries<E>,
+fn push_row<E: Item, Y: Fn(f64) -> f64>(
+    list: &mut Items<E>,
     beside: E::Beside,
     tilt_x: f64,
     y_numbers: &[f64],
@@ -33,7 +33,7 @@ fn push_row<E: Entry, Y: Fn(f64) -> f64>(
     ensures same_reference { list.new.numbers.ghost_name ≡ list.old.numbers.ghost_name }
     ensures same_length { length list.new.numbers.now ≡ length list.old.numbers.now }
     ensures few { list.new.count ≤ list.old.count + length y_numbers.now }
-    ensures pushed { (f : Float → Float) → ((n t : Float) → Y.post along_y.now n t → t ≡ f n) → Leaves E.numbers E.width (merged_into E.near (read_from E.first E.width list.old.count list.old.numbers.now) (entries_within (E.tilted beside) max_abs_tilt (map (tilts tilt_x) (map f y_numbers.now)))) list.old.numbers.now list.new.numbers.now list.new.count }
+    ensures pushed { (f : Float → Float) → ((n t : Float) → Y.post along_y.now n t → t ≡ f n) → Leaves E.numbers E.width (merged_into E.near (read_from E.first E.width list.old.count list.old.numbers.now) (items_within (E.tilted beside) max_abs_tilt (map (tilts tilt_x) (map f y_numbers.now)))) list.old.numbers.now list.new.numbers.now list.new.count }
 {
     for number in y_numbers {
         let tilts = ScheimpflugParams {
@@ -45,7 +45,7 @@ fn push_row<E: Entry, Y: Fn(f64) -> f64>(
 }
 
 // Writes the pairs of every x tilt with every y tilt, x outer, that lie within the bound, merged. Returns their number.
-fn push_pairs<E: Entry, X: Fn(f64) -> f64, Y: Fn(f64) -> f64>(
+fn push_pairs<E: Item, X: Fn(f64) -> f64, Y: Fn(f64) -> f64>(
     numbers: &mut [f64],
     beside: E::Beside,
     x_numbers: &[f64],
@@ -57,9 +57,9 @@ fn push_pairs<E: Entry, X: Fn(f64) -> f64, Y: Fn(f64) -> f64>(
     requires x_callable { X.IsAlwaysCallable along_x }
     requires y_callable { Y.IsAlwaysCallable along_y }
     requires room { E.width * (length x_numbers.now * length y_numbers.now) ≤ length numbers.old }
-    ensures { (f g : Float → Float) → ((n t : Float) → X.post along_x n t → t ≡ f n) → ((n t : Float) → Y.post along_y n t → t ≡ g n) → Leaves E.numbers E.width (merged E.near (entries_within (E.tilted beside) max_abs_tilt (pairs (map f x_numbers.now) (map g y_numbers.now)))) numbers.old numbers.new result }
+    ensures { (f g : Float → Float) → ((n t : Float) → X.post along_x n t → t ≡ f n) → ((n t : Float) → Y.post along_y n t → t ≡ g n) → Leaves E.numbers E.width (merged E.near (items_within (E.tilted beside) max_abs_tilt (pairs (map f x_numbers.now) (map g y_numbers.now)))) numbers.old numbers.new result }
 {
-    let mut list = Entries::<E>::new(numbers);
+    let mut list = Items::<E>::new(numbers);
     for number in x_numbers {
         push_row(
             &mut list,
@@ -118,7 +118,7 @@ fn seed_grid(x_seeds: &[f64], y_seeds: &[f64], max_abs_tilt: f64, grid: &mut [f6
 }
 
 // Offers the decomposition seeds in their order.
-fn push_solved(list: &mut Entries<CandidateSeed>, decomposition: &[f64])
+fn push_solved(list: &mut Items<CandidateSeed>, decomposition: &[f64])
     requires { 6 * (list.old.count + length decomposition.now / 6) ≤ length list.old.numbers.now }
     ensures { Pushed six 6 (merged_into rules.near (seeds_of list.old.count list.old.numbers.now) (all_seeds decomposition.now)) list.old list.new }
 {
@@ -129,9 +129,9 @@ fn push_solved(list: &mut Entries<CandidateSeed>, decomposition: &[f64])
 
 // Offers typed tilts, none of which is near another, as seeds with the base camera, in their order. Seeds that were
 // kept of them aren't near a later one either, so only the seeds that were kept before them are compared.
-fn push_typed(list: &mut Entries<CandidateSeed>, grid: &[f64], number: usize, base_k: FxFyCxCy)
+fn push_typed(list: &mut Items<CandidateSeed>, grid: &[f64], number: usize, base_k: FxFyCxCy)
     requires room { (2 * number ≤ length grid.now) × (6 * (list.old.count + number) ≤ length list.old.numbers.now) }
-    requires apart { TiltsApart (tilts_of number grid.now) }
+    requires apart { TypedPairsApart (tilts_of number grid.now) }
     ensures { Pushed six 6 (merged_into rules.near (seeds_of list.old.count list.old.numbers.now) (map (seed_with base_k) (tilts_of number grid.now))) list.old list.new }
 {
     let before = list.count;
@@ -158,7 +158,7 @@ pub fn initial_seed_grid(
 {
     let mut grid = [0.0; 512];
     let number = seed_grid(x_seeds, y_seeds, max_abs_tilt, &mut grid);
-    let mut list = Entries::<CandidateSeed>::new(seeds);
+    let mut list = Items::<CandidateSeed>::new(seeds);
     push_solved(&mut list, decomposition);
     push_typed(&mut list, &grid, number, base_k);
     list.count

@@ -7,9 +7,9 @@ use Rattle.float.specs.Sign.{abs_unsigned}
 use Rattle.float_laws.specs.OneTest.{size_by_square}
 use Rattle.seed_rules.specs.Rules.{tilt_limit}
 
-unsigned : sign_bit tilt_limit ≡ false
+tilt_limit_unsigned : sign_bit tilt_limit ≡ false
 unfolding sign_bit of_bits
-unsigned = refl
+tilt_limit_unsigned = refl
 
-pub far : (d : Float) → lt (tilt_limit *₆₄ tilt_limit) (d *₆₄ d) ≡ true → lt (abs_of d) tilt_limit ≡ false
-far d h = rw (abs_unsigned tilt_limit unsigned) at (size_by_square tilt_limit d h)
+pub not_near_by_squares : (d : Float) → lt (tilt_limit *₆₄ tilt_limit) (d *₆₄ d) ≡ true → lt (abs_of d) tilt_limit ≡ false
+not_near_by_squares d h = rw (abs_unsigned tilt_limit tilt_limit_unsigned) at (size_by_square tilt_limit d h)

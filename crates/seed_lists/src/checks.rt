@@ -20,7 +20,7 @@ fn closer(limit: f64, x: f64, y: f64) -> bool
 
 // Whether two tilts about one axis are nearer than 1e-12. Most are far apart, and then one comparison of squares
 // decides, without a test of the sign: a rounded square keeps the order of sizes.
-#[tactic(auto, using(crate::proofs::Far::far), unfolding(seed_rules::specs::Rules::closer))]
+#[tactic(auto, using(crate::proofs::Far::not_near_by_squares), unfolding(seed_rules::specs::Rules::closer))]
 fn tilt_closer(x: f64, y: f64) -> bool
     ensures { result ≡ rules.closer tilt_limit x y }
 {

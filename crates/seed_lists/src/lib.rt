@@ -14,7 +14,7 @@ ghost use Rattle.seed_rules.specs.Layout.{six, seed_at, two, tilts_at, read_from
 ghost use Rattle.seed_rules.specs.LayoutLaws.{Layout, seeds_layout, tilts_layout};
 ghost use Rattle.seed_rules.specs.Merge.{has_near, newest_near, push, merged_into};
 ghost use Rattle.seed_rules.specs.Rules as rules;
-ghost use Rattle.seed_rules.specs.Rules.{tilt_near, seed_with, entries_within};
+ghost use Rattle.seed_rules.specs.Rules.{tilt_near, seed_with, items_within};
 
 use crate::checks::{in_bound, near, tilt_near};
 use camera_models::intrinsics::FxFyCxCy;
@@ -23,7 +23,7 @@ use seed_rules::CandidateSeed;
 use std::marker::PhantomData;
 
 // What lies entry after entry at the front of a list of numbers: seeds, of six numbers each, or pairs of tilts, of two.
-pub trait Entry: Copy {
+pub trait Item: Copy {
     // What an entry has beside its tilts; for a seed this is its camera.
     type Beside: Copy;
 
@@ -68,7 +68,7 @@ pub fn seed_at(seeds: &[f64], i: usize) -> CandidateSeed
     seeds.as_chunks::<6>().0[i].into()
 }
 
-impl Entry for CandidateSeed {
+impl Item for CandidateSeed {
     type Beside = FxFyCxCy;
 
     ghost width = { 6 };
@@ -106,7 +106,7 @@ impl Entry for CandidateSeed {
     }
 }
 
-impl Entry for ScheimpflugParams {
+impl Item for ScheimpflugParams {
     type Beside = ();
 
     ghost width = { 2 };
@@ -148,19 +148,19 @@ impl Entry for ScheimpflugParams {
 
 // A list of entries at the front of lent numbers, and how many there are. The library has no heap.
 #[derive(Drop)]
-pub struct Entries<'a, E> {
+pub struct Items<'a, E> {
     pub numbers: &'a mut [f64],
     pub count: usize,
     of: PhantomData<E>,
 }
 
-impl<'a, E: Entry> Entries<'a, E> {
-    pub fn new(numbers: &'a mut [f64]) -> Entries<'a, E>
+impl<'a, E: Item> Items<'a, E> {
+    pub fn new(numbers: &'a mut [f64]) -> Items<'a, E>
         ensures same_reference { result.numbers.ghost_name ≡ numbers.entry.ghost_name }
         ensures same_numbers { result.numbers.now ≡ numbers.old }
         ensures none_kept { result.count ≡ 0 }
     {
-        Entries {
+        Items {
             numbers,
             count: 0,
             of: PhantomData,
@@ -170,43 +170,43 @@ impl<'a, E: Entry> Entries<'a, E> {
     // The place of the newest of the first `among` kept entries that is near this one. The search goes from the last
     // one back, since decomposition seeds lie close to their predecessors. `push_among` asks only whether there is one;
     // the place is returned because the rule names it (docs/SPECIFICATION.md, 4.4).
-    fn find_near(&self, entry: E, among: usize) -> Option<usize>
+    fn find_near(&self, item: E, among: usize) -> Option<usize>
         requires { E.width * among ≤ length self.now.numbers.now }
-        ensures { result ≡ newest_near E.near 0 (read_from E.first E.width among self.now.numbers.now) entry }
+        ensures { result ≡ newest_near E.near 0 (read_from E.first E.width among self.now.numbers.now) item }
     {
         (0..among)
             .rev()
-            .find(|i| E::at(self.numbers, *i).is_near(entry))
+            .find(|i| E::at(self.numbers, *i).is_near(item))
     }
 
     // Puts an entry behind the kept ones, unless one of them is near it. Only the first `among` of them are compared:
     // the others are known not to be near.
-    pub fn push_among(&mut self, entry: E, among: usize)
+    pub fn push_among(&mut self, item: E, among: usize)
         requires room { E.width * self.old.count + E.width ≤ length self.old.numbers.now }
         requires kept { among ≤ self.old.count }
-        requires others_far { has_near E.near (drop among (read_from E.first E.width self.old.count self.old.numbers.now)) entry ≡ false }
-        ensures { Pushed E.numbers E.width (push E.near (read_from E.first E.width self.old.count self.old.numbers.now) entry) self.old self.new }
+        requires others_far { has_near E.near (drop among (read_from E.first E.width self.old.count self.old.numbers.now)) item ≡ false }
+        ensures { Pushed E.numbers E.width (push E.near (read_from E.first E.width self.old.count self.old.numbers.now) item) self.old self.new }
     {
-        if self.find_near(entry, among).is_some() {
+        if self.find_near(item, among).is_some() {
             return;
         }
-        entry.put(self.numbers, self.count);
+        item.put(self.numbers, self.count);
         self.count += 1;
     }
 
     // Puts an entry behind the kept ones, unless one of them is near it.
-    pub fn push(&mut self, entry: E)
+    pub fn push(&mut self, item: E)
         requires { E.width * self.old.count + E.width ≤ length self.old.numbers.now }
-        ensures { Pushed E.numbers E.width (push E.near (read_from E.first E.width self.old.count self.old.numbers.now) entry) self.old self.new }
+        ensures { Pushed E.numbers E.width (push E.near (read_from E.first E.width self.old.count self.old.numbers.now) item) self.old self.new }
     {
         let all = self.count;
-        self.push_among(entry, all);
+        self.push_among(item, all);
     }
 
     // Pushes a pair of tilts, with what is beside it, unless it lies beyond the bound.
     pub fn push_in_bound(&mut self, beside: E::Beside, tilts: ScheimpflugParams, max_abs_tilt: f64)
         requires { E.width * self.old.count + E.width ≤ length self.old.numbers.now }
-        ensures { Pushed E.numbers E.width (merged_into E.near (read_from E.first E.width self.old.count self.old.numbers.now) (entries_within (E.tilted beside) max_abs_tilt (tilts ∷ []))) self.old self.new }
+        ensures { Pushed E.numbers E.width (merged_into E.near (read_from E.first E.width self.old.count self.old.numbers.now) (items_within (E.tilted beside) max_abs_tilt (tilts ∷ []))) self.old self.new }
     {
         if in_bound(max_abs_tilt, tilts) {
             self.push(E::with_tilts(beside, tilts));

@@ -16,28 +16,28 @@ use Rattle.camera_models.specs.declared.intrinsics.FxFyCxCy.{FxFyCxCy}
 use Rattle.camera_tilt.specs.declared.sensor.ScheimpflugParams.{ScheimpflugParams}
 use Rattle.seed_rules.specs.declared.CandidateSeed.{CandidateSeed}
 use Rattle.seed_rules.specs.Merge.{keep}
-use Rattle.seed_rules.proofs.MergeLaws.{keep_all, mem_keep, merged_all, merged_covers}
+use Rattle.seed_rules.proofs.MergeLaws.{keep_all, mem_keep, all_after_merging, merged_covers_each}
 use Rattle.seed_rules.specs.Rules.{near, tilt_near, in_bound, tilts, pairs, seed_with, seeds_within, seed_grid, initial_list, offsets, y_offsets, moved, next_list}
-use Rattle.seed_rules.proofs.RulesLaws.{initial_length}
+use Rattle.seed_rules.proofs.RulesLaws.{initial_list_length_le}
 
 -- ---- lists in general
-all_of_mem : {A : Type 0} (P : A → Type 0) (xs : List A) → ((x : A) → Memᴰ x xs → P x) → All P xs
-all_of_mem P [] f = tt
-all_of_mem P (x ∷ xs) f = (f x (Memᴰ.head refl), all_of_mem P xs (λ z m. f z (Memᴰ.tail m)))
+all_from_members : {A : Type 0} (P : A → Type 0) (xs : List A) → ((x : A) → Memᴰ x xs → P x) → All P xs
+all_from_members P [] f = tt
+all_from_members P (x ∷ xs) f = (f x (Memᴰ.head refl), all_from_members P xs (λ z m. f z (Memᴰ.tail m)))
 
-mem_some : {A : Type 0} {x : A} (xs : List A) → Memᴰ x xs → 0 < length xs
-mem_some [] m = absurd (Memᴰ.not-nil m)
-mem_some (x ∷ xs) m = omega arith
+length_positive_of_member : {A : Type 0} {x : A} (xs : List A) → Memᴰ x xs → 0 < length xs
+length_positive_of_member [] m = absurd (Memᴰ.not-nil m)
+length_positive_of_member (x ∷ xs) m = omega arith
 
 -- ---- the pairs of two lists
-pairs_all : (P : ScheimpflugParams → Type 0) (xs ys : List Float)
+all_pairs_from_members : (P : ScheimpflugParams → Type 0) (xs ys : List Float)
     → ((x y : Float) → Memᴰ x xs → Memᴰ y ys → P (tilts x y)) → All P (pairs xs ys)
 unfolding pairs
-pairs_all P [] ys f = tt
-pairs_all P (x ∷ xs) ys f =
+all_pairs_from_members P [] ys f = tt
+all_pairs_from_members P (x ∷ xs) ys f =
     all_append P (map (tilts x) ys) (pairs xs ys)
-    (all_mapped (tilts x) P ys (all_of_mem (λ y. P (tilts x y)) ys (λ y m. f x y (Memᴰ.head refl) m)))
-    (pairs_all P xs ys (λ z y m n. f z y (Memᴰ.tail m) n))
+    (all_mapped (tilts x) P ys (all_from_members (λ y. P (tilts x y)) ys (λ y m. f x y (Memᴰ.head refl) m)))
+    (all_pairs_from_members P xs ys (λ z y m n. f z y (Memᴰ.tail m) n))
 
 pub pairs_mem : (xs ys : List Float) {x y : Float} → Memᴰ x xs → Memᴰ y ys → Memᴰ (tilts x y) (pairs xs ys)
 unfolding pairs
@@ -50,51 +50,51 @@ pairs_mem (z ∷ xs) ys {x} {y} m n =
 
 -- ---- round 0's list
 -- What holds of the decomposition's seeds, and of each pair of typed tilts within the bound with the base camera, holds of the whole list.
-pub initial_all : (P : CandidateSeed → Type 0) (ds : List CandidateSeed) (xs ys : List Float) (base : FxFyCxCy) (max : Float) → All P ds
+pub initial_list_all : (P : CandidateSeed → Type 0) (ds : List CandidateSeed) (xs ys : List Float) (base : FxFyCxCy) (max : Float) → All P ds
     → ((x y : Float) → Memᴰ x xs → Memᴰ y ys → in_bound max (tilts x y) ≡ true → P (seed_with base (tilts x y)))
     → All P (initial_list ds xs ys base max)
 unfolding initial_list seed_grid
-initial_all P ds xs ys base max h f =
+initial_list_all P ds xs ys base max h f =
     let Q : ScheimpflugParams → Type 0 = λ t. P (seed_with base t) in
     let R : ScheimpflugParams → Type 0 = λ t. in_bound max t ≡ true → Q t in
     let kept : All Q (keep (in_bound max) (pairs xs ys)) =
     all_map (λ t. R t × (in_bound max t ≡ true)) Q (λ t r. r.0 r.1) (keep (in_bound max) (pairs xs ys))
-    (keep_all R (in_bound max) (pairs xs ys) (pairs_all R xs ys f))
+    (keep_all R (in_bound max) (pairs xs ys) (all_pairs_from_members R xs ys f))
     in
-    merged_all near P [] (ds ++ map (seed_with base) (seed_grid xs ys max)) tt
+    all_after_merging near P [] (ds ++ map (seed_with base) (seed_grid xs ys max)) tt
     (all_append P ds (map (seed_with base) (seed_grid xs ys max)) h
-    (all_mapped (seed_with base) P (seed_grid xs ys max) (merged_all tilt_near Q [] (keep (in_bound max) (pairs xs ys)) tt kept)))
+    (all_mapped (seed_with base) P (seed_grid xs ys max) (all_after_merging tilt_near Q [] (keep (in_bound max) (pairs xs ys)) tt kept)))
 
 -- Every seed lies within the bound, if the decomposition's do.
 pub initial_in_bound : (ds : List CandidateSeed) (xs ys : List Float) (base : FxFyCxCy) (max : Float)
     → All (λ s. in_bound max s.sensor ≡ true) ds → All (λ s. in_bound max s.sensor ≡ true) (initial_list ds xs ys base max)
-initial_in_bound ds xs ys base max h = initial_all (λ s. in_bound max s.sensor ≡ true) ds xs ys base max h (λ x y m n b. b)
+initial_in_bound ds xs ys base max h = initial_list_all (λ s. in_bound max s.sensor ≡ true) ds xs ys base max h (λ x y m n b. b)
 
 -- With at most 256 seeds of the decomposition and 16 typed tilts for each axis there are at most 256 + 256.
-pub initial_most : (ds : List CandidateSeed) (xs ys : List Float) (base : FxFyCxCy) (max : Float)
+pub initial_list_le_512 : (ds : List CandidateSeed) (xs ys : List Float) (base : FxFyCxCy) (max : Float)
     → length ds ≤ 256 → length xs ≤ 16 → length ys ≤ 16 → length (initial_list ds xs ys base max) ≤ 256 + 256
-initial_most ds xs ys base max d x y = omega (arith, initial_length ds xs ys base max, mul-le-mul x y)
+initial_list_le_512 ds xs ys base max d x y = omega (arith, initial_list_length_le ds xs ys base max, mul-le-mul x y)
 
 -- ---- a later round's list
 -- What holds of the centre moved by each pair of offsets, within the bound and with the camera, holds of the whole list.
-pub next_all : (P : CandidateSeed → Type 0) (dxs dys : List Float) (centre : ScheimpflugParams) (camera : FxFyCxCy) (max : Float)
+pub next_list_all : (P : CandidateSeed → Type 0) (dxs dys : List Float) (centre : ScheimpflugParams) (camera : FxFyCxCy) (max : Float)
     → ((dx dy : Float) → Memᴰ dx dxs → Memᴰ dy dys
     → in_bound max (tilts (centre.tilt_x +₆₄ dx) (centre.tilt_y +₆₄ dy)) ≡ true → P (seed_with camera (tilts (centre.tilt_x +₆₄ dx) (centre.tilt_y +₆₄ dy))))
     → All P (next_list dxs dys centre camera max)
 unfolding next_list
-next_all P dxs dys centre camera max f =
+next_list_all P dxs dys centre camera max f =
     let Q : ScheimpflugParams → Type 0 = λ t. P (seed_with camera t) in
     let R : ScheimpflugParams → Type 0 = λ t. in_bound max t ≡ true → Q t in
     let xs = moved centre.tilt_x dxs in
     let ys = moved centre.tilt_y dys in
     let kept : All Q (keep (in_bound max) (pairs xs ys)) =
     all_map (λ t. R t × (in_bound max t ≡ true)) Q (λ t r. r.0 r.1) (keep (in_bound max) (pairs xs ys))
-    (keep_all R (in_bound max) (pairs xs ys) (pairs_all R xs ys (λ x y m n.
+    (keep_all R (in_bound max) (pairs xs ys) (all_pairs_from_members R xs ys (λ x y m n.
     let p = Memᴰ.of_map (λ d. centre.tilt_x +₆₄ d) dxs m in
     let q = Memᴰ.of_map (λ d. centre.tilt_y +₆₄ d) dys n in
     rw (p.2, q.2) at (f p.0 q.0 p.1 q.1))))
     in
-    merged_all near P [] (seeds_within max camera (pairs xs ys)) tt (all_mapped (seed_with camera) P (keep (in_bound max) (pairs xs ys)) kept)
+    all_after_merging near P [] (seeds_within max camera (pairs xs ys)) tt (all_mapped (seed_with camera) P (keep (in_bound max) (pairs xs ys)) kept)
 
 -- Where 0 is among the offsets of each axis, a list around a centre within the bound has a seed: the centre plus 0 is within the bound too.
 pub zero_offset : (s : Float) → Memᴰ plus_zero (offsets s)
@@ -106,19 +106,19 @@ unfolding y_offsets
 zero_y_offset true s = Memᴰ.head refl
 zero_y_offset false s = zero_offset s
 
-still_within : (max t : Float) → T (fits binary64 t) → within max (t +₆₄ plus_zero) ≡ within max t
+within_after_adding_zero : (max t : Float) → T (fits binary64 t) → within max (t +₆₄ plus_zero) ≡ within max t
 unfolding within
-still_within max t h = ap (λ (x : Float). le x max) (abs_add_zero t h)
+within_after_adding_zero max t h = ap (λ (x : Float). le x max) (abs_add_zero t h)
 
-pub next_some : (dxs dys : List Float) (centre : ScheimpflugParams) (camera : FxFyCxCy) (max : Float)
+pub next_list_not_empty : (dxs dys : List Float) (centre : ScheimpflugParams) (camera : FxFyCxCy) (max : Float)
     → Memᴰ plus_zero dxs → Memᴰ plus_zero dys → T (fits binary64 centre.tilt_x) → T (fits binary64 centre.tilt_y)
     → in_bound max centre ≡ true → 0 < length (next_list dxs dys centre camera max)
 unfolding next_list in_bound
-next_some dxs dys centre camera max zx zy fx fy h =
+next_list_not_empty dxs dys centre camera max zx zy fx fy h =
     let x = centre.tilt_x in
     let y = centre.tilt_y in
     let ts = pairs (moved x dxs) (moved y dys) in
-    let b : in_bound max (tilts (x +₆₄ plus_zero) (y +₆₄ plus_zero)) ≡ true = rw (still_within max x fx, still_within max y fy) h in
+    let b : in_bound max (tilts (x +₆₄ plus_zero) (y +₆₄ plus_zero)) ≡ true = rw (within_after_adding_zero max x fx, within_after_adding_zero max y fy) h in
     let m = pairs_mem (moved x dxs) (moved y dys) (Memᴰ.map (λ d. x +₆₄ d) zx) (Memᴰ.map (λ d. y +₆₄ d) zy) in
-    let c = merged_covers near [] (seeds_within max camera ts) (Memᴰ.map (seed_with camera) (mem_keep (in_bound max) ts m b)) in
-    mem_some (next_list dxs dys centre camera max) c.kept
+    let c = merged_covers_each near [] (seeds_within max camera ts) (Memᴰ.map (seed_with camera) (mem_keep (in_bound max) ts m b)) in
+    length_positive_of_member (next_list dxs dys centre camera max) c.kept

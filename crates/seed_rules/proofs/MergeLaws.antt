@@ -16,11 +16,11 @@ use Rattle.common.specs.Tests.{case}
 use Rattle.seed_rules.specs.Merge.{keep, has_near, newest_near, push, merged_into, merged}
 use Rattle.seed_rules.specs.Theorem.{Newest, Covered}
 
-found_in : (r : Option ℕ) (c : Bool) (i : ℕ) → is_some (option_or r (cond c (Some i) None)) ≡ (c || is_some r)
-found_in (Some j) true i = refl
-found_in (Some j) false i = refl
-found_in None true i = refl
-found_in None false i = refl
+is_some_option_or_cond : (r : Option ℕ) (c : Bool) (i : ℕ) → is_some (option_or r (cond c (Some i) None)) ≡ (c || is_some r)
+is_some_option_or_cond (Some j) true i = refl
+is_some_option_or_cond (Some j) false i = refl
+is_some_option_or_cond None true i = refl
+is_some_option_or_cond None false i = refl
 
 module _ {A : Type 0} where
   -- ---- those that pass a test
@@ -34,14 +34,14 @@ module _ {A : Type 0} where
   keep_length p [] = omega arith
   keep_length p (x ∷ xs) = let h = keep_length p xs in case (p x) (λ e. simp e (omega arith)) (λ e. simp e (omega arith))
 
-  cond_all : (Q : A → Type 0) (c : Bool) (x : A) (xs : List A) → (c ≡ true → Q x) → All Q xs → All Q (cond c (x ∷ xs) xs)
-  cond_all Q true x xs f h = (f refl, h)
-  cond_all Q false x xs f h = h
+  all_of_cond_cons : (Q : A → Type 0) (c : Bool) (x : A) (xs : List A) → (c ≡ true → Q x) → All Q xs → All Q (cond c (x ∷ xs) xs)
+  all_of_cond_cons Q true x xs f h = (f refl, h)
+  all_of_cond_cons Q false x xs f h = h
 
   pub keep_all : (P : A → Type 0) (p : A → Bool) (xs : List A) → All P xs → All (λ x. P x × (p x ≡ true)) (keep p xs)
   unfolding keep
   keep_all P p [] h = tt
-  keep_all P p (x ∷ xs) h = cond_all (λ z. P z × (p z ≡ true)) (p x) x (keep p xs) (λ e. (h.0, e)) (keep_all P p xs h.1)
+  keep_all P p (x ∷ xs) h = all_of_cond_cons (λ z. P z × (p z ≡ true)) (p x) x (keep p xs) (λ e. (h.0, e)) (keep_all P p xs h.1)
 
   -- where none passes, and where all do
   pub keep_none : (p : A → Bool) (xs : List A) → All (λ x. p x ≡ false) xs → keep p xs ≡ []
@@ -75,12 +75,12 @@ module _ {A : Type 0} where
     pub newest_found : (i : ℕ) (ks : List A) (s : A) → is_some (newest_near near i ks s) ≡ has_near near ks s
     unfolding newest_near has_near
     newest_found i [] s = refl
-    newest_found i (k ∷ ks) s = found_in (newest_near near (suc i) ks s) (near k s) i ∙ ap (λ (b : Bool). near k s || b) (newest_found (suc i) ks s)
+    newest_found i (k ∷ ks) s = is_some_option_or_cond (newest_near near (suc i) ks s) (near k s) i ∙ ap (λ (b : Bool). near k s || b) (newest_found (suc i) ks s)
 
     -- Merging asks only that, so pushing by what the search says keeps what the rule keeps.
-    pub same_kept : (ks : List A) (s : A) → cond (is_some (newest_near near 0 ks s)) ks (ks ++ (s ∷ [])) ≡ push near ks s
+    pub push_by_newest_near : (ks : List A) (s : A) → cond (is_some (newest_near near 0 ks s)) ks (ks ++ (s ∷ [])) ≡ push near ks s
     unfolding push
-    same_kept ks s = rw (newest_found 0 ks s)
+    push_by_newest_near ks s = rw (newest_found 0 ks s)
 
     pub newest_named : (i j : ℕ) (ks : List A) (s : A) → newest_near near i ks s ≡ Some j → Newest near i ks s j
     unfolding newest_near
@@ -96,7 +96,7 @@ module _ {A : Type 0} where
               named = n.named;
               later = n.later;
               split = ap (λ (l : List A). k ∷ l) n.split;
-              place = let p = n.place in omega arith;
+              index = let p = n.index in omega arith;
               nearby = n.nearby;
               none_later = n.none_later;
             }
@@ -110,19 +110,19 @@ module _ {A : Type 0} where
               named = k;
               later = ks;
               split = refl;
-              place = omega arith;
+              index = omega arith;
               nearby = c;
               none_later = sym (newest_found (suc i) ks s) ∙ ap is_some e;
             })
             (λ c. let f : None ≡ Some j = simp c at g in let z : ◌≡◌ {A = ℕ} 0 1 = cc in absurd (omega arith))
 
     -- a kept one that is added at the end is looked at first
-    pub newest_snoc : (i : ℕ) (ks : List A) (k s : A)
+    pub newest_near_snoc : (i : ℕ) (ks : List A) (k s : A)
         → newest_near near i (ks ++ (k ∷ [])) s ≡ cond (near k s) (Some (i + length ks)) (newest_near near i ks s)
     unfolding newest_near
-    newest_snoc i [] k s = ap (λ (n : ℕ). cond (near k s) (Some n) None) (sym (add-zero i))
-    newest_snoc i (l ∷ ks) k s =
-        let h = newest_snoc (suc i) ks k s in
+    newest_near_snoc i [] k s = ap (λ (n : ℕ). cond (near k s) (Some n) None) (sym (add-zero i))
+    newest_near_snoc i (l ∷ ks) k s =
+        let h = newest_near_snoc (suc i) ks k s in
         let n : suc i + length ks ≡ i + suc (length ks) = omega arith in
         case (near k s) (λ e. simp (h, e, n)) (λ e. simp (h, e))
 
@@ -133,69 +133,69 @@ module _ {A : Type 0} where
     merged_append ks (x ∷ xs) ys = merged_append (push near ks x) xs ys
 
     -- ---- lengths
-    pub push_length : (ks : List A) (s : A) → (length ks ≤ length (push near ks s)) × (length (push near ks s) ≤ suc (length ks))
+    pub push_length_bounds : (ks : List A) (s : A) → (length ks ≤ length (push near ks s)) × (length (push near ks s) ≤ suc (length ks))
     unfolding push
-    push_length ks s =
+    push_length_bounds ks s =
         case (has_near near ks s)
         (λ e. simp e (omega arith, omega arith))
         (λ e. let l = length-append ks (s ∷ []) in simp e (omega arith, omega arith))
 
-    pub merged_longer : (ks ss : List A) → length ks ≤ length (merged_into near ks ss)
+    pub merged_into_not_shorter : (ks ss : List A) → length ks ≤ length (merged_into near ks ss)
     unfolding merged_into
-    merged_longer ks [] = omega arith
-    merged_longer ks (s ∷ ss) = let h = merged_longer (push near ks s) ss in let k = push_length ks s in omega arith
+    merged_into_not_shorter ks [] = omega arith
+    merged_into_not_shorter ks (s ∷ ss) = let h = merged_into_not_shorter (push near ks s) ss in let k = push_length_bounds ks s in omega arith
 
-    pub merged_length : (ks ss : List A) → length (merged_into near ks ss) ≤ length ks + length ss
+    pub merged_into_length_le_sum : (ks ss : List A) → length (merged_into near ks ss) ≤ length ks + length ss
     unfolding merged_into
-    merged_length ks [] = omega arith
-    merged_length ks (s ∷ ss) = let h = merged_length (push near ks s) ss in let k = push_length ks s in omega arith
+    merged_into_length_le_sum ks [] = omega arith
+    merged_into_length_le_sum ks (s ∷ ss) = let h = merged_into_length_le_sum (push near ks s) ss in let k = push_length_bounds ks s in omega arith
 
     -- ---- what holds of those kept before and of those offered holds of those kept after
-    push_all : (P : A → Type 0) (ks : List A) (s : A) → All P ks → P s → All P (push near ks s)
+    all_after_push : (P : A → Type 0) (ks : List A) (s : A) → All P ks → P s → All P (push near ks s)
     unfolding push
-    push_all P ks s h k = case (has_near near ks s) (λ e. simp e h) (λ e. simp e (all_append P ks (s ∷ []) h (k, tt)))
+    all_after_push P ks s h k = case (has_near near ks s) (λ e. simp e h) (λ e. simp e (all_append P ks (s ∷ []) h (k, tt)))
 
-    pub merged_all : (P : A → Type 0) (ks ss : List A) → All P ks → All P ss → All P (merged_into near ks ss)
+    pub all_after_merging : (P : A → Type 0) (ks ss : List A) → All P ks → All P ss → All P (merged_into near ks ss)
     unfolding merged_into
-    merged_all P ks [] h k = h
-    merged_all P ks (s ∷ ss) h k = merged_all P (push near ks s) ss (push_all P ks s h k.0) k.1
+    all_after_merging P ks [] h k = h
+    all_after_merging P ks (s ∷ ss) h k = all_after_merging P (push near ks s) ss (all_after_push P ks s h k.0) k.1
 
     -- ---- what is kept stays
-    mem_push : (ks : List A) (s : A) {x : A} → Memᴰ x ks → Memᴰ x (push near ks s)
+    kept_stays_after_push : (ks : List A) (s : A) {x : A} → Memᴰ x ks → Memᴰ x (push near ks s)
     unfolding push
-    mem_push ks s m = case (has_near near ks s) (λ e. simp e m) (λ e. simp e (Memᴰ.append_left (s ∷ []) m))
+    kept_stays_after_push ks s m = case (has_near near ks s) (λ e. simp e m) (λ e. simp e (Memᴰ.append_left (s ∷ []) m))
 
-    mem_merged : (ks ss : List A) {x : A} → Memᴰ x ks → Memᴰ x (merged_into near ks ss)
+    kept_stays_after_merging : (ks ss : List A) {x : A} → Memᴰ x ks → Memᴰ x (merged_into near ks ss)
     unfolding merged_into
-    mem_merged ks [] m = m
-    mem_merged ks (s ∷ ss) m = mem_merged (push near ks s) ss (mem_push ks s m)
+    kept_stays_after_merging ks [] m = m
+    kept_stays_after_merging ks (s ∷ ss) m = kept_stays_after_merging (push near ks s) ss (kept_stays_after_push ks s m)
 
     -- ---- each one offered is kept, or near a kept one
-    near_one : (ks : List A) (s : A) → has_near near ks s ≡ true → Covered near ks s
+    covered_if_has_near : (ks : List A) (s : A) → has_near near ks s ≡ true → Covered near ks s
     unfolding has_near
-    near_one [] s h = absurd (true≢false (sym h))
-    near_one (k ∷ ks) s h =
+    covered_if_has_near [] s h = absurd (true≢false (sym h))
+    covered_if_has_near (k ∷ ks) s h =
         case (near k s)
         (λ e. record { by = k; kept = Memᴰ.head refl; nearby = inr e })
-        (λ e. let r = near_one ks s (simp e at h) in record { by = r.by; kept = Memᴰ.tail r.kept; nearby = r.nearby })
+        (λ e. let r = covered_if_has_near ks s (simp e at h) in record { by = r.by; kept = Memᴰ.tail r.kept; nearby = r.nearby })
 
-    push_covers : (ks : List A) (s : A) → Covered near (push near ks s) s
+    pushed_is_covered : (ks : List A) (s : A) → Covered near (push near ks s) s
     unfolding push
-    push_covers ks s =
+    pushed_is_covered ks s =
         case (has_near near ks s)
-        (λ e. simp e (near_one ks s e))
+        (λ e. simp e (covered_if_has_near ks s e))
         (λ e. simp e (record { by = s; kept = Memᴰ.append_right ks (Memᴰ.head refl); nearby = inl refl }))
 
-    stays_covered : (ks ss : List A) (s : A) → Covered near ks s → Covered near (merged_into near ks ss) s
-    stays_covered ks ss s r = record { by = r.by; kept = mem_merged ks ss r.kept; nearby = r.nearby }
+    covered_after_merging : (ks ss : List A) (s : A) → Covered near ks s → Covered near (merged_into near ks ss) s
+    covered_after_merging ks ss s r = record { by = r.by; kept = kept_stays_after_merging ks ss r.kept; nearby = r.nearby }
 
-    pub merged_covers : (ks ss : List A) {s : A} → Memᴰ s ss → Covered near (merged_into near ks ss) s
+    pub merged_covers_each : (ks ss : List A) {s : A} → Memᴰ s ss → Covered near (merged_into near ks ss) s
     unfolding merged_into
-    merged_covers ks [] m = absurd (Memᴰ.not-nil m)
-    merged_covers ks (t ∷ ss) {s} m =
+    merged_covers_each ks [] m = absurd (Memᴰ.not-nil m)
+    merged_covers_each ks (t ∷ ss) {s} m =
         ⊎_elim
-        (λ e. stays_covered (push near ks t) ss s (rw e (push_covers ks t)))
-        (λ n. merged_covers (push near ks t) ss n)
+        (λ e. covered_after_merging (push near ks t) ss s (rw e (pushed_is_covered ks t)))
+        (λ n. merged_covers_each (push near ks t) ss n)
         (Memᴰ.cases_cons m)
 
     -- ---- none of a merged list is near an earlier one; those of ks come before
@@ -203,25 +203,25 @@ module _ {A : Type 0} where
     Fresh ks [] = Unit {0}
     Fresh ks (s ∷ ss) = (has_near near ks s ≡ false) × Fresh (ks ++ s ∷ []) ss
 
-    fresh_more : (ks ss : List A) (s : A) → Fresh ks ss → has_near near (ks ++ ss) s ≡ false → Fresh ks (ss ++ s ∷ [])
-    fresh_more ks [] s f h = (rw append-nil at h, tt)
-    fresh_more ks (t ∷ ss) s f h = (f.0, fresh_more (ks ++ t ∷ []) ss s f.1 (rw (← append_assoc ks (t ∷ []) ss) at h))
+    fresh_snoc : (ks ss : List A) (s : A) → Fresh ks ss → has_near near (ks ++ ss) s ≡ false → Fresh ks (ss ++ s ∷ [])
+    fresh_snoc ks [] s f h = (rw append-nil at h, tt)
+    fresh_snoc ks (t ∷ ss) s f h = (f.0, fresh_snoc (ks ++ t ∷ []) ss s f.1 (rw (← append_assoc ks (t ∷ []) ss) at h))
 
-    push_fresh : (ks : List A) (s : A) → Fresh [] ks → Fresh [] (push near ks s)
+    fresh_after_push : (ks : List A) (s : A) → Fresh [] ks → Fresh [] (push near ks s)
     unfolding push
-    push_fresh ks s f = case (has_near near ks s) (λ e. simp e f) (λ e. simp e (fresh_more [] ks s f e))
+    fresh_after_push ks s f = case (has_near near ks s) (λ e. simp e f) (λ e. simp e (fresh_snoc [] ks s f e))
 
-    fresh_into : (ks ss : List A) → Fresh [] ks → Fresh [] (merged_into near ks ss)
+    fresh_after_merging : (ks ss : List A) → Fresh [] ks → Fresh [] (merged_into near ks ss)
     unfolding merged_into
-    fresh_into ks [] f = f
-    fresh_into ks (s ∷ ss) f = fresh_into (push near ks s) ss (push_fresh ks s f)
+    fresh_after_merging ks [] f = f
+    fresh_after_merging ks (s ∷ ss) f = fresh_after_merging (push near ks s) ss (fresh_after_push ks s f)
 
     fresh_at : (ks before : List A) (s : A) (behind : List A) → Fresh ks (before ++ s ∷ behind) → has_near near (ks ++ before) s ≡ false
     fresh_at ks [] s behind f = rw append-nil f.0
     fresh_at ks (t ∷ before) s behind f = rw (← append_assoc ks (t ∷ []) before) (fresh_at (ks ++ t ∷ []) before s behind f.1)
 
     pub merged_fresh : (ss before : List A) (s : A) (behind : List A) → merged near ss ≡ before ++ s ∷ behind → has_near near before s ≡ false
-    merged_fresh ss before s behind e = fresh_at [] before s behind (rw e at (fresh_into [] ss tt))
+    merged_fresh ss before s behind e = fresh_at [] before s behind (rw e at (fresh_after_merging [] ss tt))
 
     -- ---- a map that keeps nearness keeps merging
     module _ (f : A → A) (same : (a b : A) → near (f a) (f b) ≡ near a b) where
@@ -237,7 +237,7 @@ module _ {A : Type 0} where
           (λ e. simp (map_near ks s, e))
           (λ e. simp (map_near ks s, e) (sym (map-append f ks (s ∷ []))))
 
-      pub merged_map : (ks ss : List A) → merged_into near (map f ks) (map f ss) ≡ map f (merged_into near ks ss)
+      pub merged_into_map : (ks ss : List A) → merged_into near (map f ks) (map f ss) ≡ map f (merged_into near ks ss)
       unfolding merged_into
-      merged_map ks [] = refl
-      merged_map ks (s ∷ ss) = ap (λ (q : List A). merged_into near q (map f ss)) (map_push ks s) ∙ merged_map (push near ks s) ss
+      merged_into_map ks [] = refl
+      merged_into_map ks (s ∷ ss) = ap (λ (q : List A). merged_into near q (map f ss)) (map_push ks s) ∙ merged_into_map (push near ks s) ss

@@ -12,7 +12,7 @@ use Rattle.camera_models.specs.declared.intrinsics.FxFyCxCy.{FxFyCxCy}
 use Rattle.camera_tilt.specs.declared.sensor.ScheimpflugParams.{ScheimpflugParams}
 use Rattle.seed_rules.specs.declared.CandidateSeed.{CandidateSeed}
 use Rattle.seed_rules.specs.Merge.{keep, merged}
-use Rattle.seed_rules.proofs.MergeLaws.{keep_map, merged_map}
+use Rattle.seed_rules.proofs.MergeLaws.{keep_map, merged_into_map}
 use Rattle.seed_rules.specs.Rules.{closer, tilt_limit, tilt_near, camera_near, near, in_bound, tilts, pairs, seed_with, seed_grid, initial_list}
 use Rattle.seed_rules.specs.Theorem.{opposite, mirrored}
 
@@ -51,7 +51,7 @@ unfolding seed_grid
 grid_opposite xs ys max =
     ap (λ (ts : List ScheimpflugParams). merged tilt_near (keep (in_bound max) ts)) (pairs_opposite xs ys)
     ∙ ap (merged tilt_near) (keep_map (in_bound max) opposite (bound_opposite max) (pairs xs ys))
-    ∙ merged_map tilt_near opposite near_opposite [] (keep (in_bound max) (pairs xs ys))
+    ∙ merged_into_map tilt_near opposite near_opposite [] (keep (in_bound max) (pairs xs ys))
 
 -- ---- round 0's list of the negated seeds is the negated list
 pub initial_list_negated : (ds : List CandidateSeed) (xs ys : List Float) (base : FxFyCxCy) (max : Float)
@@ -62,4 +62,4 @@ initial_list_negated ds xs ys base max =
     ap (λ (ts : List ScheimpflugParams). merged near (map mirrored ds ++ map (seed_with base) ts)) (grid_opposite xs ys max)
     ∙ ap (λ (ss : List CandidateSeed). merged near (map mirrored ds ++ ss)) (map_map opposite (seed_with base) (seed_with base) mirrored (λ t. refl) g)
     ∙ ap (merged near) (sym (map-append mirrored ds (map (seed_with base) g)))
-    ∙ merged_map near mirrored near_mirrored [] (ds ++ map (seed_with base) g)
+    ∙ merged_into_map near mirrored near_mirrored [] (ds ++ map (seed_with base) g)

@@ -5,7 +5,7 @@ use Rattle.std.specs.Float.Ieee.{of_bits, sub, lt}
 use Rattle.float.specs.Float.{abs_of}
 use Rattle.seed_rules.specs.Merge.{has_near, newest_near, push, merged_into}
 use Rattle.seed_rules.specs.Rules.{closer, tilt_near, camera_near, near}
-use Rattle.seed_rules.proofs.MergeLaws.{newest_found, newest_named, merged_covers, merged_fresh}
+use Rattle.seed_rules.proofs.MergeLaws.{newest_found, newest_named, merged_covers_each, merged_fresh}
 use Rattle.seed_rules.specs.Theorem.{NamesNewer, Merging, MergingRight}
 
 pub names_newer : NamesNewer
@@ -14,7 +14,7 @@ names_newer = record { kept = refl; named = refl; seeds_kept = refl; seed_named 
 
 merging : {A : Type 0} (near : A → A → Bool) → Merging near
 merging near = record {
-  covers = λ ss m. merged_covers near [] ss m;
+  covers = λ ss m. merged_covers_each near [] ss m;
   fresh = merged_fresh near;
   newest_found = newest_found near;
   newest_named = newest_named near;

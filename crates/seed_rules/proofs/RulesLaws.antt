@@ -8,15 +8,15 @@ use Rattle.camera_models.specs.declared.intrinsics.FxFyCxCy.{FxFyCxCy}
 use Rattle.camera_tilt.specs.declared.sensor.ScheimpflugParams.{ScheimpflugParams}
 use Rattle.seed_rules.specs.declared.CandidateSeed.{CandidateSeed}
 use Rattle.seed_rules.specs.Merge.{keep}
-use Rattle.seed_rules.proofs.MergeLaws.{keep_append, keep_length, merged_length}
-use Rattle.seed_rules.specs.Rules.{tilt_near, near, in_bound, tilts, pairs, seed_with, entries_within, seeds_within, seed_grid, initial_list, moved, next_list}
+use Rattle.seed_rules.proofs.MergeLaws.{keep_append, keep_length, merged_into_length_le_sum}
+use Rattle.seed_rules.specs.Rules.{tilt_near, near, in_bound, tilts, pairs, seed_with, items_within, seeds_within, seed_grid, initial_list, moved, next_list}
 
 module _ {A : Type 0} (of : ScheimpflugParams → A) (max : Float) where
-  pub within_append : (ss ts : List ScheimpflugParams) → entries_within of max (ss ++ ts) ≡ entries_within of max ss ++ entries_within of max ts
-  within_append ss ts = ap (map of) (keep_append (in_bound max) ss ts) ∙ map-append of (keep (in_bound max) ss) (keep (in_bound max) ts)
+  pub entries_within_append : (ss ts : List ScheimpflugParams) → items_within of max (ss ++ ts) ≡ items_within of max ss ++ items_within of max ts
+  entries_within_append ss ts = ap (map of) (keep_append (in_bound max) ss ts) ∙ map-append of (keep (in_bound max) ss) (keep (in_bound max) ts)
 
-  pub within_length : (ts : List ScheimpflugParams) → length (entries_within of max ts) ≤ length ts
-  within_length ts = omega (arith, length-map (keep (in_bound max) ts) of, keep_length (in_bound max) ts)
+  pub entries_within_length_le : (ts : List ScheimpflugParams) → length (items_within of max ts) ≤ length ts
+  entries_within_length_le ts = omega (arith, length-map (keep (in_bound max) ts) of, keep_length (in_bound max) ts)
 
 pub pairs_append : (xs zs ys : List Float) → pairs (xs ++ zs) ys ≡ pairs xs ys ++ pairs zs ys
 unfolding pairs
@@ -29,53 +29,53 @@ pairs_length [] ys = omega arith
 pairs_length (x ∷ xs) ys =
     omega (arith, length-append (map (tilts x) ys) (pairs xs ys), length-map ys (tilts x), pairs_length xs ys, suc-mul (length xs) (length ys))
 
-pairs_one : (x : Float) (ys : List Float) → pairs (x ∷ []) ys ≡ map (tilts x) ys
+pairs_of_one_x : (x : Float) (ys : List Float) → pairs (x ∷ []) ys ≡ map (tilts x) ys
 unfolding pairs
-pairs_one x ys = append-nil (map (tilts x) ys)
+pairs_of_one_x x ys = append-nil (map (tilts x) ys)
 
 -- ---- one more number of an axis, typed or an offset: f gives its tilt
-along_more : {B : Type 0} (f : Float → B) (ds : List Float) (j : ℕ) → j < length ds → map f (take (suc j) ds) ≡ map f (take j ds) ++ (f (get_or ds j nan) ∷ [])
-along_more f ds j h = ap (map f) (take-suc ds j nan h) ∙ map-append f (take j ds) (get_or ds j nan ∷ [])
+map_take_suc : {B : Type 0} (f : Float → B) (ds : List Float) (j : ℕ) → j < length ds → map f (take (suc j) ds) ≡ map f (take j ds) ++ (f (get_or ds j nan) ∷ [])
+map_take_suc f ds j h = ap (map f) (take-suc ds j nan h) ∙ map-append f (take j ds) (get_or ds j nan ∷ [])
 
 module _ {A : Type 0} (of : ScheimpflugParams → A) (max : Float) (f : Float → Float) where
-  pub axis_row_more : (x : Float) (ds : List Float) (j : ℕ) → j < length ds
-      → entries_within of max (map (tilts x) (map f (take (suc j) ds)))
-      ≡ entries_within of max (map (tilts x) (map f (take j ds))) ++ entries_within of max (tilts x (f (get_or ds j nan)) ∷ [])
-  axis_row_more x ds j h =
-      ap (λ (zs : List Float). entries_within of max (map (tilts x) zs)) (along_more f ds j h)
-      ∙ ap (entries_within of max) (map-append (tilts x) (map f (take j ds)) (f (get_or ds j nan) ∷ []))
-      ∙ within_append of max (map (tilts x) (map f (take j ds))) (tilts x (f (get_or ds j nan)) ∷ [])
+  pub row_entries_take_suc : (x : Float) (ds : List Float) (j : ℕ) → j < length ds
+      → items_within of max (map (tilts x) (map f (take (suc j) ds)))
+      ≡ items_within of max (map (tilts x) (map f (take j ds))) ++ items_within of max (tilts x (f (get_or ds j nan)) ∷ [])
+  row_entries_take_suc x ds j h =
+      ap (λ (zs : List Float). items_within of max (map (tilts x) zs)) (map_take_suc f ds j h)
+      ∙ ap (items_within of max) (map-append (tilts x) (map f (take j ds)) (f (get_or ds j nan) ∷ []))
+      ∙ entries_within_append of max (map (tilts x) (map f (take j ds))) (tilts x (f (get_or ds j nan)) ∷ [])
 
-  pub axis_grid_more : (ds ys : List Float) (i : ℕ) → i < length ds
-      → entries_within of max (pairs (map f (take (suc i) ds)) ys)
-      ≡ entries_within of max (pairs (map f (take i ds)) ys) ++ entries_within of max (map (tilts (f (get_or ds i nan))) ys)
-  axis_grid_more ds ys i h =
+  pub grid_entries_take_suc : (ds ys : List Float) (i : ℕ) → i < length ds
+      → items_within of max (pairs (map f (take (suc i) ds)) ys)
+      ≡ items_within of max (pairs (map f (take i ds)) ys) ++ items_within of max (map (tilts (f (get_or ds i nan))) ys)
+  grid_entries_take_suc ds ys i h =
       let x = f (get_or ds i nan) in
-      ap (λ (zs : List Float). entries_within of max (pairs zs ys)) (along_more f ds i h)
-      ∙ ap (entries_within of max) (pairs_append (map f (take i ds)) (x ∷ []) ys)
-      ∙ within_append of max (pairs (map f (take i ds)) ys) (pairs (x ∷ []) ys)
-      ∙ ap (λ (zs : List ScheimpflugParams). entries_within of max (pairs (map f (take i ds)) ys) ++ entries_within of max zs) (pairs_one x ys)
+      ap (λ (zs : List Float). items_within of max (pairs zs ys)) (map_take_suc f ds i h)
+      ∙ ap (items_within of max) (pairs_append (map f (take i ds)) (x ∷ []) ys)
+      ∙ entries_within_append of max (pairs (map f (take i ds)) ys) (pairs (x ∷ []) ys)
+      ∙ ap (λ (zs : List ScheimpflugParams). items_within of max (pairs (map f (take i ds)) ys) ++ items_within of max zs) (pairs_of_one_x x ys)
 
 -- ---- at most one seed for each pair
-pub grid_length : (xs ys : List Float) (max : Float) → length (seed_grid xs ys max) ≤ length xs * length ys
+pub seed_grid_length_le : (xs ys : List Float) (max : Float) → length (seed_grid xs ys max) ≤ length xs * length ys
 unfolding seed_grid
-grid_length xs ys max =
-    omega (arith, merged_length tilt_near [] (keep (in_bound max) (pairs xs ys)), keep_length (in_bound max) (pairs xs ys), pairs_length xs ys)
+seed_grid_length_le xs ys max =
+    omega (arith, merged_into_length_le_sum tilt_near [] (keep (in_bound max) (pairs xs ys)), keep_length (in_bound max) (pairs xs ys), pairs_length xs ys)
 
-pub initial_length : (ds : List CandidateSeed) (xs ys : List Float) (base : FxFyCxCy) (max : Float)
+pub initial_list_length_le : (ds : List CandidateSeed) (xs ys : List Float) (base : FxFyCxCy) (max : Float)
     → length (initial_list ds xs ys base max) ≤ length ds + length xs * length ys
 unfolding initial_list
-initial_length ds xs ys base max =
+initial_list_length_le ds xs ys base max =
     let g = map (seed_with base) (seed_grid xs ys max) in
-    omega (arith, merged_length near [] (ds ++ g), length-append ds g, length-map (seed_grid xs ys max) (seed_with base), grid_length xs ys max)
+    omega (arith, merged_into_length_le_sum near [] (ds ++ g), length-append ds g, length-map (seed_grid xs ys max) (seed_with base), seed_grid_length_le xs ys max)
 
-pub next_length : (dxs dys : List Float) (centre : ScheimpflugParams) (camera : FxFyCxCy) (max : Float)
+pub next_list_length_le : (dxs dys : List Float) (centre : ScheimpflugParams) (camera : FxFyCxCy) (max : Float)
     → length (next_list dxs dys centre camera max) ≤ length dxs * length dys
 unfolding next_list
-next_length dxs dys centre camera max =
+next_list_length_le dxs dys centre camera max =
     let xs = moved centre.tilt_x dxs in
     let ys = moved centre.tilt_y dys in
     let ex : length xs ≡ length dxs = length-map dxs (λ d. centre.tilt_x +₆₄ d) in
     let ey : length ys ≡ length dys = length-map dys (λ d. centre.tilt_y +₆₄ d) in
     let e : length (pairs xs ys) ≡ length dxs * length dys = rw (ex, ey) at (pairs_length xs ys) in
-    omega (arith, merged_length near [] (seeds_within max camera (pairs xs ys)), within_length (seed_with camera) max (pairs xs ys))
+    omega (arith, merged_into_length_le_sum near [] (seeds_within max camera (pairs xs ys)), entries_within_length_le (seed_with camera) max (pairs xs ys))

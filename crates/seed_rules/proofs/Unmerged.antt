@@ -12,46 +12,46 @@ use Rattle.seed_rules.specs.Theorem.{Apart}
 
 module _ {A : Type 0} (near : A → A → Bool) where
   -- ---- merging
-  none_more : (ks : List A) (k s : A) → has_near near ks s ≡ false → near k s ≡ false → has_near near (ks ++ k ∷ []) s ≡ false
+  no_near_after_snoc : (ks : List A) (k s : A) → has_near near ks s ≡ false → near k s ≡ false → has_near near (ks ++ k ∷ []) s ≡ false
   unfolding has_near
-  none_more [] k s h e = rw e
-  none_more (l ∷ ks) k s h e = let p = both_false (near l s) (has_near near ks s) h in rw p.0 (none_more ks k s p.1 e)
+  no_near_after_snoc [] k s h e = rw e
+  no_near_after_snoc (l ∷ ks) k s h e = let p = both_false (near l s) (has_near near ks s) h in rw p.0 (no_near_after_snoc ks k s p.1 e)
 
-  all_none_more : (ks : List A) (k : A) (ss : List A) → All (λ s. has_near near ks s ≡ false) ss → All (λ s. near k s ≡ false) ss
+  no_near_for_all_after_snoc : (ks : List A) (k : A) (ss : List A) → All (λ s. has_near near ks s ≡ false) ss → All (λ s. near k s ≡ false) ss
       → All (λ s. has_near near (ks ++ k ∷ []) s ≡ false) ss
-  all_none_more ks k [] h a = tt
-  all_none_more ks k (s ∷ ss) h a = (none_more ks k s h.0 a.0, all_none_more ks k ss h.1 a.1)
+  no_near_for_all_after_snoc ks k [] h a = tt
+  no_near_for_all_after_snoc ks k (s ∷ ss) h a = (no_near_after_snoc ks k s h.0 a.0, no_near_for_all_after_snoc ks k ss h.1 a.1)
 
-  push_new : (ks : List A) (s : A) → has_near near ks s ≡ false → push near ks s ≡ ks ++ s ∷ []
+  push_appends_if_no_near : (ks : List A) (s : A) → has_near near ks s ≡ false → push near ks s ≡ ks ++ s ∷ []
   unfolding push
-  push_new ks s h = rw h
+  push_appends_if_no_near ks s h = rw h
 
-  merged_onto : (ks ss : List A) → All (λ s. has_near near ks s ≡ false) ss → Apart near ss → merged_into near ks ss ≡ ks ++ ss
+  merged_into_appends_apart : (ks ss : List A) → All (λ s. has_near near ks s ≡ false) ss → Apart near ss → merged_into near ks ss ≡ ks ++ ss
   unfolding merged_into
-  merged_onto ks [] h a = sym (append-nil ks)
-  merged_onto ks (s ∷ ss) h a =
-      ap (λ (q : List A). merged_into near q ss) (push_new ks s h.0)
-      ∙ merged_onto (ks ++ s ∷ []) ss (all_none_more ks s ss h.1 a.0) a.1
+  merged_into_appends_apart ks [] h a = sym (append-nil ks)
+  merged_into_appends_apart ks (s ∷ ss) h a =
+      ap (λ (q : List A). merged_into near q ss) (push_appends_if_no_near ks s h.0)
+      ∙ merged_into_appends_apart (ks ++ s ∷ []) ss (no_near_for_all_after_snoc ks s ss h.1 a.0) a.1
       ∙ append_assoc ks (s ∷ []) ss
 
-  near_none : (ss : List A) → All (λ s. has_near near [] s ≡ false) ss
+  no_near_in_empty : (ss : List A) → All (λ s. has_near near [] s ≡ false) ss
   unfolding has_near
-  near_none [] = tt
-  near_none (s ∷ ss) = (refl, near_none ss)
+  no_near_in_empty [] = tt
+  no_near_in_empty (s ∷ ss) = (refl, no_near_in_empty ss)
 
-  pub merged_apart : (ss : List A) → Apart near ss → merged near ss ≡ ss
-  merged_apart ss a = merged_onto [] ss (near_none ss) a
+  pub merged_of_apart : (ss : List A) → Apart near ss → merged near ss ≡ ss
+  merged_of_apart ss a = merged_into_appends_apart [] ss (no_near_in_empty ss) a
 
   -- ---- parts of such a list, and two of them in a row
-  cond_apart : (c : Bool) (x : A) (xs : List A) → All (λ y. near x y ≡ false) xs → Apart near xs → Apart near (cond c (x ∷ xs) xs)
-  cond_apart true x xs h a = (h, a)
-  cond_apart false x xs h a = a
+  apart_of_cond_cons : (c : Bool) (x : A) (xs : List A) → All (λ y. near x y ≡ false) xs → Apart near xs → Apart near (cond c (x ∷ xs) xs)
+  apart_of_cond_cons true x xs h a = (h, a)
+  apart_of_cond_cons false x xs h a = a
 
   pub keep_apart : (p : A → Bool) (xs : List A) → Apart near xs → Apart near (keep p xs)
   unfolding keep
   keep_apart p [] a = tt
   keep_apart p (x ∷ xs) a =
-      cond_apart (p x) x (keep p xs)
+      apart_of_cond_cons (p x) x (keep p xs)
       (all_map (λ y. (near x y ≡ false) × (p y ≡ true)) (λ y. near x y ≡ false) (λ y h. h.0) (keep p xs) (keep_all (λ y. near x y ≡ false) p xs a.0))
       (keep_apart p xs a.1)
 

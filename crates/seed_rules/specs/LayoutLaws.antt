@@ -34,14 +34,14 @@ module _ {A : Type 0} (first : List Float → A) (w : ℕ) where
       read_at n i (drop w l) d (omega arith) ∙ ap first (drop-drop (w * i) w l ∙ ap (λ (k : ℕ). drop k l) e)
 
   module _ (n i : ℕ) (l : List Float) (h : i < n) where
-    in_range : i < length (read_from first w n l)
-    in_range = rw read_length h
+    place_lt_read_length : i < length (read_from first w n l)
+    place_lt_read_length = rw read_length h
 
     pub read_drop : drop i (read_from first w n l) ≡ first (drop (w * i) l) ∷ drop (suc i) (read_from first w n l)
-    read_drop = drop-cons (read_from first w n l) i (first (drop (w * i) l)) in_range ∙ rw (read_at n i l (first (drop (w * i) l)) h)
+    read_drop = drop-cons (read_from first w n l) i (first (drop (w * i) l)) place_lt_read_length ∙ rw (read_at n i l (first (drop (w * i) l)) h)
 
     pub read_take : take (suc i) (read_from first w n l) ≡ take i (read_from first w n l) ++ (first (drop (w * i) l) ∷ [])
-    read_take = take-suc (read_from first w n l) i (first (drop (w * i) l)) in_range ∙ rw (read_at n i l (first (drop (w * i) l)) h)
+    read_take = take-suc (read_from first w n l) i (first (drop (w * i) l)) place_lt_read_length ∙ rw (read_at n i l (first (drop (w * i) l)) h)
 
 module _ {A : Type 0} {numbers : A → List Float} {first : List Float → A} {w : ℕ} (y : Layout numbers first w) where
   pub laid_length : (xs : List A) → length (laid numbers xs) ≡ w * length xs
@@ -91,10 +91,10 @@ module _ {A : Type 0} {numbers : A → List Float} {first : List Float → A} {w
       ap (λ (r : List Float). laid numbers ys ++ r) f
 
   -- one more record stored behind the first n
-  pub stored : (n : ℕ) (l : List Float) (a : A) → w * n + w ≤ length l
+  pub set_record_is_written_behind : (n : ℕ) (l : List Float) (a : A) → w * n + w ≤ length l
       → sets l (w * n) (numbers a) ≡ written_by numbers w (read_from first w n l ++ (a ∷ [])) l
   unfolding laid
-  stored n l a h =
+  set_record_is_written_behind n l a h =
       let f : w * n + length (numbers a) ≡ w * n + w = ap (λ (k : ℕ). w * n + k) (y.wide a) in
       let g : length (read_from first w n l ++ (a ∷ [])) ≡ suc n = omega (arith, length-append (read_from first w n l) (a ∷ []), read_length first w n l) in
       let e : w * suc n ≡ w * n + w = mul-suc w n in

@@ -51,11 +51,11 @@ abbrev pub seed_with : FxFyCxCy → ScheimpflugParams → CandidateSeed
 seed_with k t = record { reference_k = k; sensor = t }
 
 -- tilts within the bound, each as an entry of a list; and as seeds with one camera
-abbrev pub entries_within : {A : Type 0} → (ScheimpflugParams → A) → Float → List ScheimpflugParams → List A
-entries_within of max ts = map of (keep (in_bound max) ts)
+abbrev pub items_within : {A : Type 0} → (ScheimpflugParams → A) → Float → List ScheimpflugParams → List A
+items_within of max ts = map of (keep (in_bound max) ts)
 
 abbrev pub seeds_within : Float → FxFyCxCy → List ScheimpflugParams → List CandidateSeed
-seeds_within max k ts = entries_within (seed_with k) max ts
+seeds_within max k ts = items_within (seed_with k) max ts
 
 -- ---- round 0's grid: pairs of typed tilts beyond the bound are left out, and the others are merged by tilt alone.
 unfoldable pub seed_grid : List Float → List Float → Float → List ScheimpflugParams

@@ -28,7 +28,7 @@ module _ {A : Type 0} (near : A → A → Bool) where
     pub named : A
     pub later : List A
     pub split : ks ≡ earlier ++ (named ∷ later)
-    pub place : j ≡ i + length earlier
+    pub index : j ≡ i + length earlier
     pub nearby : near named s ≡ true
     pub none_later : has_near near later s ≡ false
 
@@ -102,8 +102,8 @@ abbrev pub mirrored : CandidateSeed → CandidateSeed
 mirrored s = seed_with s.reference_k (opposite s.sensor)
 
 -- round 0's list of the negated seeds is the negated list
-abbrev pub NoSide : Type 0
-NoSide = (ds : List CandidateSeed) (xs ys : List Float) (base : FxFyCxCy) (max : Float)
+abbrev pub NoSignPreferred : Type 0
+NoSignPreferred = (ds : List CandidateSeed) (xs ys : List Float) (base : FxFyCxCy) (max : Float)
     → initial_list (map mirrored ds) (map neg xs) (map neg ys) base max ≡ map mirrored (initial_list ds xs ys base max)
 
 -- ---- a later round's list, over any two lists of offsets
@@ -116,7 +116,7 @@ pub record AtOffsets (dxs dys : List Float) (centre : ScheimpflugParams) (camera
   pub seed_is : s ≡ offset_seed centre camera dx dy
   pub is_in_bound : in_bound max s.sensor ≡ true
 
-pub record RoundOver (dxs dys : List Float) (centre : ScheimpflugParams) (camera : FxFyCxCy) (max : Float) : Type 0 where
+pub record ListOverOffsets (dxs dys : List Float) (centre : ScheimpflugParams) (camera : FxFyCxCy) (max : Float) : Type 0 where
   -- at most one seed for each pair of offsets, and nothing else
   pub few : length (next_list dxs dys centre camera max) ≤ length dxs * length dys
   pub made : All (AtOffsets dxs dys centre camera max) (next_list dxs dys centre camera max)
@@ -126,7 +126,7 @@ pub record RoundOver (dxs dys : List Float) (centre : ScheimpflugParams) (camera
       → Covered near (next_list dxs dys centre camera max) (offset_seed centre camera dx dy)
 
 pub record LaterLists : Type 0 where
-  pub any_offsets : (dxs dys : List Float) (centre : ScheimpflugParams) (camera : FxFyCxCy) (max : Float) → RoundOver dxs dys centre camera max
+  pub any_offsets : (dxs dys : List Float) (centre : ScheimpflugParams) (camera : FxFyCxCy) (max : Float) → ListOverOffsets dxs dys centre camera max
   -- around a centre within the bound it is never empty, where 0 is among the offsets of each axis, as it is in both kinds of run
   pub next_some : (dxs dys : List Float) (centre : ScheimpflugParams) (camera : FxFyCxCy) (max : Float)
       → Memᴰ plus_zero dxs → Memᴰ plus_zero dys → T (fits binary64 centre.tilt_x) → T (fits binary64 centre.tilt_y)

@@ -1,6 +1,6 @@
 // The theorems about what this crate defines, each as the contract of a function that does nothing.
 
-ghost use Rattle.seed_rules.specs.Theorem.{MergingRight, TypedTilts, NoSide, LaterLists};
+ghost use Rattle.seed_rules.specs.Theorem.{MergingRight, TypedTilts, NoSignPreferred, LaterLists};
 
 /// Merging keeps each entry that is offered, or one near it, and keeps none that is near an earlier one. The search
 /// names the newest kept entry that is near.
@@ -19,7 +19,7 @@ pub fn typed_tilts_law()
 /// No sign is preferred: round 0's list for negated tilts is round 0's list with its tilts negated.
 #[tactic(auto, using(crate::proofs::Mirror::initial_list_negated))]
 pub fn no_side_law()
-    ensures { NoSide }
+    ensures { NoSignPreferred }
 {}
 
 /// A later round's list has at most one seed for each pair of offsets, each within the bound and near no earlier one,

@@ -7,7 +7,7 @@ use native.Mathlib.Nat.{mul-mod_left, mul-div_left, div-mul_cancel, dvd_of_mod-e
 use lib.Ieee.Fits.{down_pos}
 use Rattle.common.specs.Tests.{both_true}
 use Rattle.float.specs.Literals.{plus_zero}
-use Rattle.float.specs.Whole.{Num, is_positive}
+use Rattle.float.specs.Whole.{Num, whole_above_zero}
 use Rattle.camera_models.specs.declared.intrinsics.FxFyCxCy.{FxFyCxCy}
 use Rattle.zhang_plate.specs.Plate.{times_unit, shared_unit}
 use Rattle.zhang_plate.specs.Theorem.{Units}
@@ -22,11 +22,11 @@ record Times (k : ℕ) (x : Float) : Type 0 where
 pub whole_part : (v d : ℕ) → v % d ≡ 0 → v ≡ v / d * d
 whole_part v d h = sym (div-mul_cancel d (dvd_of_mod-eq-zero d h))
 
-times : (k : ℕ) (x : Float) → times_unit (2 ^ k) x ≡ true → Times k x
+times_of_passed : (k : ℕ) (x : Float) → times_unit (2 ^ k) x ≡ true → Times k x
 unfolding times_unit
-times k nan h = absurd (true≢false (sym h))
-times k (inf s) h = absurd (true≢false (sym h))
-times k (fin s m e) h =
+times_of_passed k nan h = absurd (true≢false (sym h))
+times_of_passed k (inf s) h = absurd (true≢false (sym h))
+times_of_passed k (fin s m e) h =
     let v = m * up e in
     let d = 2 ^ k * down e in
     let hs = both_true (eqb (v % d) 0) (leb (v / d) 256) h in
@@ -37,33 +37,33 @@ times k (fin s m e) h =
       is = (λ p. refl, whole_part v d (eqb-true (v % d) 0 hs.0) ∙ sym (mul_assoc (v / d) (2 ^ k) (down e)));
     }
 
-times_of : (v n d : ℕ) → 0 < d → v ≡ n * d → n ≤ 256 → (eqb (v % d) 0 && leb (v / d) 256) ≡ true
-times_of v n d p e h = rw (e, eq-eqb (n * d % d) 0 (mul-mod_left n d), mul-div_left n p) (le-leb n 256 h)
+multiple_passes_in_numbers : (v n d : ℕ) → 0 < d → v ≡ n * d → n ≤ 256 → (eqb (v % d) 0 && leb (v / d) 256) ≡ true
+multiple_passes_in_numbers v n d p e h = rw (e, eq-eqb (n * d % d) 0 (mul-mod_left n d), mul-div_left n p) (le-leb n 256 h)
 
-passes : (k : ℕ) (x : Float) (s : Bool) (n : ℕ) → n ≤ 256 → Num x s n k → times_unit (2 ^ k) x ≡ true
+multiple_passes : (k : ℕ) (x : Float) (s : Bool) (n : ℕ) → n ≤ 256 → Num x s n k → times_unit (2 ^ k) x ≡ true
 unfolding times_unit
-passes k nan s n h v = absurd v
-passes k (inf t) s n h v = absurd v
-passes k (fin t m e) s n h v = times_of (m * up e) n (2 ^ k * down e) (mul-pos (pow_pos k) (down_pos e)) (v.1 ∙ mul_assoc n (2 ^ k) (down e)) h
+multiple_passes k nan s n h v = absurd v
+multiple_passes k (inf t) s n h v = absurd v
+multiple_passes k (fin t m e) s n h v = multiple_passes_in_numbers (m * up e) n (2 ^ k * down e) (mul-pos (pow_pos k) (down_pos e)) (v.1 ∙ mul_assoc n (2 ^ k) (down e)) h
 
 -- ---- a focal length: a number above 0 has no minus sign
 record Positive (x : Float) (n k : ℕ) : Type 0 where
   least : 1 ≤ n
   is : Num x false n k
 
-some_of : (v n d : ℕ) → 0 < v → v ≡ n * d → 1 ≤ n
-some_of v zero d p e = absurd (omega arith)
-some_of v (suc n) d p e = omega arith
+multiple_is_positive : (v n d : ℕ) → 0 < v → v ≡ n * d → 1 ≤ n
+multiple_is_positive v zero d p e = absurd (omega arith)
+multiple_is_positive v (suc n) d p e = omega arith
 
-positive : (k n : ℕ) (x : Float) (s : Bool) → lt plus_zero x ≡ true → Num x s n k → Positive x n k
+focal_length_is_positive : (k n : ℕ) (x : Float) (s : Bool) → lt plus_zero x ≡ true → Num x s n k → Positive x n k
 unfolding lt of_bits
-positive k n nan s h v = absurd v
-positive k n (inf t) s h v = absurd v
-positive k n (fin true m e) s h v = absurd (true≢false (sym h))
-positive k n (fin false m e) s h v =
+focal_length_is_positive k n nan s h v = absurd v
+focal_length_is_positive k n (inf t) s h v = absurd v
+focal_length_is_positive k n (fin true m e) s h v = absurd (true≢false (sym h))
+focal_length_is_positive k n (fin false m e) s h v =
     let l : 0 * 1 * down e < m * up e * 1 = ltb-true (0 * 1 * down e) (m * up e * 1) h in
     record {
-      least = some_of (m * up e) n (2 ^ k * down e) (omega arith) (v.1 ∙ mul_assoc n (2 ^ k) (down e));
+      least = multiple_is_positive (m * up e) n (2 ^ k * down e) (omega arith) (v.1 ∙ mul_assoc n (2 ^ k) (down e));
       is = (λ p. refl, v.1);
     }
 
@@ -82,12 +82,12 @@ unfolding shared_unit
 units k f h =
     let u = 2 ^ k in
     let hs = six_true (times_unit u f.fx) (times_unit u f.fy) (times_unit u f.cx) (times_unit u f.cy) (lt plus_zero f.fx) (lt plus_zero f.fy) h in
-    let p = times k f.fx hs.0 in
-    let q = times k f.fy hs.1 in
-    let x = times k f.cx hs.2 in
-    let y = times k f.cy hs.3 in
-    let fx = positive k p.n f.fx p.minus hs.4 p.is in
-    let fy = positive k q.n f.fy q.minus hs.5 q.is in
+    let p = times_of_passed k f.fx hs.0 in
+    let q = times_of_passed k f.fy hs.1 in
+    let x = times_of_passed k f.cx hs.2 in
+    let y = times_of_passed k f.cy hs.3 in
+    let fx = focal_length_is_positive k p.n f.fx p.minus hs.4 p.is in
+    let fy = focal_length_is_positive k q.n f.fy q.minus hs.5 q.is in
     record {
       p = p.n;
       q = q.n;
@@ -105,14 +105,14 @@ units k f h =
       cy_is = y.is;
     }
 
-pub shares : (k : ℕ) (f : FxFyCxCy) → Units k f → shared_unit (2 ^ k) f ≡ true
+pub units_are_shared : (k : ℕ) (f : FxFyCxCy) → Units k f → shared_unit (2 ^ k) f ≡ true
 unfolding shared_unit
-shares k f s =
+units_are_shared k f s =
     simp (
-      passes k f.fx false s.p s.p_range.1 s.fx_is,
-      passes k f.fy false s.q s.q_range.1 s.fy_is,
-      passes k f.cx s.x_minus s.x s.x_range s.cx_is,
-      passes k f.cy s.y_minus s.y s.y_range s.cy_is,
-      is_positive f.fx (s.p * 2 ^ k) (mul-pos s.p_range.0 (pow_pos k)) s.fx_is,
-      is_positive f.fy (s.q * 2 ^ k) (mul-pos s.q_range.0 (pow_pos k)) s.fy_is,
+      multiple_passes k f.fx false s.p s.p_range.1 s.fx_is,
+      multiple_passes k f.fy false s.q s.q_range.1 s.fy_is,
+      multiple_passes k f.cx s.x_minus s.x s.x_range s.cx_is,
+      multiple_passes k f.cy s.y_minus s.y s.y_range s.cy_is,
+      whole_above_zero f.fx (s.p * 2 ^ k) (mul-pos s.p_range.0 (pow_pos k)) s.fx_is,
+      whole_above_zero f.fy (s.q * 2 ^ k) (mul-pos s.q_range.0 (pow_pos k)) s.fy_is,
     )

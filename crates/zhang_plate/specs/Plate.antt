@@ -9,7 +9,7 @@ use Rattle.float.specs.Literals.{plus_zero}
 use Rattle.camera_models.specs.declared.intrinsics.FxFyCxCy.{FxFyCxCy}
 use Rattle.zhang.specs.declared.Conic.{Conic}
 use Rattle.common.specs.declared.Refusal.{Refusal}
-use Rattle.common.specs.declared.Refusal.TheVariants.{NoPlate}
+use Rattle.common.specs.declared.Refusal.TheVariants.{NoSharedPower}
 
 -- ±(m up e / down e) is a whole number of units u, at most 256 of them
 unfoldable pub times_unit : ℕ → Float → Bool
@@ -43,4 +43,4 @@ conic_with u k =
 
 -- by the lowest unit of 1, 2, 4 .. 256 that the four share, and a refusal where there is none
 unfoldable pub plate_of : FxFyCxCy → Result Conic Refusal
-plate_of k = elim (unit_from 9 1 k) [ none ↦ Err NoPlate | some u ↦ Ok (conic_with (of_int binary64 (pos u)) k) ]
+plate_of k = elim (unit_from 9 1 k) [ none ↦ Err NoSharedPower | some u ↦ Ok (conic_with (of_int binary64 (pos u)) k) ]

@@ -5,7 +5,7 @@ use Rattle.std.specs.Float.{binary64}
 use Rattle.std.specs.Float.Ieee.{of_bits, of_int}
 use Rattle.camera_models.specs.declared.intrinsics.FxFyCxCy.{FxFyCxCy}
 use Rattle.zhang.specs.declared.Conic.{Conic}
-use Rattle.common.specs.declared.Refusal.TheVariants.{NoPlate}
+use Rattle.common.specs.declared.Refusal.TheVariants.{NoSharedPower}
 use Rattle.zhang.specs.Zhang.{from_homographies}
 use Rattle.zhang_plate.specs.Plate.{plate_of}
 
@@ -16,7 +16,7 @@ pub data Case : Type 0 where
 
 abbrev pub Holds : Case → Type 0
 Holds (given f b g) = (plate_of f ≡ Ok b) × (from_homographies b ≡ Ok g)
-Holds (refused f) = plate_of f ≡ Err NoPlate
+Holds (refused f) = plate_of f ≡ Err NoSharedPower
 
 -- ---- whole numbers, and the value that bits stand for
 abbrev pub whole : ℤ → Float

@@ -6,7 +6,7 @@ use Rattle.camera_models.specs.declared.intrinsics.FxFyCxCy.{FxFyCxCy}
 use Rattle.zhang.specs.declared.Conic.{Conic}
 use Rattle.zhang.specs.Theorem.{Recovered}
 use Rattle.zhang.specs.Zhang.{from_homographies}
-use Rattle.common.specs.declared.Refusal.TheVariants.{NoPlate}
+use Rattle.common.specs.declared.Refusal.TheVariants.{NoSharedPower}
 use Rattle.zhang_plate.specs.Plate.{plate_of}
 use Rattle.common.specs.Each.{All}
 use Rattle.zhang_plate.specs.Table.{Holds, table}
@@ -39,7 +39,7 @@ pub record Shared (f : FxFyCxCy) : Type 0 where
 -- (`Recovered`); every other one is refused.
 pub record PlateRight : Type 0 where
   pub gives : (f : FxFyCxCy) → Shared f → (b : Conic) × (plate_of f ≡ Ok b) × Recovered f (from_homographies b)
-  pub refuses : (f : FxFyCxCy) → (Shared f → ⊥) → plate_of f ≡ Err NoPlate
+  pub refuses : (f : FxFyCxCy) → (Shared f → ⊥) → plate_of f ≡ Err NoSharedPower
 
 -- each camera of the table gets what the table says
 pub record CasesHold : Type 0 where

@@ -92,7 +92,7 @@ fn conic_with(k: FxFyCxCy, unit: f64) -> Conic
 }
 
 // The six numbers of a camera, by the lowest power of two that its four share.
-#[tactic(auto, using(crate::proofs::Turns::shifted, crate::proofs::Turns::in_range, crate::proofs::Turns::stops, crate::proofs::Turns::goes_on, crate::proofs::Turns::ends))]
+#[tactic(auto, using(crate::proofs::Turns::shift_is_power, crate::proofs::Turns::power_in_range, crate::proofs::Turns::turn_stops_with_plate, crate::proofs::Turns::turn_goes_on_with_double, crate::proofs::Turns::loop_ends_without_plate))]
 pub fn known_plate(k: FxFyCxCy) -> Result<Conic, Refusal>
     ensures { result ≡ plate_of k }
 {
@@ -103,7 +103,7 @@ pub fn known_plate(k: FxFyCxCy) -> Result<Conic, Refusal>
             return Ok(conic_with(k, unit as f64));
         }
     }
-    Err(Refusal::NoPlate)
+    Err(Refusal::NoSharedPower)
 }
 
 pub mod laws;

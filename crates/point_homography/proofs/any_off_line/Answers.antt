@@ -4,7 +4,7 @@ use Rattle.std.proofs.Common.{rules, tests, ◌∙◌}
 use Rattle.std.proofs.lemmas.Iterator.{YieldsList-from_slice}
 use Rattle.std.proofs.lemmas.Iterator.Search.{any_from_yields_List}
 use Rattle.point_normalise.specs.Points.{point_at}
-use Rattle.point_normalise.specs.Chunks.{pairs_of, pairs_any, any_is}
+use Rattle.point_normalise.specs.Chunks.{pairs_of, pairs_any, any_is_find_point}
 use Rattle.point_homography.specs.Line.{off_line}
 use Rattle.point_homography.proofs.any_off_line.Goals as goal
 
@@ -14,4 +14,4 @@ returns c =
     let s = a.points.now in
     let test = off_line a.p0 a.p1 in
     let each = YieldsList-from_slice (pairs_of s) (c.iter.ensures.rest ∙ c.as_chunks.ensures.front) in
-    any_from_yields_List (λ v. test (point_at v 0)) _ _ c.any.result c.any.ensures.ran each (λ x b q k. search (rules, tests)) ∙ pairs_any test s ∙ any_is test s
+    any_from_yields_List (λ v. test (point_at v 0)) _ _ c.any.result c.any.ensures.ran each (λ x b q k. search (rules, tests)) ∙ pairs_any test s ∙ any_is_find_point test s

@@ -4,13 +4,13 @@ use Rattle.std.proofs.Common.{◌≡◌, sym, ◌∙◌, ◌*◌, ◌/◌, arith
 use Rattle.point_normalise.specs.Linalg.{similarity_of}
 use Rattle.point_normalise.specs.Walk.{sets_front}
 use Rattle.point_homography.specs.Rows.{design_rows, rows_refusal, rows_into}
-use Rattle.point_homography.specs.RowsLaws.{fine, rows_length}
+use Rattle.point_homography.specs.RowsLaws.{accepted_lists, rows_length}
 use Rattle.point_homography.proofs.design_rows.Goals as goal
 
 pub put_rows-requires : goal.put_rows-requires
 put_rows-requires c =
     let a = c.args in
-    let f = fine a.pairs.src.now a.pairs.dst.now (length a.a.now) (sym c.check.ensures ∙ c.in_ok-check.was) in
+    let f = accepted_lists a.pairs.src.now a.pairs.dst.now (length a.a.now) (sym c.check.ensures ∙ c.in_ok-check.was) in
     (f.count, f.space)
 
 pub returns-clause-written : goal.returns-clause-written
@@ -18,7 +18,7 @@ unfolding rows_into
 returns-clause-written c =
     let a = c.args in
     let clear : rows_refusal a.pairs.src.now a.pairs.dst.now (length a.a.now) ≡ Ok tt = sym c.check.ensures ∙ c.in_ok-check.was in
-    let f = fine a.pairs.src.now a.pairs.dst.now (length a.a.now) clear in
+    let f = accepted_lists a.pairs.src.now a.pairs.dst.now (length a.a.now) clear in
     let ts = similarity_of a.pairs.src.now in
     let td = similarity_of a.pairs.dst.now in
     let w = design_rows ts td a.pairs.src.now a.pairs.dst.now in

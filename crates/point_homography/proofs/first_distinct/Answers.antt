@@ -8,7 +8,7 @@ use Rattle.std.proofs.lemmas.Iterator.Adapters.{option_map_id}
 use Rattle.std.specs.List.{find}
 use Rattle.std.proofs.lemmas.Iterator.Search.{find_from_yields_List}
 use Rattle.point_normalise.specs.Points.{point_at}
-use Rattle.point_normalise.specs.Chunks.{pairs_of, pairs_are, find_is}
+use Rattle.point_normalise.specs.Chunks.{pairs_of, pairs_are_points, find_is_find_point}
 use Rattle.point_homography.specs.Line.{far_from}
 use Rattle.point_homography.proofs.first_distinct.Goals as goal
 
@@ -24,4 +24,4 @@ returns c =
     (YieldsList-from_map _ (λ v. point_at v 0) (YieldsList-at c.map.ensures.source each) c.map.ensures.closure (λ x r q k. search (rules, tests)))
     (λ x b q k. search (rules, tests))
     in
-    sym (option_map_id c.find.result) ∙ found ∙ ap (find test) (pairs_are s) ∙ find_is test s
+    sym (option_map_id c.find.result) ∙ found ∙ ap (find test) (pairs_are_points s) ∙ find_is_find_point test s

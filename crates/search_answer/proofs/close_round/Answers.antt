@@ -3,7 +3,7 @@ use Rattle.std.proofs.Common.{◌≡◌, refl, sym, ap, ◌∙◌, ◌-◌, arit
 use Rattle.score_best.specs.Best.{best_candidate}
 use Rattle.search_record.specs.Record.{ended}
 use Rattle.search_answer.specs.Answer.{Left, left, close_round}
-use Rattle.search_answer.specs.AnswerLaws.{close_last, close_none, close_open, close_empty, opened_rounds, next_seeds_are}
+use Rattle.search_answer.specs.AnswerLaws.{close_round_after_last, close_round_without_best, close_round_opens_next, close_round_after_empty_round, opened_keeps_options_adds_round, leaves_next_seeds}
 use Rattle.search_answer.proofs.close_round.Goals as goal
 use Rattle.search_answer.proofs.close_round.Goals.{else-loop-run-test, then-loop-run-test+in_default}
 
@@ -23,20 +23,20 @@ pub returns-then-len-ne0 : goal.returns-then-len-ne0
 returns-then-len-ne0 c =
     let e =
     sym c.loop-run.invariant.0
-    ∙ close_open _ c.loop-run.run c.loop-run.list _ _ _ (omega (arith, c.loop-run-test.true)) (sym (c.candidate.ensures ∙ ap best_candidate c.or.ensures) ∙ c.in-Some.is) (next_seeds_are c.loop-run.run _ _ _ _ _ c.next_step-step.ensures c.next_seeds-len.ensures) c.if-len-ne0.true
+    ∙ close_round_opens_next _ c.loop-run.run c.loop-run.list _ _ _ (omega (arith, c.loop-run-test.true)) (sym (c.candidate.ensures ∙ ap best_candidate c.or.ensures) ∙ c.in-Some.is) (leaves_next_seeds c.loop-run.run _ _ _ _ _ c.next_step-step.ensures c.next_seeds-len.ensures) c.if-len-ne0.true
     in
     record { value = c.opened-run.ensures ∙ sym (ap (λ (x : Left). x.run) e); list_after = sym (ap (λ (x : Left). x.list) e) }
 
 pub loop-run-smaller : goal.loop-run-smaller
 loop-run-smaller c =
-    let k = opened_rounds _ _ _ c.opened-run.ensures in
+    let k = opened_keeps_options_adds_round _ _ _ c.opened-run.ensures in
     rw (k.0, k.1) (omega (arith, c.loop-run-test.true))
 
 pub loop-run-preserved : goal.loop-run-preserved
 loop-run-preserved c =
-    let e = close_empty c.loop-run.run _ c.loop-run.list _ c.next_seeds-len.new.list _ c.loop-run-test.true (sym (c.candidate.ensures ∙ ap best_candidate c.or.ensures) ∙ c.in-Some.is) (next_seeds_are c.loop-run.run _ _ _ _ _ c.next_step-step.ensures c.next_seeds-len.ensures) c.if-len-ne0.false c.opened-run.ensures in
+    let e = close_round_after_empty_round c.loop-run.run _ c.loop-run.list _ c.next_seeds-len.new.list _ c.loop-run-test.true (sym (c.candidate.ensures ∙ ap best_candidate c.or.ensures) ∙ c.in-Some.is) (leaves_next_seeds c.loop-run.run _ _ _ _ _ c.next_step-step.ensures c.next_seeds-len.ensures) c.if-len-ne0.false c.opened-run.ensures in
     let k = c.next_seeds-len.auto.list in
-    (sym e ∙ c.loop-run.invariant.0, (rw (opened_rounds _ _ _ c.opened-run.ensures).0 c.loop-run.invariant.1.0, (rw k c.loop-run.invariant.1.1.0, k ∙ c.loop-run.invariant.1.1.1)))
+    (sym e ∙ c.loop-run.invariant.0, (rw (opened_keeps_options_adds_round _ _ _ c.opened-run.ensures).0 c.loop-run.invariant.1.0, (rw k c.loop-run.invariant.1.1.0, k ∙ c.loop-run.invariant.1.1.1)))
 
 pub shape_of-list : goal.shape_of-list
 shape_of-list c = c.loop-run.invariant.1.1.1
@@ -45,9 +45,9 @@ pub returns : goal.returns
 returns c =
     let ends : close_round (c.loop-run.run.options.refine_rounds - c.loop-run.run.place.round) c.loop-run.run c.loop-run.list ≡ left (ended c.loop-run.run) c.loop-run.list =
     elim c.loop-run-test.branch [
-      | else-loop-run-test w ↦ close_last _ c.loop-run.run c.loop-run.list (omega (arith, w.loop-run-test.false))
+      | else-loop-run-test w ↦ close_round_after_last _ c.loop-run.run c.loop-run.list (omega (arith, w.loop-run-test.false))
       | then-loop-run-test+in_default w ↦
-          close_none _ c.loop-run.run c.loop-run.list (omega (arith, w.loop-run-test.true)) (sym (w.candidate.ensures ∙ ap best_candidate w.or.ensures) ∙ w.in_default.is)
+          close_round_without_best _ c.loop-run.run c.loop-run.list (omega (arith, w.loop-run-test.true)) (sym (w.candidate.ensures ∙ ap best_candidate w.or.ensures) ∙ w.in_default.is)
     ]
     in
     let e = sym c.loop-run.invariant.0 ∙ ends in

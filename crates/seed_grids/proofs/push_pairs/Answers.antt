@@ -4,9 +4,9 @@ use Rattle.std.proofs.lemmas.List.{length-map}
 use Rattle.std.specs.Float.{nan}
 use Rattle.seed_rules.specs.Layout.{read_from}
 use Rattle.seed_rules.specs.Merge.{keep}
-use Rattle.seed_rules.specs.Rules.{tilts, pairs, entries_within}
-use Rattle.seed_rules.proofs.RulesLaws.{within_length, axis_grid_more}
-use Rattle.seed_rules.proofs.Steps.{merging_start, merging_more}
+use Rattle.seed_rules.specs.Rules.{tilts, pairs, items_within}
+use Rattle.seed_rules.proofs.RulesLaws.{entries_within_length_le, grid_entries_take_suc}
+use Rattle.seed_rules.proofs.Steps.{merge_under_way_at_start, merge_under_way_after_more}
 use Rattle.seed_grids.proofs.push_pairs.Goals as goal
 
 pub loop-number-init : goal.loop-number-init
@@ -14,12 +14,12 @@ unfolding read_from pairs keep
 loop-number-init g c =
     let l = c.new-list.result.numbers.now in
     let none = c.new-list.ensures.none_kept in
-    (search rules, refl, rw (zero-mul, none) (search rules), refl, λ f h is also. rw none (merging_start g.met.E.Entry.lies g.E.Entry.near l 0 (rw mul-zero (search rules))).leaves)
+    (search rules, refl, rw (zero-mul, none) (search rules), refl, λ f h is also. rw none (merge_under_way_at_start g.met.E.Item.lies g.E.Item.near l 0 (rw mul-zero (search rules))).leaves)
 
 pub push_row-requires : goal.push_row-requires
 push_row-requires g c =
     let a = c.args in
-    let w = g.E.Entry.width in
+    let w = g.E.Item.width in
     let i = c.loop-number.number-index in
     let x = length a.x_numbers.now in
     let y = length a.y_numbers.now in
@@ -30,7 +30,7 @@ push_row-requires g c =
 
 pub loop-number-preserved : goal.loop-number-preserved
 loop-number-preserved g c =
-    let e = g.E.Entry in
+    let e = g.E.Item in
     let a = c.args in
     let i = c.loop-number.number-index in
     let ds = a.x_numbers.now in
@@ -49,9 +49,9 @@ loop-number-preserved g c =
           let row = map (tilts (f (get_or ds i nan))) ys in
           let len : length row ≡ y = length-map ys (tilts (f (get_or ds i nan))) ∙ length-map a.y_numbers.now h in
           rw (add-one i)
-          (merging_more g.met.E.Entry.lies e.near [] (entries_within of max (pairs (map f (take i ds)) ys)) (entries_within of max row) (entries_within of max (pairs (map f (take (suc i) ds)) ys))
+          (merge_under_way_after_more g.met.E.Item.lies e.near [] (items_within of max (pairs (map f (take i ds)) ys)) (items_within of max row) (items_within of max (pairs (map f (take (suc i) ds)) ys))
           c.new-list.result.numbers.now c.loop-number.list.numbers.now c.push_row.new.list.numbers.now c.loop-number.list.count c.push_row.new.list.count (i * y) (suc i * y)
-          (record { leaves = k.4 f h is also; few = k.2; same = k.3 }) (rw q at (p.pushed h also)) p.same_length (omega (arith, within_length of max row, suc-mul i y)) (axis_grid_more of max f ds ys i (search rules))).leaves,
+          (record { leaves = k.4 f h is also; few = k.2; same = k.3 }) (rw q at (p.pushed h also)) p.same_length (omega (arith, entries_within_length_le of max row, suc-mul i y)) (grid_entries_take_suc of max f ds ys i (search rules))).leaves,
     )
 
 pub returns : goal.returns

@@ -5,13 +5,13 @@ use Rattle.seed_rules.specs.Layout.{seed_at, seeds_of, all_seeds}
 use Rattle.seed_rules.specs.LayoutLaws.{seeds_layout, read_take, read_length}
 use Rattle.seed_rules.specs.Merge.{merged_into}
 use Rattle.seed_rules.specs.Rules.{near}
-use Rattle.seed_rules.proofs.Steps.{merging_start, merging_more}
+use Rattle.seed_rules.proofs.Steps.{merge_under_way_at_start, merge_under_way_after_more}
 use Rattle.seed_grids.proofs.push_solved.Goals as goal
 
 pub loop-i-init : goal.loop-i-init
 loop-i-init c =
     let a = c.args in
-    (search rules, refl, rw add-zero (merging_start seeds_layout near a.list.now.numbers.now a.list.now.count (search rules)))
+    (search rules, refl, rw add-zero (merge_under_way_at_start seeds_layout near a.list.now.numbers.now a.list.now.count (search rules)))
 
 pub loop-i-preserved : goal.loop-i-preserved
 unfolding merged_into
@@ -24,7 +24,7 @@ loop-i-preserved c =
       search rules,
       c.push.ensures.same_reference ∙ c.loop-i.invariant.1,
       rw (add-one i)
-          (merging_more seeds_layout near (seeds_of k l) (take i ds) (c.at.result ∷ []) (take (suc i) ds)
+          (merge_under_way_after_more seeds_layout near (seeds_of k l) (take i ds) (c.at.result ∷ []) (take (suc i) ds)
           l c.loop-i.list.numbers.now c.push.new.self.numbers.now c.loop-i.list.count c.push.new.self.count (k + i) (k + suc i)
           c.loop-i.invariant.2 c.push.ensures.pushed (search rules) (omega arith)
           (read_take (λ m. seed_at m 0) 6 (length a.decomposition.now / 6) i a.decomposition.now (search rules) ∙ ap (λ (s : CandidateSeed). take i ds ++ (s ∷ [])) (sym c.at.ensures))),

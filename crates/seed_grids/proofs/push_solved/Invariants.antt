@@ -2,11 +2,11 @@
 use Rattle.std.proofs.Common.{◌≡◌, ◌+◌, ◌/◌, ◌≤◌, length, take}
 use Rattle.seed_rules.specs.Layout.{six, seeds_of, all_seeds}
 use Rattle.seed_rules.specs.Rules.{near}
-use Rattle.seed_rules.proofs.Steps.{Merging}
+use Rattle.seed_rules.proofs.Steps.{MergeUnderWay}
 use Rattle.seed_grids.proofs.push_solved.Given as goal
 
 abbrev pub invariant-loop-i : goal.invariant-loop-i
 invariant-loop-i l =
     (l.i ≤ length l.decomposition / 6)
     × (l.list.numbers.ghost_name ≡ l.initial.list.numbers.ghost_name)
-    × Merging six 6 near (seeds_of l.initial.list.count l.initial.list.numbers.now) (take l.i (all_seeds l.decomposition)) l.initial.list.numbers.now l.list.numbers.now l.list.count (l.initial.list.count + l.i)
+    × MergeUnderWay six 6 near (seeds_of l.initial.list.count l.initial.list.numbers.now) (take l.i (all_seeds l.decomposition)) l.initial.list.numbers.now l.list.numbers.now l.list.count (l.initial.list.count + l.i)

@@ -2,11 +2,11 @@
 use Rattle.std.proofs.Common.{◌≡◌, map, ◌+◌, ◌≤◌, take}
 use Rattle.seed_rules.specs.Layout.{six, seeds_of, tilts_of}
 use Rattle.seed_rules.specs.Rules.{near, seed_with}
-use Rattle.seed_rules.proofs.Steps.{Merging}
+use Rattle.seed_rules.proofs.Steps.{MergeUnderWay}
 use Rattle.seed_grids.proofs.push_typed.Given as goal
 
 abbrev pub invariant-loop-i : goal.invariant-loop-i
 invariant-loop-i l =
     (l.i ≤ l.number)
     × (l.list.numbers.ghost_name ≡ l.initial.list.numbers.ghost_name)
-    × Merging six 6 near (seeds_of l.initial.list.count l.initial.list.numbers.now) (map (seed_with l.base_k) (take l.i (tilts_of l.number l.grid))) l.initial.list.numbers.now l.list.numbers.now l.list.count (l.initial.list.count + l.i)
+    × MergeUnderWay six 6 near (seeds_of l.initial.list.count l.initial.list.numbers.now) (map (seed_with l.base_k) (take l.i (tilts_of l.number l.grid))) l.initial.list.numbers.now l.list.numbers.now l.list.count (l.initial.list.count + l.i)

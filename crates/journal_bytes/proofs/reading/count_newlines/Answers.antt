@@ -2,11 +2,11 @@
 use Rattle.std.proofs.Common.{◌≡◌, eqb, sym, ◌∙◌, rules}
 use Rattle.std.specs.List.{count_by}
 use Rattle.std.proofs.lemmas.List.Sums.{count_by-le-length}
-use Rattle.journal_bytes.proofs.Bytes.{newlines_counted}
+use Rattle.journal_bytes.proofs.Bytes.{newlines_is_count_by}
 use Rattle.journal_bytes.proofs.reading.count_newlines.Goals as goal
 
 pub returns : goal.returns
 returns c =
     let s = c.args.s.now in
     let e : c.count.result ≡ count_by (λ b. eqb b 10) s = search rules in
-    (e ∙ sym (newlines_counted s), rw e (count_by-le-length (λ b. eqb b 10) s))
+    (e ∙ sym (newlines_is_count_by s), rw e (count_by-le-length (λ b. eqb b 10) s))

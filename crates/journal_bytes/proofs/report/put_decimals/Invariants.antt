@@ -7,6 +7,6 @@ use Rattle.journal_bytes.proofs.report.put_decimals.Given as goal
 
 abbrev pub invariant-loop-n : goal.invariant-loop-n
 invariant-loop-n l =
-    (l.place ≤ l.at + 4 * l.n-index)
-    × (l.place + length (comma_fields (map decimal (drop l.n-index l.ns))) ≡ l.at + length (comma_fields (map decimal l.ns)))
-    × (sets l.out l.place (comma_fields (map decimal (drop l.n-index l.ns))) ≡ sets l.initial.out l.at (comma_fields (map decimal l.ns)))
+    (l.position ≤ l.at + 4 * l.n-index)
+    × (l.position + length (comma_fields (map decimal (drop l.n-index l.ns))) ≡ l.at + length (comma_fields (map decimal l.ns)))
+    × (sets l.out l.position (comma_fields (map decimal (drop l.n-index l.ns))) ≡ sets l.initial.out l.at (comma_fields (map decimal l.ns)))

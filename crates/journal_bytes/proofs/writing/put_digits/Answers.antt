@@ -1,6 +1,6 @@
 -- `journal_bytes::writing::put_digits` meets its contract: what is left to store, from here, is the whole. Assumes nothing.
 use Rattle.std.proofs.Common.{refl, mod-lt, arith, rules}
-use Rattle.journal_bytes.proofs.Stores.{digits_turn, no_digits}
+use Rattle.journal_bytes.proofs.Stores.{sets_digits_turn, sets_no_digits}
 use Rattle.journal_bytes.proofs.writing.put_digits.Goals as goal
 
 pub loop-i-init : goal.loop-i-init
@@ -13,10 +13,10 @@ pub loop-i-preserved : goal.loop-i-preserved
 loop-i-preserved c =
     let l = c.loop-i in
     let a = c.args in
-    digits_turn l.out _ a.at a.base l.i l.left c.digit_byte.result (search rules) c.digit_byte.ensures l.invariant
+    sets_digits_turn l.out _ a.at a.base l.i l.left c.digit_byte.result (search rules) c.digit_byte.ensures l.invariant
 
 pub returns : goal.returns
 returns c =
     let l = c.loop-i in
     let a = c.args in
-    record { now_is = no_digits l.out _ a.at a.base l.i l.left (search rules) l.invariant; same_long = l.auto.out }
+    record { now_is = sets_no_digits l.out _ a.at a.base l.i l.left (search rules) l.invariant; same_long = l.auto.out }

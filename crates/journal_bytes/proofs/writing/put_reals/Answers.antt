@@ -2,7 +2,7 @@
 use Rattle.std.proofs.Common.{◌+◌, ◌*◌, add-zero, arith, length-set, rules}
 use Rattle.journal_line.specs.Line.{real}
 use Rattle.journal_line.proofs.FieldLaws.{real_length}
-use Rattle.journal_bytes.proofs.Stores.{fields_turn, fields_stored}
+use Rattle.journal_bytes.proofs.Stores.{sets_fields_turn, all_fields_stored}
 use Rattle.journal_bytes.proofs.writing.put_reals.Goals as goal
 
 pub loop-i-init : goal.loop-i-init
@@ -15,10 +15,10 @@ pub loop-i-preserved : goal.loop-i-preserved
 unfolding real
 loop-i-preserved c =
     let l = c.loop-i in
-    let place = c.args.at + 17 * l.i in
-    fields_turn real c.args.xs.now l.i l.out _ place _ _ (search rules) (rw real_length (omega arith)) l.invariant _ (rw c.to_bits.ensures at c.put_digits.ensures.now_is)
+    let position = c.args.at + 17 * l.i in
+    sets_fields_turn real c.args.xs.now l.i l.out _ position _ _ (search rules) (rw real_length (omega arith)) l.invariant _ (rw c.to_bits.ensures at c.put_digits.ensures.now_is)
 
 pub returns : goal.returns
 returns c =
     let l = c.loop-i in
-    fields_stored real c.args.xs.now l.i l.out _ _ _ (search rules) l.invariant l.auto.out
+    all_fields_stored real c.args.xs.now l.i l.out _ _ _ (search rules) l.invariant l.auto.out

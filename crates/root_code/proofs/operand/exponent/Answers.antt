@@ -6,15 +6,15 @@ use Rattle.root_code.specs.Exponent.{shifted}
 use Rattle.root_code.proofs.Exponents.{shifted_difference, mag_difference}
 use Rattle.root_code.proofs.operand.exponent.Goals as goal
 
-difference : (c : goal.Start) → to_z w64 c.args.place -ℤ pos 1127 ≡ sub_ℕ c.args.place 1127
-difference c = ap (λ (z : ℤ). z -ℤ pos 1127) (to_z_pos w64 {n = c.args.place} (omega arith))
+place_minus_1127 : (c : goal.Start) → to_z w64 c.args.place -ℤ pos 1127 ≡ sub_ℕ c.args.place 1127
+place_minus_1127 c = ap (λ (z : ℤ). z -ℤ pos 1127) (to_z_pos w64 {n = c.args.place} (omega arith))
 
-fit : (c : goal.Start) → SFits w64 (to_z w64 c.args.place -ℤ pos 1127)
-fit c = rw (difference c) (record { sfits = mag_difference c.args.place 1127 (2 ^ 63) (omega arith) (omega arith) })
+difference_fits : (c : goal.Start) → SFits w64 (to_z w64 c.args.place -ℤ pos 1127)
+difference_fits c = rw (place_minus_1127 c) (record { sfits = mag_difference c.args.place 1127 (2 ^ 63) (omega arith) (omega arith) })
 
 pub returns : goal.returns
 returns c =
-    ap shifted (to_z-of_z (fit c) ∙ difference c) ∙ shifted_difference c.args.place 1127 (omega arith) ∙ rest c.args.place
+    ap shifted (to_z-of_z (difference_fits c) ∙ place_minus_1127 c) ∙ shifted_difference c.args.place 1127 (omega arith) ∙ rest c.args.place
   where
     rest : (n : ℕ) → n + 2148 - 1127 ≡ n + 1021
     rest n = omega arith

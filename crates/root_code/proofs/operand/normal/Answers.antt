@@ -3,8 +3,8 @@ use Rattle.std.proofs.Common.{◌≡◌, ℕ, ◌+◌, ◌*◌, ◌/◌, ◌%◌
 use Rattle.std.specs.Float.{binary64}
 use Rattle.root.specs.Root.{root_of}
 use Rattle.root_code.specs.Exponent.{shifted}
-use Rattle.root_code.proofs.Exponents.{read}
-use Rattle.root_code.proofs.Patterns.{root_mid}
+use Rattle.root_code.proofs.Exponents.{shifted_of_read_back}
+use Rattle.root_code.proofs.Patterns.{root_of_normal_pattern}
 use Rattle.root_code.proofs.operand.normal.Goals as goal
 
 pub returns : goal.returns
@@ -12,8 +12,8 @@ returns c =
     let b = c.args.b in
     let w = c.with_even_exponent in
     let r = c.exponent in
-    let same : shifted (to_z w64 (of_z w64 r.result)) ≡ b / 2 ^ 52 + 1073 = read r.result _ r.type_inv (r.ensures ∙ place (b / 2 ^ 52)) in
-    (w.ensures.0, ap (root_of binary64) (w.ensures.1 ∙ ap (λ (g : ℕ). (b % 2 ^ 52 + 2 ^ 52) * 2 ^ g) same) ∙ sym (root_mid b c.requires.0 c.requires.1))
+    let same : shifted (to_z w64 (of_z w64 r.result)) ≡ b / 2 ^ 52 + 1073 = shifted_of_read_back r.result _ r.type_inv (r.ensures ∙ place (b / 2 ^ 52)) in
+    (w.ensures.0, ap (root_of binary64) (w.ensures.1 ∙ ap (λ (g : ℕ). (b % 2 ^ 52 + 2 ^ 52) * 2 ^ g) same) ∙ sym (root_of_normal_pattern b c.requires.0 c.requires.1))
   where
     place : (f : ℕ) → f + 52 + 1021 ≡ f + 1073
     place f = omega arith

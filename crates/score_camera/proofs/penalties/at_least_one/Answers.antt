@@ -5,12 +5,12 @@ use Rattle.float.specs.Literals.{one₆₄}
 use Rattle.float_laws.specs.OneTest.{higher_is_first, higher_is_second}
 use Rattle.score_camera.proofs.penalties.at_least_one.Goals as goal
 
-number : is_nan one₆₄ ≡ false
+one_is_number : is_nan one₆₄ ≡ false
 unfolding is_nan of_bits
-number = refl
+one_is_number = refl
 
 pub returns-then-x : goal.returns-then-x
 returns-then-x c = higher_is_first c.args.x one₆₄ c.if-x.true
 
 pub returns-else-x : goal.returns-else-x
-returns-else-x c = higher_is_second c.args.x one₆₄ number c.if-x.false
+returns-else-x c = higher_is_second c.args.x one₆₄ one_is_number c.if-x.false

@@ -1,7 +1,7 @@
 -- `score_rows::blocks::add_blocks` meets its contract. Assumes nothing.
 use Rattle.std.proofs.Common.{◌≡◌, ◌*◌, length, length-append, sym, ap, ◌∙◌, ⊎_elim, arith}
 use Rattle.std.specs.Slice.Iter.{chunks_rest}
-use Rattle.score_rows.proofs.Steps.{rows_none, rows_joined}
+use Rattle.score_rows.proofs.Steps.{add_rows_zero, add_rows_append}
 use Rattle.score_rows.proofs.blocks.add_blocks.Goals as goal
 
 pub loop-numbers-preserved : goal.loop-numbers-preserved
@@ -21,7 +21,7 @@ loop-numbers-preserved c =
       x.0.0 ∙ v.0,
       x.1.0 ∙ v.1,
       fours,
-      rw c.add_block-sum.ensures (rows_joined l.sum b.camera b.h n ns f fs four fours ∙ (rw (x.0.1.0, x.1.1.0, long') at v.3)),
+      rw c.add_block-sum.ensures (add_rows_append l.sum b.camera b.h n ns f fs four fours ∙ (rw (x.0.1.0, x.1.1.0, long') at v.3)),
     )
 
 pub returns : goal.returns
@@ -30,4 +30,4 @@ returns c =
     let v = l.invariant in
     let fs = chunks_rest l.numbers-iterator.b in
     let none : length fs ≡ 0 = ⊎_elim (λ x. omega (arith, x.1.1.0, v.2)) (λ x. x.1.1.0) c.in-None.ensures.steps in
-    sym (rows_none l.sum c.args.by.camera c.args.by.h (chunks_rest l.numbers-iterator.a) fs) ∙ (rw none at v.3)
+    sym (add_rows_zero l.sum c.args.by.camera c.args.by.h (chunks_rest l.numbers-iterator.a) fs) ∙ (rw none at v.3)

@@ -2,7 +2,7 @@
 use Rattle.std.proofs.Common.{sym, ap, ◌∙◌, length}
 use Rattle.float.specs.Float.{is_finite}
 use Rattle.score_rows.specs.declared.ErrorSum.{ErrorSum}
-use Rattle.score_rows.proofs.Steps.{from_errors}
+use Rattle.score_rows.proofs.Steps.{add_errors_is_add_rows}
 use Rattle.score_rows.proofs.blocks.add_dense.Goals as goal
 
 pub returns : goal.returns
@@ -11,5 +11,5 @@ returns c =
     let b = a.block.rows in
     let e = c.add_errors-sum.ensures in
     e
-    ∙ from_errors a.total a.by.camera a.by.h b.numbers.now b.flags.now c.block_errors.new.errors (length b.flags.now) c.block_errors.ensures
+    ∙ add_errors_is_add_rows a.total a.by.camera a.by.h b.numbers.now b.flags.now c.block_errors.new.errors (length b.flags.now) c.block_errors.ensures
     (sym (ap (λ (s : ErrorSum). is_finite s.sum) e) ∙ sym c.is_finite.ensures ∙ c.if-not-is_finite.false)

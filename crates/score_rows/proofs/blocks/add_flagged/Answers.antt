@@ -3,12 +3,12 @@ use Rattle.std.proofs.Common.{ℕ, ◌≡◌, eqb, not, true, get_or, length, sy
 use Rattle.std.proofs.lemmas.Bool.Decides.{nat_tests}
 use Rattle.std.proofs.lemmas.Slice.Zip.{zip_turn}
 use Rattle.std.specs.Float.{nan}
-use Rattle.score_rows.proofs.Steps.{errors_next, front_each}
+use Rattle.score_rows.proofs.Steps.{add_errors_suc, each_in_front_if_all_are}
 use Rattle.score_rows.proofs.blocks.add_flagged.Goals as goal
 use Rattle.score_rows.proofs.blocks.add_flagged.Goals.{then-this-ne0, else-this-ne0}
 
-on : (n : ℕ) → (n ≡ 0 → ⊥) → not (eqb n 0) ≡ true
-on n h = grind (arith, nat_tests)
+nonzero_is_true : (n : ℕ) → (n ≡ 0 → ⊥) → not (eqb n 0) ≡ true
+nonzero_is_true n h = grind (arith, nat_tests)
 
 pub loop-flag-preserved : goal.loop-flag-preserved
 loop-flag-preserved g c =
@@ -19,9 +19,9 @@ loop-flag-preserved g c =
     let counted : c.if-this-ne0.counted ≡ eqb (get_or fs j 0) 1 =
     elim c.if-this-ne0.branch as (λ _. c.if-this-ne0.counted ≡ eqb (get_or fs j 0) 1) [
       | then-this-ne0 w ↦
-          let all = on g.row.ALL w.if-this-ne0.true in
-          w.counted-is ∙ all ∙ sym (front_each fs (length fs) j (c.requires.all_in_front all) t.0)
+          let all = nonzero_is_true g.row.ALL w.if-this-ne0.true in
+          w.counted-is ∙ all ∙ sym (each_in_front_if_all_are fs (length fs) j (c.requires.all_in_front all) t.0)
       | else-this-ne0 w ↦ w.counted-is ∙ ap (λ (n : ℕ). eqb n 1) (t.2 0)
     ]
     in
-    rw (length-append, errors_next, c.add_error-sum.ensures, l.invariant, counted, t.3 nan)
+    rw (length-append, add_errors_suc, c.add_error-sum.ensures, l.invariant, counted, t.3 nan)

@@ -5,14 +5,14 @@ use Rattle.float.specs.Binary64.{◌/₆₄◌}
 use Rattle.camera_models.specs.Intrinsics.{sensor_to_pixel}
 use Rattle.camera_models.specs.declared.math.Pt2.{Pt2}
 use Rattle.point_normalise.specs.Points.{point_at, distance_of}
-use Rattle.score_rows.proofs.Filled.{one_more}
+use Rattle.score_rows.proofs.Filled.{set_extends_filled}
 use Rattle.score_rows.proofs.blocks.point_errors.Goals as goal
 
 pub loop-j-preserved : goal.loop-j-preserved
 loop-j-preserved c =
     let l = c.loop-j in
     let a = c.args in
-    one_more l.errors nan l.j c.distance.result
+    set_extends_filled l.errors nan l.j c.distance.result
     (λ k x.
     let d = get_or a.depths.now k nan in
     let p : Pt2 = record { x = get_or a.xs.now k nan /₆₄ d; y = get_or a.ys.now k nan /₆₄ d } in

@@ -4,7 +4,7 @@ use Rattle.std.specs.Float.{nan}
 use Rattle.camera_models.specs.Distortion.{distorted}
 use Rattle.camera_tilt.specs.Sensor.{homogeneous}
 use Rattle.point_normalise.specs.Points.{point_at}
-use Rattle.score_rows.proofs.Filled.{one_more}
+use Rattle.score_rows.proofs.Filled.{set_extends_filled}
 use Rattle.score_rows.proofs.blocks.tilt_points.Goals as goal
 
 pub loop-j-preserved : goal.loop-j-preserved
@@ -19,8 +19,8 @@ loop-j-preserved c =
       length-set l.ys l.j c.row_at-in-loop-j.result ∙ v.1,
       length-set l.zs l.j c.row_at-in-loop-j-2.result ∙ v.2,
       λ k h. (
-        one_more l.xs nan l.j c.row_at.result (at 0) (omega arith) (λ i g. (w i g).0) (rw is at c.row_at.ensures) k h,
-        one_more l.ys nan l.j c.row_at-in-loop-j.result (at 1) (omega arith) (λ i g. (w i g).1) (rw is at c.row_at-in-loop-j.ensures) k h,
-        one_more l.zs nan l.j c.row_at-in-loop-j-2.result (at 2) (omega arith) (λ i g. (w i g).2) (rw is at c.row_at-in-loop-j-2.ensures) k h,
+        set_extends_filled l.xs nan l.j c.row_at.result (at 0) (omega arith) (λ i g. (w i g).0) (rw is at c.row_at.ensures) k h,
+        set_extends_filled l.ys nan l.j c.row_at-in-loop-j.result (at 1) (omega arith) (λ i g. (w i g).1) (rw is at c.row_at-in-loop-j.ensures) k h,
+        set_extends_filled l.zs nan l.j c.row_at-in-loop-j-2.result (at 2) (omega arith) (λ i g. (w i g).2) (rw is at c.row_at-in-loop-j-2.ensures) k h,
       ),
     )

@@ -10,11 +10,11 @@ use Rattle.search_record.specs.declared.run.Run.{Run}
 use Rattle.search_calls.specs.Result.{result_def}
 use Rattle.search_calls.proofs.result.result.Goals as goal
 
-once_over : (r : Run) → sound r ≡ true → r.place.over ≡ true → ok_or (best_candidate r.run_best) NothingScored ≡ result_def r
+result_of_over_run : (r : Run) → sound r ≡ true → r.place.over ≡ true → ok_or (best_candidate r.run_best) NothingScored ≡ result_def r
 unfolding result_def
-once_over r s o = case r.run_best.found (λ f. simp (result_def, s, o, f)) (λ f. simp (result_def, s, o, f))
+result_of_over_run r s o = case r.run_best.found (λ f. simp (result_def, s, o, f)) (λ f. simp (result_def, s, o, f))
 
 pub returns : goal.returns
 returns c =
     c.ok_or.ensures.value
-    ∙ rw c.candidate.ensures (once_over c.args.run (sym c.is_sound.ensures ∙ c.if-not-is_sound.false) (not-false _ c.if-not-run.false))
+    ∙ rw c.candidate.ensures (result_of_over_run c.args.run (sym c.is_sound.ensures ∙ c.if-not-is_sound.false) (not-false _ c.if-not-run.false))

@@ -7,21 +7,21 @@ use Rattle.search_record.specs.declared.run.Run.{Run}
 use Rattle.search_calls.specs.Stop.{left_seeds}
 use Rattle.search_calls.proofs.stop.floor_left.Goals as goal
 
-none_waits : (r : Run) (l : List Float) → r.waiting.is_waiting ≡ false → floor_of (seeds_between l r.place.at r.place.len) ≡ floor_of (left_seeds r l)
+floor_of_left_if_none_waits : (r : Run) (l : List Float) → r.waiting.is_waiting ≡ false → floor_of (seeds_between l r.place.at r.place.len) ≡ floor_of (left_seeds r l)
 unfolding left_seeds
-none_waits r l h = rw h
+floor_of_left_if_none_waits r l h = rw h
 
-one_waits : (r : Run) (l : List Float) → r.waiting.is_waiting ≡ true
+floor_of_left_if_one_waits : (r : Run) (l : List Float) → r.waiting.is_waiting ≡ true
     → min_of (counted_penalty r.waiting.seed.sensor) (floor_of (seeds_between l (r.place.at + 1) r.place.len)) ≡ floor_of (left_seeds r l)
 unfolding left_seeds floor_of
-one_waits r l h = rw h
+floor_of_left_if_one_waits r l h = rw h
 
 pub returns-then-not-run : goal.returns-then-not-run
 returns-then-not-run c =
     let a = c.args in
-    c.floor_between.ensures ∙ none_waits a.run a.list.now (not-true _ c.if-not-run.true)
+    c.floor_between.ensures ∙ floor_of_left_if_none_waits a.run a.list.now (not-true _ c.if-not-run.true)
 
 pub returns : goal.returns
 returns c =
     let a = c.args in
-    c.min.ensures ∙ rw (c.counted_penalty.ensures, c.floor_between-others.ensures) (one_waits a.run a.list.now (not-false _ c.if-not-run.false))
+    c.min.ensures ∙ rw (c.counted_penalty.ensures, c.floor_between-others.ensures) (floor_of_left_if_one_waits a.run a.list.now (not-false _ c.if-not-run.false))

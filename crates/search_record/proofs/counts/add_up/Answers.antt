@@ -3,12 +3,12 @@ use Rattle.std.proofs.Common.{ℕ, ◌≡◌, refl, ◌∙◌, cond, ◌&&◌, l
 use Rattle.std.specs.Option.{option_eq}
 use Rattle.common.specs.Tests.{case}
 use Rattle.journal_line.specs.Report.{total}
-use Rattle.search_record.specs.Laws.{add_up_by}
+use Rattle.search_record.specs.Laws.{add_up_by_another_sum}
 use Rattle.search_record.proofs.counts.add_up.Goals as goal
 
 -- a number is the total where both are at most 656
-is_small : (t n : ℕ) → option_eq eqb (cond (ltb 656 t) None (Some t)) (Some n) ≡ (leb n 656 && eqb t n)
-is_small t n =
+small_total_eq_number : (t n : ℕ) → option_eq eqb (cond (ltb 656 t) None (Some t)) (Some n) ≡ (leb n 656 && eqb t n)
+small_total_eq_number t n =
     case (ltb 656 t)
     (λ h.
     let p = ltb-true 656 t h in
@@ -20,4 +20,4 @@ is_small t n =
 pub returns : goal.returns
 returns c =
     let k = c.args.counts in
-    let n = c.args.number in c.eq.ensures ∙ rw c.total_if_small.ensures (is_small (total k) n ∙ add_up_by k n (total k) refl (λ h. refl))
+    let n = c.args.number in c.eq.ensures ∙ rw c.total_if_small.ensures (small_total_eq_number (total k) n ∙ add_up_by_another_sum k n (total k) refl (λ h. refl))

@@ -12,24 +12,24 @@ use Rattle.seed_rules.specs.Rules.{closer}
 use Rattle.seed_lists.proofs.checks.closer.Goals as goal
 use Rattle.seed_lists.proofs.checks.closer.Goals.{then-d, else-d}
 
-zero_below : (e : ℤ) (l : Float) → lt (fin true zero e) l ≡ lt (fin false zero e) l
+lt_of_signed_zeros : (e : ℤ) (l : Float) → lt (fin true zero e) l ≡ lt (fin false zero e) l
 unfolding lt
-zero_below e nan = refl
-zero_below e (inf t) = refl
-zero_below e (fin false n d) =
+lt_of_signed_zeros e nan = refl
+lt_of_signed_zeros e (inf t) = refl
+lt_of_signed_zeros e (fin false n d) =
     let z : 0 * up e * down d ≡ 0 = omega arith in
     let s : 0 * up e * down d + n * up d * down e ≡ n * up d * down e = omega arith in
     rw (s, z) refl
-zero_below e (fin true n d) = le-ltb _ _ (omega arith)
+lt_of_signed_zeros e (fin true n d) = le-ltb _ _ (omega arith)
 
-not_negative : (d l : Float) → lt d plus_zero ≡ false → lt d l ≡ lt (abs_of d) l
+lt_of_not_negative_is_lt_of_abs : (d l : Float) → lt d plus_zero ≡ false → lt d l ≡ lt (abs_of d) l
 unfolding lt abs_of of_bits
-not_negative nan l h = refl
-not_negative (inf true) l h = absurd (true≢false h)
-not_negative (inf false) l h = refl
-not_negative (fin false m e) l h = refl
-not_negative (fin true zero e) l h = zero_below e l
-not_negative (fin true (suc m) e) l h = absurd (true≢false (sym (lt_zero true (suc m) e ∙ ap not (eqb-suc-zero m)) ∙ h))
+lt_of_not_negative_is_lt_of_abs nan l h = refl
+lt_of_not_negative_is_lt_of_abs (inf true) l h = absurd (true≢false h)
+lt_of_not_negative_is_lt_of_abs (inf false) l h = refl
+lt_of_not_negative_is_lt_of_abs (fin false m e) l h = refl
+lt_of_not_negative_is_lt_of_abs (fin true zero e) l h = lt_of_signed_zeros e l
+lt_of_not_negative_is_lt_of_abs (fin true (suc m) e) l h = absurd (true≢false (sym (lt_zero true (suc m) e ∙ ap not (eqb-suc-zero m)) ∙ h))
 
 pub returns : goal.returns
 unfolding closer
@@ -38,5 +38,5 @@ returns c =
     let l = c.args.limit in
     elim c.if-d.branch [
       | then-d w ↦ rw w.size-is (ap (λ (s : Float). lt s l) (abs_negative d w.if-d.true))
-      | else-d w ↦ rw w.size-is (not_negative d l w.if-d.false)
+      | else-d w ↦ rw w.size-is (lt_of_not_negative_is_lt_of_abs d l w.if-d.false)
     ]

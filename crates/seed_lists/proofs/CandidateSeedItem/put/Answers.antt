@@ -3,7 +3,7 @@ use Rattle.std.proofs.Common.{◌≡◌, ◌∙◌, ◌+◌, ◌-◌, ◌*◌, a
 use Rattle.std.proofs.lemmas.Slice.{put_mid-paste}
 use lib.Seq.{sets-eq}
 use Rattle.seed_rules.specs.Layout.{six}
-use Rattle.seed_lists.proofs.CandidateSeedEntry.put.Goals as goal
+use Rattle.seed_lists.proofs.CandidateSeedItem.put.Goals as goal
 
 pub returns : goal.returns
 returns c =

@@ -1,8 +1,8 @@
--- `seed_lists::Entries::push_in_bound` meets its contract: tilts within the bound are pushed, any other are dropped. Assumes nothing.
+-- `seed_lists::Items::push_in_bound` meets its contract: tilts within the bound are pushed, any other are dropped. Assumes nothing.
 use Rattle.std.proofs.Common.{sym, ◌∙◌, rules}
 use Rattle.seed_rules.specs.Merge.{keep, merged_into}
-use Rattle.seed_rules.proofs.Steps.{merging_start}
-use Rattle.seed_lists.proofs.Entries.push_in_bound.Goals as goal
+use Rattle.seed_rules.proofs.Steps.{merge_under_way_at_start}
+use Rattle.seed_lists.proofs.Items.push_in_bound.Goals as goal
 
 pub returns-then-in_bound : goal.returns-then-in_bound
 unfolding keep merged_into
@@ -15,4 +15,4 @@ unfolding keep
 returns-else-in_bound g c =
     let a = c.args in
     let e = sym c.in_bound.ensures ∙ c.if-in_bound.false in
-    record { same_reference = search rules; same_length = search rules; pushed = simp e (merging_start g.met.E.Entry.lies g.E.Entry.near a.self.now.numbers.now a.self.now.count (search rules)).leaves }
+    record { same_reference = search rules; same_length = search rules; pushed = simp e (merge_under_way_at_start g.met.E.Item.lies g.E.Item.near a.self.now.numbers.now a.self.now.count (search rules)).leaves }
