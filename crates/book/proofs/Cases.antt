@@ -1,9 +1,9 @@
 -- Going by cases on a value, with the case as an equation. Assumes nothing.
 use Rattle.std.proofs.Common.{◌≡◌, refl, List, [], ◌∷◌, Result, Ok, Err}
 use mathlib.Core.Option.{Option, none, some}
-use Rattle.seed_rules.specs.declared.CandidateSeed.{CandidateSeed}
-use Rattle.score_best.specs.declared.Candidate.{Candidate}
-use Rattle.score_best.specs.Best.{Chosen, nothing, chosen}
+use Rattle.seeds.specs.declared.CandidateSeed.{CandidateSeed}
+use Rattle.score.specs.declared.best.Candidate.{Candidate}
+use Rattle.score.specs.Best.{Chosen, nothing, chosen}
 
 pub case_chosen : (x : Chosen) {P : Type 0} → (x ≡ nothing → P) → ((w : Candidate) → x ≡ chosen w → P) → P
 case_chosen nothing f g = f refl

@@ -4,27 +4,27 @@ use Rattle.std.proofs.Common.{ℕ, zero, suc, ◌+◌, ◌-◌, ◌*◌, ◌≤�
 use Rattle.common.specs.declared.Refusal.{Refusal}
 use Rattle.common.specs.declared.Refusal.TheVariants.{NoSeedWaiting}
 use Rattle.common.specs.Tests.{case}
-use Rattle.seed_rules.specs.declared.CandidateSeed.{CandidateSeed}
-use Rattle.seed_rules.specs.Layout.{seed_at}
-use Rattle.seed_rules.proofs.AnyOffsets.{most_seeds_le_nine, later_list_le_most_seeds}
-use Rattle.score_outcome.specs.declared.Finding.{Finding}
-use Rattle.score_outcome.specs.Reasons.{Outcome}
-use Rattle.score_outcome.specs.Evaluation.{outcome_of, finding_refusal}
-use Rattle.score_best.specs.Best.{or_best}
-use Rattle.score_best.specs.declared.Candidate.{Candidate}
-use Rattle.journal_line.proofs.CountLaws.{total_with_count}
-use Rattle.journal_line.specs.Outcome.{recorded_as}
-use Rattle.journal_line.specs.Report.{total}
-use Rattle.search_record.specs.declared.run.Options.{Options}
-use Rattle.search_record.specs.declared.run.Place.{Place}
-use Rattle.search_record.specs.declared.run.Run.{Run}
-use Rattle.search_record.specs.Laws.{add_up_true}
-use Rattle.search_record.specs.Record.{sound, has_place, awaiting, entered, next_step, round_opened, ended}
-use Rattle.search_calls.specs.declared.next.Handed.TheVariants as handed-as
-use Rattle.search_calls.specs.Next.{next_refusal, next_def}
-use Rattle.search_answer.specs.Answer as ans
-use Rattle.search_calls.specs.NextLaws.{next_if_refused, next_if_over, next_gives_candidate}
-use Rattle.search_answer.specs.AnswerLaws.{answer_passed}
+use Rattle.seeds.specs.declared.CandidateSeed.{CandidateSeed}
+use Rattle.seeds.specs.Layout.{seed_at}
+use Rattle.seeds.proofs.AnyOffsets.{most_seeds_le_nine, later_list_le_most_seeds}
+use Rattle.score.specs.declared.outcome.Finding.{Finding}
+use Rattle.score.specs.Reasons.{Outcome}
+use Rattle.score.specs.Evaluation.{outcome_of, finding_refusal}
+use Rattle.score.specs.Best.{or_best}
+use Rattle.score.specs.declared.best.Candidate.{Candidate}
+use Rattle.journal.proofs.CountLaws.{total_with_count}
+use Rattle.journal.specs.Outcome.{recorded_as}
+use Rattle.journal.specs.Report.{total}
+use Rattle.search.specs.declared.run.Options.{Options}
+use Rattle.search.specs.declared.run.Place.{Place}
+use Rattle.search.specs.declared.run.Run.{Run}
+use Rattle.search.specs.Laws.{add_up_true}
+use Rattle.search.specs.Record.{sound, has_place, awaiting, entered, next_step, round_opened, ended}
+use Rattle.search.specs.declared.next.Handed.TheVariants as handed-as
+use Rattle.search.specs.Next.{next_refusal, next_def}
+use Rattle.search.specs.Answer as ans
+use Rattle.search.specs.NextLaws.{next_if_refused, next_if_over, next_gives_candidate}
+use Rattle.search.specs.AnswerLaws.{answer_passed}
 use Rattle.book.specs.Book.{Inputs, demand, Book, entries, number}
 use Rattle.book.specs.Lent.{Lent, next_with, answer_with, after_lent_call, through, accepted_by, accepted, still_left, Turn, AnswerAccepted, AllAccepted, turns}
 use Rattle.book.specs.Theorem.{Ends}

@@ -6,14 +6,14 @@ use Rattle.common.specs.All.{all_append, all_right}
 use Rattle.common.specs.Each.{All}
 use Rattle.float.specs.Float.{is_finite}
 use Rattle.float.specs.Literals.{half₆₄}
-use Rattle.seed_rules.specs.declared.CandidateSeed.{CandidateSeed}
-use Rattle.seed_rules.specs.Rules.{in_bound, untilted_y}
-use Rattle.seed_rules.specs.AnyOffsets.{most_seeds}
-use Rattle.score_outcome.specs.declared.Scoring.{Scoring}
-use Rattle.score_outcome.specs.Reasons.{Outcome}
-use Rattle.score_outcome.specs.Facts.{ScoredFacts}
-use Rattle.score_best.specs.declared.Candidate.{Candidate}
-use Rattle.score_best.specs.Best.{Chosen, nothing, chosen}
+use Rattle.seeds.specs.declared.CandidateSeed.{CandidateSeed}
+use Rattle.seeds.specs.Rules.{in_bound, untilted_y}
+use Rattle.seeds.specs.AnyOffsets.{most_seeds}
+use Rattle.score.specs.declared.outcome.Scoring.{Scoring}
+use Rattle.score.specs.Reasons.{Outcome}
+use Rattle.score.specs.Facts.{ScoredFacts}
+use Rattle.score.specs.declared.best.Candidate.{Candidate}
+use Rattle.score.specs.Best.{Chosen, nothing, chosen}
 use Rattle.book.specs.Book.{Inputs, demand, Entry, Book, entries, no_seed, current, scored_of, round_best_of, run_best_of, or_else, list_around, with_waiting, with_entry, with_round, with_end, book_enter}
 use Rattle.book.proofs.Cases.{case_result}
 use Rattle.book.proofs.Moves.{entry, Stands, Closing, close_round_by, enter_by_round_end, Steps}

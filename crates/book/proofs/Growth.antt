@@ -2,10 +2,10 @@
 use Rattle.std.proofs.Common.{◌≡◌, refl, sym, ap, ◌∙◌, true, false, cond, List, [], ◌∷◌, ◌++◌, map, append-nil, ltb-false, le-leb, ltb, length, take, Float}
 use mathlib.Core.List.{map-append}
 use Rattle.common.specs.Tests.{case}
-use Rattle.seed_rules.specs.Layout.{six}
-use Rattle.score_outcome.specs.Reasons.{Outcome}
-use Rattle.score_outcome.specs.Evaluation.{finding_refusal}
-use Rattle.search_calls.specs.Next.{next_def, seed_lent, seed_part}
+use Rattle.seeds.specs.Layout.{six}
+use Rattle.score.specs.Reasons.{Outcome}
+use Rattle.score.specs.Evaluation.{finding_refusal}
+use Rattle.search.specs.Next.{next_def, seed_lent, seed_part}
 use Rattle.book.specs.Calls.{Call, next, seed, answer, ask, progress, stop, last, counts}
 use Rattle.book.specs.Book.{Inputs, demand, Book, entries, number, current, run_best_of, with_waiting, book_enter, book_outcome, unless, book_next, book_seed, book_answer, book_result, book_progress, book_stop, book_call, book_last, book_counts}
 use Rattle.book.specs.Trace.{Handing, handed_by, answered_by, handing_of}

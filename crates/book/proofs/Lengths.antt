@@ -4,13 +4,13 @@ use Rattle.std.specs.Float.Ieee.{lt, le, eq}
 use Rattle.common.specs.All.{all_map}
 use Rattle.common.specs.Each.{All}
 use Rattle.float.specs.Literals.{plus_zero, half₆₄}
-use Rattle.seed_rules.specs.declared.CandidateSeed.{CandidateSeed}
-use Rattle.seed_rules.specs.Rules.{untilted_y}
-use Rattle.seed_rules.specs.Layout.{flat}
-use Rattle.score_floor.specs.Floor.{seeds_between}
-use Rattle.score_best.specs.declared.Candidate.{Candidate}
-use Rattle.seed_counts.specs.Admissible.{seed_count, least_step, most_step}
-use Rattle.seed_counts.proofs.Exact.{round_length}
+use Rattle.seeds.specs.declared.CandidateSeed.{CandidateSeed}
+use Rattle.seeds.specs.Rules.{untilted_y}
+use Rattle.seeds.specs.Layout.{flat}
+use Rattle.score.specs.Floor.{seeds_between}
+use Rattle.score.specs.declared.best.Candidate.{Candidate}
+use Rattle.seeds.specs.Admissible.{seed_count, least_step, most_step}
+use Rattle.seeds.proofs.Exact.{round_length}
 use Rattle.book.specs.Book.{Inputs, demand, Book, entries, step_of, offsets_x, offsets_y, list_around}
 use Rattle.book.specs.Rounds.{LaterRound}
 use Rattle.book.proofs.Made.{later_list_around_centre}

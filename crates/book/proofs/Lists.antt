@@ -3,10 +3,10 @@
 use Rattle.std.proofs.Common.{ℕ, zero, suc, ◌+◌, ◌-◌, ◌*◌, ◌≤◌, ◌<◌, arith, ◌≡◌, refl, sym, ap, ◌∙◌, Bool, true, false, List, [], ◌∷◌, ◌++◌, append_assoc, ltb-true, ltb-false, lt-ltb, le-ltb, ltb, length, get_or, take, drop, length-append, length-take, length-drop, get_or-append-add, drop-cons, Float}
 use Rattle.std.specs.Float.{nan}
 use lib.Seq.{drop-append-add, take-append-add, drop-length}
-use Rattle.seed_rules.specs.declared.CandidateSeed.{CandidateSeed}
-use Rattle.seed_rules.specs.Layout.{laid, six, flat, seed_at, written}
-use Rattle.seed_rules.specs.LayoutLaws.{flat_length}
-use Rattle.score_floor.specs.Floor.{seeds_from, seeds_between}
+use Rattle.seeds.specs.declared.CandidateSeed.{CandidateSeed}
+use Rattle.seeds.specs.Layout.{laid, six, flat, seed_at, written}
+use Rattle.seeds.specs.LayoutLaws.{flat_length}
+use Rattle.score.specs.Floor.{seeds_from, seeds_between}
 use Rattle.book.specs.Book.{no_seed}
 
 -- ---- the seeds in the list

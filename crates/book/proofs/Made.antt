@@ -4,11 +4,11 @@ use Rattle.std.proofs.Common.{ℕ, zero, suc, ◌<◌, arith, ◌≡◌, refl, s
 use borrow.Author.Tests.{lt-leb}
 use Rattle.common.specs.Each.{All}
 use Rattle.common.specs.All.{all_append, all_map}
-use Rattle.seed_rules.specs.declared.CandidateSeed.{CandidateSeed}
-use Rattle.seed_rules.proofs.MergeLaws.{keep_append, keep_none, keep_whole}
-use Rattle.score_outcome.specs.Reasons.{Outcome}
-use Rattle.score_best.specs.declared.Candidate.{Candidate}
-use Rattle.score_best.specs.Best.{chosen}
+use Rattle.seeds.specs.declared.CandidateSeed.{CandidateSeed}
+use Rattle.seeds.proofs.MergeLaws.{keep_append, keep_none, keep_whole}
+use Rattle.score.specs.Reasons.{Outcome}
+use Rattle.score.specs.declared.best.Candidate.{Candidate}
+use Rattle.score.specs.Best.{chosen}
 use Rattle.book.specs.Book.{Inputs, Entry, Book, entries, round_best_of, run_best_of, or_else, list_around, opened, with_waiting, with_entry, with_round, with_end}
 use Rattle.book.specs.Rounds.{of_round, up_to, centre_of}
 use Rattle.book.proofs.Planned.{Planned}

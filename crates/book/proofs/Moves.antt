@@ -4,15 +4,15 @@ use Rattle.std.proofs.Common.{ℕ, zero, suc, ◌-◌, ◌≡◌, refl, sym, ◌
 use Rattle.std.specs.Prelude.{⊤}
 use Rattle.common.specs.declared.Refusal.{Refusal}
 use Rattle.common.specs.Tests.{case}
-use Rattle.camera_tilt.specs.declared.sensor.ScheimpflugParams.{ScheimpflugParams}
-use Rattle.seed_rules.specs.declared.CandidateSeed.{CandidateSeed}
-use Rattle.score_outcome.specs.declared.Finding.{Finding}
-use Rattle.score_outcome.specs.Reasons.{Outcome}
-use Rattle.score_outcome.specs.Evaluation.{outcome_of, finding_refusal}
-use Rattle.score_outcome.specs.Facts.{ScoredFacts}
-use Rattle.score_outcome.proofs.Facts.{scored_facts}
-use Rattle.score_best.specs.declared.Candidate.{Candidate}
-use Rattle.score_best.specs.Best.{nothing, chosen}
+use Rattle.camera.specs.declared.sensor.ScheimpflugParams.{ScheimpflugParams}
+use Rattle.seeds.specs.declared.CandidateSeed.{CandidateSeed}
+use Rattle.score.specs.declared.outcome.Finding.{Finding}
+use Rattle.score.specs.Reasons.{Outcome}
+use Rattle.score.specs.Evaluation.{outcome_of, finding_refusal}
+use Rattle.score.specs.Facts.{ScoredFacts}
+use Rattle.score.proofs.Facts.{scored_facts}
+use Rattle.score.specs.declared.best.Candidate.{Candidate}
+use Rattle.score.specs.Best.{nothing, chosen}
 use Rattle.book.specs.Calls.{Call, next, seed, answer, ask, progress, stop, last, counts}
 use Rattle.book.specs.Book.{Inputs, demand, Entry, Book, entries, number, current, round_best_of, run_best_of, or_else, list_around, with_waiting, with_entry, with_round, with_end, close_round, book_enter, book_outcome, BookLeft, book_next, book_seed, book_answer, book_result, book_progress, book_stop, book_call, after, book_last, book_counts}
 use Rattle.book.proofs.Cases.{case_chosen, case_list, case_result}

@@ -8,18 +8,18 @@ use Rattle.common.specs.Tests.{case, both_true}
 use Rattle.common.specs.Each.{All, every}
 use Rattle.float.specs.Float.{is_finite}
 use Rattle.float.specs.Literals.{plus_zero}
-use Rattle.seed_rules.specs.declared.CandidateSeed.{CandidateSeed}
-use Rattle.seed_rules.specs.Merge.{keep}
-use Rattle.seed_rules.specs.Rules.{in_bound, untilted_y}
-use Rattle.seed_rules.proofs.RulesLaws.{initial_list_length_le}
-use Rattle.seed_rules.specs.Layout.{all_seeds, seed_at, written}
-use Rattle.seed_rules.specs.LayoutLaws.{read_length}
-use Rattle.seed_rules.proofs.Facts.{initial_list_all}
-use Rattle.score_best.specs.Best.{best_of, first_unbeaten}
-use Rattle.search_record.specs.declared.run.Run.{Run}
-use Rattle.search_start.specs.Start.{positive, good_seed, only_zero, untilted_seed, demand_of, opening_of, start_checks}
-use Rattle.search_start.specs.StartLaws.{StartPassed, start_passed}
-use Rattle.journal_line.specs.Counts.{count_in}
+use Rattle.seeds.specs.declared.CandidateSeed.{CandidateSeed}
+use Rattle.seeds.specs.Merge.{keep}
+use Rattle.seeds.specs.Rules.{in_bound, untilted_y}
+use Rattle.seeds.proofs.RulesLaws.{initial_list_length_le}
+use Rattle.seeds.specs.Layout.{all_seeds, seed_at, written}
+use Rattle.seeds.specs.LayoutLaws.{read_length}
+use Rattle.seeds.proofs.Facts.{initial_list_all}
+use Rattle.score.specs.Best.{best_of, first_unbeaten}
+use Rattle.search.specs.declared.run.Run.{Run}
+use Rattle.search.specs.Start.{positive, good_seed, only_zero, untilted_seed, demand_of, opening_of, start_checks}
+use Rattle.search.specs.StartLaws.{StartPassed, start_passed}
+use Rattle.journal.specs.Counts.{count_in}
 use Rattle.book.specs.Book.{Inputs, demand, scored_of, round_best_of, run_best_of, step_of, first_list, is_empty, opened, last_of, tally}
 use Rattle.book.specs.Conditions.{conditions}
 use Rattle.book.specs.Trace.{handed_in_round}

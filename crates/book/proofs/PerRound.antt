@@ -6,10 +6,10 @@ use lib.ListN.{length-map}
 use Rattle.common.specs.Tests.{case}
 use Rattle.common.specs.All.{all_map}
 use Rattle.common.specs.Each.{All}
-use Rattle.seed_rules.specs.declared.CandidateSeed.{CandidateSeed}
-use Rattle.seed_rules.specs.Merge.{keep}
-use Rattle.seed_rules.proofs.MergeLaws.{keep_append, keep_length}
-use Rattle.seed_rules.specs.AnyOffsets.{most_seeds}
+use Rattle.seeds.specs.declared.CandidateSeed.{CandidateSeed}
+use Rattle.seeds.specs.Merge.{keep}
+use Rattle.seeds.proofs.MergeLaws.{keep_append, keep_length}
+use Rattle.seeds.specs.AnyOffsets.{most_seeds}
 use Rattle.book.specs.Book.{Entry, Book, with_round}
 use Rattle.book.specs.Trace.{Handing, handed_in_round, handing_of}
 use Rattle.book.proofs.Planned.{Planned}

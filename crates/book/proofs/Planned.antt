@@ -5,11 +5,11 @@ use lib.ListN.{length-map}
 use Rattle.common.specs.Tests.{case}
 use Rattle.common.specs.All.{all_append, all_map}
 use Rattle.common.specs.Each.{All}
-use Rattle.seed_rules.specs.declared.CandidateSeed.{CandidateSeed}
-use Rattle.seed_rules.specs.Layout.{six}
-use Rattle.score_outcome.specs.Reasons.{Outcome}
-use Rattle.score_best.specs.declared.Candidate.{Candidate}
-use Rattle.score_best.specs.Best.{chosen}
+use Rattle.seeds.specs.declared.CandidateSeed.{CandidateSeed}
+use Rattle.seeds.specs.Layout.{six}
+use Rattle.score.specs.Reasons.{Outcome}
+use Rattle.score.specs.declared.best.Candidate.{Candidate}
+use Rattle.score.specs.Best.{chosen}
 use Rattle.book.specs.Book.{Inputs, Entry, Book, entries, number, no_seed, round_best_of, run_best_of, or_else, first_list, list_around, opened, with_waiting, with_entry, with_round, with_end}
 use Rattle.book.specs.Trace.{Handing, handing_of}
 use Rattle.book.specs.Named.{outcomes_in, entered_all, following, Plan, plan, handings_of, handings}

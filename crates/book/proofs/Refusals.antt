@@ -9,11 +9,11 @@ use Rattle.common.specs.declared.Refusal.{Refusal}
 use Rattle.common.specs.declared.Refusal.TheVariants as refusal
 use Rattle.float.specs.Float.{is_finite, within}
 use Rattle.float.specs.Literals.{plus_zero, half₆₄}
-use Rattle.seed_rules.specs.declared.CandidateSeed.{CandidateSeed}
-use Rattle.seed_rules.specs.Rules.{in_bound, untilted_y}
+use Rattle.seeds.specs.declared.CandidateSeed.{CandidateSeed}
+use Rattle.seeds.specs.Rules.{in_bound, untilted_y}
 use Rattle.float.proofs.Bound.{within_order}
-use Rattle.seed_rules.specs.Layout.{all_seeds}
-use Rattle.search_start.specs.Start.{positive, good_seed, only_zero, untilted_seed, too_many, demand_of, start_checks}
+use Rattle.seeds.specs.Layout.{all_seeds}
+use Rattle.search.specs.Start.{positive, good_seed, only_zero, untilted_seed, too_many, demand_of, start_checks}
 use Rattle.book.specs.Book.{Inputs, demand}
 use Rattle.book.specs.Conditions.{Condition, ◌provided◌, FirstHolds, NoneHolds, Some, NotFinite, NotPositive, Beyond, BadSeed, TooMany, BoundTooLarge, ShareTooLarge, OnlyZero, TiltedY, conditions}
 use Rattle.book.specs.Theorem.{options_of}

@@ -1,10 +1,10 @@
 -- The run's record is a function of the book, and it is sound. Assumes nothing.
 use Rattle.std.proofs.Common.{◌+◌, ◌*◌, ◌≤◌, arith, ◌≡◌, refl, Bool, true, false, not, List, lt-ltb, le-leb, length, length-append, Float}
 use Rattle.common.specs.Tests.{case}
-use Rattle.seed_rules.specs.declared.CandidateSeed.{CandidateSeed}
-use Rattle.score_best.specs.Best.{Chosen, nothing, chosen, no_best, held}
-use Rattle.search_record.specs.Record.{has_place, sound}
-use Rattle.search_record.specs.Laws.{add_up_true}
+use Rattle.seeds.specs.declared.CandidateSeed.{CandidateSeed}
+use Rattle.score.specs.Best.{Chosen, nothing, chosen, no_best, held}
+use Rattle.search.specs.Record.{has_place, sound}
+use Rattle.search.specs.Laws.{add_up_true}
 use Rattle.book.specs.Book.{Inputs, demand, Book, entries, number, current, round_best_of, run_best_of, is_nothing, last_of, tally}
 use Rattle.book.proofs.Lists.{Front}
 use Rattle.book.proofs.Good.{Good}

@@ -4,15 +4,15 @@ use Rattle.std.specs.Float.Ieee.{of_bits, eq}
 use Rattle.common.specs.All.{all_right, all_map}
 use Rattle.common.specs.Each.{All}
 use Rattle.float.specs.Literals.{plus_zero}
-use Rattle.camera_tilt.specs.declared.sensor.ScheimpflugParams.{ScheimpflugParams}
-use Rattle.seed_rules.specs.declared.CandidateSeed.{CandidateSeed}
-use Rattle.seed_rules.specs.Rules.{in_bound, untilted_y, offsets, y_offsets}
-use Rattle.seed_rules.specs.AnyOffsets.{most_seeds}
-use Rattle.seed_rules.specs.Theorem.{AtOffsets}
-use Rattle.seed_rules.proofs.AnyOffsets.{most_seeds_le_nine, list_over_run_offsets, later_list_le_most_seeds, untilted_around}
-use Rattle.score_best.specs.declared.Candidate.{Candidate}
-use Rattle.score_best.specs.Best.{chosen, best_of}
-use Rattle.score_best.proofs.Order.{chosen_is_best}
+use Rattle.camera.specs.declared.sensor.ScheimpflugParams.{ScheimpflugParams}
+use Rattle.seeds.specs.declared.CandidateSeed.{CandidateSeed}
+use Rattle.seeds.specs.Rules.{in_bound, untilted_y, offsets, y_offsets}
+use Rattle.seeds.specs.AnyOffsets.{most_seeds}
+use Rattle.seeds.specs.Theorem.{AtOffsets}
+use Rattle.seeds.proofs.AnyOffsets.{most_seeds_le_nine, list_over_run_offsets, later_list_le_most_seeds, untilted_around}
+use Rattle.score.specs.declared.best.Candidate.{Candidate}
+use Rattle.score.specs.Best.{chosen, best_of}
+use Rattle.score.proofs.Order.{chosen_is_best}
 use Rattle.book.specs.Book.{Inputs, step_of, list_around}
 
 -- the tilts are within the bound; in a one-axis run the tilt about y is a zero, and +0 in later rounds

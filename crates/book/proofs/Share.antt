@@ -3,16 +3,16 @@
 use Rattle.std.proofs.Common.{ℕ, ◌≡◌, refl, ap, ◌∙◌, ◌⊎◌, inl, inr, ⊎_elim, true, List, [], ◌∷◌, ltb, Float, Ok, Err}
 use mathlib.Core.List.{Memᴰ}
 use Rattle.common.specs.Tests.{case}
-use Rattle.score_camera.specs.declared.pinhole.PinholeCamera.{PinholeCamera}
-use Rattle.score_outcome.specs.declared.Finding.{Finding}
-use Rattle.score_outcome.specs.declared.Finding.TheVariants.{Failed, Solved}
-use Rattle.score_outcome.specs.Reasons.{Outcome}
-use Rattle.score_outcome.specs.Evaluation.{solved_at, evaluated, outcome_of, finding_refusal}
-use Rattle.score_outcome.specs.Share.{RestsOn}
-use Rattle.score_outcome.proofs.Share.{scored_rests}
-use Rattle.score_best.specs.declared.Candidate.{Candidate}
-use Rattle.score_best.specs.Best.{candidate_of}
-use Rattle.search_record.specs.declared.run.Run.{Run}
+use Rattle.score.specs.declared.pinhole.PinholeCamera.{PinholeCamera}
+use Rattle.score.specs.declared.outcome.Finding.{Finding}
+use Rattle.score.specs.declared.outcome.Finding.TheVariants.{Failed, Solved}
+use Rattle.score.specs.Reasons.{Outcome}
+use Rattle.score.specs.Evaluation.{solved_at, evaluated, outcome_of, finding_refusal}
+use Rattle.score.specs.Share.{RestsOn}
+use Rattle.score.proofs.Share.{scored_rests}
+use Rattle.score.specs.declared.best.Candidate.{Candidate}
+use Rattle.score.specs.Best.{candidate_of}
+use Rattle.search.specs.declared.run.Run.{Run}
 use Rattle.book.specs.Calls.{Call, next, seed, answer, ask, scored}
 use Rattle.book.specs.Book.{Inputs, demand, Entry, Book, entries, number, current, scored_of, reply_to, book_outcome, book_answer, book_call, after}
 use Rattle.book.specs.Walk.{run_call}

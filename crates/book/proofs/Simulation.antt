@@ -10,30 +10,30 @@ use Rattle.common.specs.Tests.{case}
 use Rattle.common.specs.Each.{All}
 use Rattle.float.specs.Binary64.{◌*₆₄◌}
 use Rattle.float.specs.Literals.{half₆₄}
-use Rattle.seed_rules.specs.declared.CandidateSeed.{CandidateSeed}
-use Rattle.seed_rules.specs.Layout.{six, seed_at, written}
-use Rattle.score_outcome.specs.declared.Finding.{Finding}
-use Rattle.score_outcome.specs.Reasons.{Outcome}
-use Rattle.score_outcome.specs.declared.SkipReason.TheVariants.{HostFailed, BadCamera, NoMean, NoNumber}
-use Rattle.score_outcome.specs.Evaluation.{finding_refusal}
-use Rattle.score_best.specs.declared.Candidate.{Candidate}
-use Rattle.score_best.specs.declared.Best.{Best}
-use Rattle.score_best.specs.Best.{Chosen, nothing, chosen, best_of, first_unbeaten, no_best, best_candidate, held, or_best, candidate_of}
-use Rattle.score_best.proofs.Order.{best_snoc}
-use Rattle.search_record.specs.declared.run.Run.{Run}
-use Rattle.journal_line.specs.declared.Counts.{Counts}
-use Rattle.journal_line.specs.Counts.{with_count}
-use Rattle.journal_line.specs.Outcome.{recorded_as}
-use Rattle.search_record.specs.declared.run.LastAnswer.{LastAnswer}
-use Rattle.search_record.specs.declared.run.Waiting.{Waiting}
-use Rattle.search_record.specs.Record as rec
-use Rattle.search_calls.specs.Next.{next_def, seed_lent, seed_part}
-use Rattle.search_answer.specs.Answer as ans
-use Rattle.search_answer.specs.AnswerLaws.{answer_refused, answer_enters}
-use Rattle.search_calls.specs.Result.{result_def}
-use Rattle.search_calls.specs.Progress.{progress_def}
-use Rattle.score_floor.specs.Floor.{seeds_between}
-use Rattle.search_calls.specs.Stop.{left_seeds, best_so_far, outlook_of, stop_def}
+use Rattle.seeds.specs.declared.CandidateSeed.{CandidateSeed}
+use Rattle.seeds.specs.Layout.{six, seed_at, written}
+use Rattle.score.specs.declared.outcome.Finding.{Finding}
+use Rattle.score.specs.Reasons.{Outcome}
+use Rattle.score.specs.declared.outcome.SkipReason.TheVariants.{HostFailed, BadCamera, NoMean, NoNumber}
+use Rattle.score.specs.Evaluation.{finding_refusal}
+use Rattle.score.specs.declared.best.Candidate.{Candidate}
+use Rattle.score.specs.declared.best.Best.{Best}
+use Rattle.score.specs.Best.{Chosen, nothing, chosen, best_of, first_unbeaten, no_best, best_candidate, held, or_best, candidate_of}
+use Rattle.score.proofs.Order.{best_snoc}
+use Rattle.search.specs.declared.run.Run.{Run}
+use Rattle.journal.specs.declared.Counts.{Counts}
+use Rattle.journal.specs.Counts.{with_count}
+use Rattle.journal.specs.Outcome.{recorded_as}
+use Rattle.search.specs.declared.run.LastAnswer.{LastAnswer}
+use Rattle.search.specs.declared.run.Waiting.{Waiting}
+use Rattle.search.specs.Record as rec
+use Rattle.search.specs.Next.{next_def, seed_lent, seed_part}
+use Rattle.search.specs.Answer as ans
+use Rattle.search.specs.AnswerLaws.{answer_refused, answer_enters}
+use Rattle.search.specs.Result.{result_def}
+use Rattle.search.specs.Progress.{progress_def}
+use Rattle.score.specs.Floor.{seeds_between}
+use Rattle.search.specs.Stop.{left_seeds, best_so_far, outlook_of, stop_def}
 use Rattle.book.specs.Calls.{Call, next, seed, answer, ask, progress, stop, Reply, over, part, result, bar, stopped, refused, last, counts, counted}
 use Rattle.book.specs.Book.{Inputs, demand, Entry, Book, entries, number, no_seed, current, scored_of, round_best_of, run_best_of, or_else, step_of, list_around, with_waiting, with_entry, with_round, with_end, close_round, book_enter, book_outcome, BookLeft, book_left, unless, book_next, book_seed, reply_to, book_answer, book_result, book_progress, left_in, rest_of, rest_in, book_stop, book_call, line_of, last_of, book_last, tally, book_counts}
 use Rattle.book.specs.Walk.{Step, run_call, answered_reply, stopped_reply, last_reply}
@@ -45,8 +45,8 @@ use Rattle.book.proofs.Tally.{tally_snoc}
 use Rattle.book.specs.RunOf.{run_of, last_in}
 use Rattle.book.proofs.RunOf.{State, run_waiting, run_round_best, run_run_best, run_max, run_one_axis, run-fields, run-bests, run_of_sound, run_last}
 use Rattle.book.proofs.Lists.{seed_at_of_flat, six_of_flat, seeds_between_of_front, Front, front_of_lent_part, front_of_longer_list, front_of_written, front_of_no_seeds, lent_part_too_short}
-use Rattle.search_calls.specs.Last.{has_line, recorded_in, last_def}
-use Rattle.search_calls.specs.Counts.{counts_def}
+use Rattle.search.specs.Last.{has_line, recorded_in, last_def}
+use Rattle.search.specs.Counts.{counts_def}
 
 -- what a call makes of the run, beside what it makes of the book
 pub record Agrees (x : Step) (k : BookLeft) : Type 0 where

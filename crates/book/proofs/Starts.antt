@@ -2,10 +2,10 @@
 use Rattle.std.proofs.Common.{◌≡◌, sym, ap, ◌∙◌, List, length, Float, Result, Ok, Err}
 use Rattle.std.specs.Prelude.{⊤}
 use Rattle.common.specs.declared.Refusal.{Refusal}
-use Rattle.seed_rules.specs.Layout.{written}
-use Rattle.search_record.specs.declared.run.Run.{Run}
-use Rattle.search_start.specs.Start.{start_refusal, opening, start_seeds, start_checks}
-use Rattle.search_start.specs.StartLaws.{start_refused, start_accepted}
+use Rattle.seeds.specs.Layout.{written}
+use Rattle.search.specs.declared.run.Run.{Run}
+use Rattle.search.specs.Start.{start_refusal, opening, start_seeds, start_checks}
+use Rattle.search.specs.StartLaws.{start_refused, start_accepted}
 use Rattle.book.specs.Book.{Inputs, first_list}
 use Rattle.book.specs.Conditions.{conditions}
 use Rattle.book.specs.Theorem.{options_of, start_of, started_list, Starts}

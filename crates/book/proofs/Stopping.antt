@@ -7,18 +7,18 @@ use borrow.Author.Tests.{lt-leb}
 use Rattle.common.specs.Each.{All}
 use Rattle.common.specs.All.{all_append}
 use Rattle.float_laws.specs.NotBelow.{not_below_trans}
-use Rattle.seed_rules.specs.declared.CandidateSeed.{CandidateSeed}
-use Rattle.seed_rules.specs.Merge.{keep}
-use Rattle.seed_rules.proofs.MergeLaws.{keep_append}
-use Rattle.score_outcome.specs.declared.Scoring.{Scoring}
-use Rattle.score_outcome.specs.Reasons.{Outcome}
-use Rattle.score_outcome.specs.Facts.{ScoredFacts}
-use Rattle.score_best.specs.declared.Candidate.{Candidate}
-use Rattle.score_best.specs.Best.{beats, chosen, best_of, candidate_of}
-use Rattle.score_best.specs.Theorem.{HasNumber}
-use Rattle.score_best.proofs.Order.{lower_beats, best_of_is_best, best_stays_unless_beaten_by_any, chosen_is_best}
-use Rattle.score_floor.specs.Floor.{floor_of}
-use Rattle.score_floor.proofs.FloorLaws.{floor_is_number, scored_not_below_floor}
+use Rattle.seeds.specs.declared.CandidateSeed.{CandidateSeed}
+use Rattle.seeds.specs.Merge.{keep}
+use Rattle.seeds.proofs.MergeLaws.{keep_append}
+use Rattle.score.specs.declared.outcome.Scoring.{Scoring}
+use Rattle.score.specs.Reasons.{Outcome}
+use Rattle.score.specs.Facts.{ScoredFacts}
+use Rattle.score.specs.declared.best.Candidate.{Candidate}
+use Rattle.score.specs.Best.{beats, chosen, best_of, candidate_of}
+use Rattle.score.specs.Theorem.{HasNumber}
+use Rattle.score.proofs.Order.{lower_beats, best_of_is_best, best_stays_unless_beaten_by_any, chosen_is_best}
+use Rattle.score.specs.Floor.{floor_of}
+use Rattle.score.proofs.FloorLaws.{floor_is_number, scored_not_below_floor}
 use Rattle.book.specs.Calls.{Call}
 use Rattle.book.specs.Book.{Inputs, Entry, Book, entries, no_seed, current, scored_of, run_best_of, with_waiting, with_entry, with_round, with_end, book_enter, left_in, after}
 use Rattle.book.specs.Rounds.{up_to}

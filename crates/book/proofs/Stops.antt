@@ -6,12 +6,12 @@ use Rattle.common.specs.Tests.{case}
 use Rattle.std.specs.Prelude.{Option, None, Result, Ok, Err}
 use Rattle.common.specs.declared.Refusal.{Refusal}
 use Rattle.common.specs.declared.Refusal.TheVariants.{ListShortened}
-use Rattle.seed_rules.specs.declared.CandidateSeed.{CandidateSeed}
-use Rattle.score_best.specs.declared.Candidate.{Candidate}
-use Rattle.score_best.specs.Best.{Chosen, nothing, chosen, best_of, no_best, best_candidate, held}
-use Rattle.score_floor.specs.Floor.{floor_of}
-use Rattle.search_calls.specs.declared.stop.Outlook.{Outlook}
-use Rattle.search_calls.specs.Stop.{outlook_of, stop_def}
+use Rattle.seeds.specs.declared.CandidateSeed.{CandidateSeed}
+use Rattle.score.specs.declared.best.Candidate.{Candidate}
+use Rattle.score.specs.Best.{Chosen, nothing, chosen, best_of, no_best, best_candidate, held}
+use Rattle.score.specs.Floor.{floor_of}
+use Rattle.search.specs.declared.stop.Outlook.{Outlook}
+use Rattle.search.specs.Stop.{outlook_of, stop_def}
 use Rattle.book.specs.Calls.{Call}
 use Rattle.book.specs.Book.{Inputs, demand, Entry, Book, entries, scored_of, run_best_of, left_in, book_call, after}
 use Rattle.book.specs.Rounds.{up_to}

@@ -8,13 +8,13 @@ use Rattle.common.specs.Checks.{Check, ◌when◌, first_refusal}
 use Rattle.common.specs.declared.Refusal.TheVariants.{TiltTooLarge}
 use Rattle.float.specs.Float.{abs_of, within}
 use Rattle.float.specs.Order.{lt_cotrans, le_not_lt, le_second_is_not_nan}
-use Rattle.float_series.specs.Answer.{tilt_too_large}
+use Rattle.trig.specs.Answer.{tilt_too_large}
 use Rattle.float.specs.Literals.{half₆₄}
-use Rattle.camera_tilt.specs.declared.sensor.ScheimpflugParams.{ScheimpflugParams}
-use Rattle.seed_rules.specs.Rules.{in_bound}
-use Rattle.score_outcome.specs.declared.Finding.{Finding}
-use Rattle.score_outcome.specs.declared.Finding.TheVariants.{Failed, Solved}
-use Rattle.score_outcome.specs.Evaluation.{row_checks, solved_refusal, finding_refusal}
+use Rattle.camera.specs.declared.sensor.ScheimpflugParams.{ScheimpflugParams}
+use Rattle.seeds.specs.Rules.{in_bound}
+use Rattle.score.specs.declared.outcome.Finding.{Finding}
+use Rattle.score.specs.declared.outcome.Finding.TheVariants.{Failed, Solved}
+use Rattle.score.specs.Evaluation.{row_checks, solved_refusal, finding_refusal}
 
 -- ---- a tilt within a bound of at most 0.5 isn't beyond 0.5
 bounded_is_number : (t max : Float) → le (abs_of t) max ≡ true → is_nan t ≡ false

@@ -1,10 +1,10 @@
 -- The counts of entries: each entry is of one of the five kinds, so the counts add up to all entries. Assumes nothing.
 use Rattle.std.proofs.Common.{arith, ◌≡◌, refl, ap, ◌∙◌, List, [], ◌∷◌, ◌++◌, map, length}
 use mathlib.Core.List.{map-append}
-use Rattle.journal_line.specs.Counts.{kind_of, count_in, counts_in, with_count}
-use Rattle.journal_line.proofs.CountLaws.{counts_snoc, each_kind_is_one_of_five}
-use Rattle.journal_line.specs.Outcome.{recorded_as}
-use Rattle.journal_line.specs.Report.{total}
+use Rattle.journal.specs.Counts.{kind_of, count_in, counts_in, with_count}
+use Rattle.journal.proofs.CountLaws.{counts_snoc, each_kind_is_one_of_five}
+use Rattle.journal.specs.Outcome.{recorded_as}
+use Rattle.journal.specs.Report.{total}
 use Rattle.book.specs.Book.{Entry, line_of, tally}
 
 -- ---- one more entry adds one to the count of its kind

@@ -10,17 +10,17 @@ use Rattle.common.specs.Checks.{first_refusal}
 use Rattle.common.specs.declared.Refusal.{Refusal}
 use Rattle.common.specs.declared.Refusal.TheVariants.{NothingScored, NotOver}
 use Rattle.float.specs.Literals.{plus_zero}
-use Rattle.seed_rules.specs.declared.CandidateSeed.{CandidateSeed}
-use Rattle.seed_rules.specs.Rules.{untilted_y}
-use Rattle.seed_rules.specs.Layout.{six}
-use Rattle.seed_rules.specs.AnyOffsets.{most_seeds}
-use Rattle.score_outcome.specs.declared.Finding.{Finding}
-use Rattle.score_outcome.specs.declared.Finding.TheVariants.{Failed}
-use Rattle.score_outcome.specs.Evaluation.{row_checks}
-use Rattle.score_best.specs.declared.Candidate.{Candidate}
-use Rattle.score_best.specs.Best.{chosen}
-use Rattle.search_answer.specs.Answer.{answer_refusal}
-use Rattle.search_calls.specs.Result.{result_def}
+use Rattle.seeds.specs.declared.CandidateSeed.{CandidateSeed}
+use Rattle.seeds.specs.Rules.{untilted_y}
+use Rattle.seeds.specs.Layout.{six}
+use Rattle.seeds.specs.AnyOffsets.{most_seeds}
+use Rattle.score.specs.declared.outcome.Finding.{Finding}
+use Rattle.score.specs.declared.outcome.Finding.TheVariants.{Failed}
+use Rattle.score.specs.Evaluation.{row_checks}
+use Rattle.score.specs.declared.best.Candidate.{Candidate}
+use Rattle.score.specs.Best.{chosen}
+use Rattle.search.specs.Answer.{answer_refusal}
+use Rattle.search.specs.Result.{result_def}
 use Rattle.book.specs.Calls.{Call}
 use Rattle.book.specs.Book.{Inputs, demand, Entry, Book, entries, current, run_best_of, opened, after}
 use Rattle.book.specs.Trace.{Handing, tilt_y_of, PlusZeroLater, handed_in_round, handed, handing_of, all_handed, list_after}

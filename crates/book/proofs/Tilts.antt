@@ -3,11 +3,11 @@ use Rattle.std.proofs.Common.{ℕ, zero, suc, ◌≡◌, refl, sym, ap, ◌∙�
 use Rattle.std.specs.Float.Ieee.{neg, le}
 use mathlib.Core.List.{Memᴰ}
 use Rattle.float.specs.Float.{is_finite}
-use Rattle.seed_rules.specs.declared.CandidateSeed.{CandidateSeed}
-use Rattle.seed_rules.specs.Rules.{tilts}
-use Rattle.seed_rules.specs.Layout.{six, all_seeds, seed_at}
-use Rattle.seed_rules.proofs.Tried.{every_tilt_tried}
-use Rattle.score_outcome.specs.Reasons.{Outcome}
+use Rattle.seeds.specs.declared.CandidateSeed.{CandidateSeed}
+use Rattle.seeds.specs.Rules.{tilts}
+use Rattle.seeds.specs.Layout.{six, all_seeds, seed_at}
+use Rattle.seeds.proofs.Tried.{every_tilt_tried}
+use Rattle.score.specs.Reasons.{Outcome}
 use Rattle.book.specs.Book.{Inputs, Entry, Book, entries, first_list}
 use Rattle.book.specs.Trace.{Handing, handing_of}
 use Rattle.book.specs.Named.{outcomes_in, plan, handings_of, handings}

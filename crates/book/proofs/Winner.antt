@@ -9,12 +9,12 @@ use Rattle.common.specs.All.{all_append, all_left, all_right, all_map}
 use Rattle.common.specs.Each.{All}
 use Rattle.float.specs.Float.{within}
 use Rattle.float.specs.Order.{lt_irrefl, lt_not_eq, le_of_not_lt}
-use Rattle.seed_rules.specs.Rules.{in_bound, untilted_y}
+use Rattle.seeds.specs.Rules.{in_bound, untilted_y}
 use Rattle.float.proofs.Bound.{within_order}
-use Rattle.score_best.specs.declared.Candidate.{Candidate}
-use Rattle.score_best.specs.Best.{beats, chosen, best_of}
-use Rattle.score_best.specs.Theorem.{HasNumber, IsBestOf}
-use Rattle.score_best.proofs.Order.{lower_beats, beats_number, chosen_is_best}
+use Rattle.score.specs.declared.best.Candidate.{Candidate}
+use Rattle.score.specs.Best.{beats, chosen, best_of}
+use Rattle.score.specs.Theorem.{HasNumber, IsBestOf}
+use Rattle.score.proofs.Order.{lower_beats, beats_number, chosen_is_best}
 use Rattle.book.specs.Book.{Inputs, Entry, scored_of}
 use Rattle.book.specs.Theorem.{Wins}
 use Rattle.book.proofs.Cases.{case_result}

@@ -9,22 +9,22 @@ use Rattle.common.specs.declared.Refusal.{Refusal}
 use Rattle.common.specs.declared.Refusal.TheVariants.{SeedWaiting, ListShortened, NothingScored, NoSeedWaiting, NotOver}
 use Rattle.float.specs.Binary64.{◌*₆₄◌}
 use Rattle.float.specs.Literals.{plus_zero, half₆₄}
-use Rattle.camera_models.specs.declared.math.Pt2.{Pt2}
-use Rattle.camera_models.specs.declared.intrinsics.FxFyCxCy.{FxFyCxCy}
-use Rattle.seed_rules.specs.declared.CandidateSeed.{CandidateSeed}
-use Rattle.seed_rules.specs.Rules.{initial_list, offsets, y_offsets, next_list}
-use Rattle.seed_rules.specs.Layout.{six, all_seeds}
-use Rattle.score_outcome.specs.declared.Finding.{Finding}
-use Rattle.score_outcome.specs.Reasons.{Outcome}
-use Rattle.score_outcome.specs.Evaluation.{outcome_of, finding_refusal}
-use Rattle.score_best.specs.declared.Candidate.{Candidate}
-use Rattle.score_best.specs.Best.{Chosen, nothing, chosen, best_of, candidate_of}
-use Rattle.score_floor.specs.Floor.{floor_of}
+use Rattle.camera.specs.declared.math.Pt2.{Pt2}
+use Rattle.camera.specs.declared.intrinsics.FxFyCxCy.{FxFyCxCy}
+use Rattle.seeds.specs.declared.CandidateSeed.{CandidateSeed}
+use Rattle.seeds.specs.Rules.{initial_list, offsets, y_offsets, next_list}
+use Rattle.seeds.specs.Layout.{six, all_seeds}
+use Rattle.score.specs.declared.outcome.Finding.{Finding}
+use Rattle.score.specs.Reasons.{Outcome}
+use Rattle.score.specs.Evaluation.{outcome_of, finding_refusal}
+use Rattle.score.specs.declared.best.Candidate.{Candidate}
+use Rattle.score.specs.Best.{Chosen, nothing, chosen, best_of, candidate_of}
+use Rattle.score.specs.Floor.{floor_of}
 use Rattle.book.specs.Calls.{Call, next, seed, answer, ask, progress, stop, Rest, nothing_left, floor, Reply, candidate, over, part, scored, skipped, result, bar, stopped, refused, last, line, no_line, counts, counted}
-use Rattle.journal_line.specs.declared.Counts.{Counts}
-use Rattle.journal_line.specs.declared.Line.{Line}
-use Rattle.journal_line.specs.Counts.{counts_in}
-use Rattle.journal_line.specs.Outcome.{recorded_as}
+use Rattle.journal.specs.declared.Counts.{Counts}
+use Rattle.journal.specs.declared.Line.{Line}
+use Rattle.journal.specs.Counts.{counts_in}
+use Rattle.journal.specs.Outcome.{recorded_as}
 
 -- ---- what Start is given
 pub record Inputs : Type 0 where

@@ -1,12 +1,12 @@
 -- The calls that follow Start, and their replies. Definitions only.
 use Rattle.std.specs.Prelude.{ℕ, Bool, List, Float}
 use Rattle.common.specs.declared.Refusal.{Refusal}
-use Rattle.score_outcome.specs.declared.Finding.{Finding}
-use Rattle.score_outcome.specs.declared.SkipReason.{SkipReason}
-use Rattle.score_best.specs.declared.Candidate.{Candidate}
-use Rattle.score_best.specs.Best.{Chosen}
-use Rattle.journal_line.specs.declared.Counts.{Counts}
-use Rattle.journal_line.specs.declared.Line.{Line}
+use Rattle.score.specs.declared.outcome.Finding.{Finding}
+use Rattle.score.specs.declared.outcome.SkipReason.{SkipReason}
+use Rattle.score.specs.declared.best.Candidate.{Candidate}
+use Rattle.score.specs.Best.{Chosen}
+use Rattle.journal.specs.declared.Counts.{Counts}
+use Rattle.journal.specs.declared.Line.{Line}
 
 -- A call, with its arguments. n is how many numbers of the lent list the host lends, from its front; it may lend too
 -- few.

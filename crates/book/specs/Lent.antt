@@ -1,11 +1,11 @@
 -- Calls that are given the run as the calls before left it, each with a lent list of its own. Only Next and Answer are
 -- among them, since the other calls return no run. Definitions only.
 use Rattle.std.specs.Prelude.{ℕ, ◌+◌, ◌-◌, ◌*◌, ◌≤◌, ◌≡◌, List, [], ◌∷◌, length, Float, Ok, Err}
-use Rattle.score_outcome.specs.declared.Finding.{Finding}
-use Rattle.score_outcome.specs.Evaluation.{finding_refusal}
-use Rattle.search_record.specs.declared.run.Run.{Run}
-use Rattle.search_calls.specs.Next.{next_def}
-use Rattle.search_answer.specs.Answer.{answer_refusal, answer_def}
+use Rattle.score.specs.declared.outcome.Finding.{Finding}
+use Rattle.score.specs.Evaluation.{finding_refusal}
+use Rattle.search.specs.declared.run.Run.{Run}
+use Rattle.search.specs.Next.{next_def}
+use Rattle.search.specs.Answer.{answer_refusal, answer_def}
 use Rattle.book.specs.Book.{Inputs, demand}
 
 -- a call with the list that it is lent

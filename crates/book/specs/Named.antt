@@ -1,10 +1,10 @@
 -- The seeds that the rules name, round by round, from Start's inputs and the outcomes of the rounds before. Definitions
 -- only.
 use Rattle.std.specs.Prelude.{ℕ, zero, suc, cond, List, [], ◌∷◌, ◌++◌, eqb, length}
-use Rattle.seed_rules.specs.declared.CandidateSeed.{CandidateSeed}
-use Rattle.seed_rules.specs.Layout.{six}
-use Rattle.score_outcome.specs.Reasons.{Outcome}
-use Rattle.score_best.specs.Best.{nothing, chosen, best_of}
+use Rattle.seeds.specs.declared.CandidateSeed.{CandidateSeed}
+use Rattle.seeds.specs.Layout.{six}
+use Rattle.score.specs.Reasons.{Outcome}
+use Rattle.score.specs.Best.{nothing, chosen, best_of}
 use Rattle.book.specs.Book.{Inputs, Entry, scored_of, or_else, first_list, list_around}
 use Rattle.book.specs.Trace.{Handing}
 

@@ -2,11 +2,11 @@
 -- as a type. Definitions only.
 use Rattle.std.specs.Prelude.{ℕ, zero, suc, ◌≡◌, ◌++◌, true, List, leb, eqb, length, Float}
 use Rattle.std.specs.Float.Ieee.{le}
-use Rattle.seed_rules.specs.Merge.{keep}
-use Rattle.seed_rules.specs.Layout.{flat}
-use Rattle.seed_counts.specs.Admissible.{seed_count, least_step, most_step}
-use Rattle.score_best.specs.declared.Candidate.{Candidate}
-use Rattle.score_best.specs.Best.{Chosen, nothing, chosen, best_of}
+use Rattle.seeds.specs.Merge.{keep}
+use Rattle.seeds.specs.Layout.{flat}
+use Rattle.seeds.specs.Admissible.{seed_count, least_step, most_step}
+use Rattle.score.specs.declared.best.Candidate.{Candidate}
+use Rattle.score.specs.Best.{Chosen, nothing, chosen, best_of}
 use Rattle.book.specs.Book.{Inputs, Entry, scored_of, or_else, step_of, offsets_x, offsets_y, list_around}
 
 -- the entries of round r, and the entries of the rounds up to r

@@ -1,13 +1,13 @@
 -- The run's record as a function of the book. Definitions only.
 use Rattle.std.specs.Prelude.{Bool, true, false, length}
 use mathlib.Core.Option.{Option, none, some}
-use Rattle.seed_rules.specs.declared.CandidateSeed.{CandidateSeed}
-use Rattle.score_best.specs.Best.{held}
-use Rattle.search_record.specs.declared.run.Run.{Run}
-use Rattle.search_record.specs.declared.run.Waiting.{Waiting}
-use Rattle.journal_line.specs.Outcome.{recorded_as}
-use Rattle.search_record.specs.declared.run.LastAnswer.{LastAnswer}
-use Rattle.search_record.specs.Record.{no_waiting_seed, no_answer, last_answer}
+use Rattle.seeds.specs.declared.CandidateSeed.{CandidateSeed}
+use Rattle.score.specs.Best.{held}
+use Rattle.search.specs.declared.run.Run.{Run}
+use Rattle.search.specs.declared.run.Waiting.{Waiting}
+use Rattle.journal.specs.Outcome.{recorded_as}
+use Rattle.search.specs.declared.run.LastAnswer.{LastAnswer}
+use Rattle.search.specs.Record.{no_waiting_seed, no_answer, last_answer}
 use Rattle.book.specs.Book.{demand, Entry, Book, entries, number, current, round_best_of, run_best_of, step_of, last_of, tally}
 
 -- ---- the run that goes with a book

@@ -2,12 +2,12 @@
 -- Definitions only.
 use Rattle.std.specs.Prelude.{ℕ, ◌≡◌, ◌⊎◌, true, Float}
 use mathlib.Core.List.{List, [], ◌∷◌, ◌++◌, Memᴰ}
-use Rattle.score_camera.specs.declared.pinhole.PinholeCamera.{PinholeCamera}
-use Rattle.score_outcome.specs.declared.Finding.TheVariants.{Solved}
-use Rattle.score_outcome.specs.Evaluation.{solved_at}
-use Rattle.score_outcome.specs.Share.{RestsOn}
-use Rattle.score_best.specs.declared.Candidate.{Candidate}
-use Rattle.search_record.specs.declared.run.Run.{Run}
+use Rattle.score.specs.declared.pinhole.PinholeCamera.{PinholeCamera}
+use Rattle.score.specs.declared.outcome.Finding.TheVariants.{Solved}
+use Rattle.score.specs.Evaluation.{solved_at}
+use Rattle.score.specs.Share.{RestsOn}
+use Rattle.score.specs.declared.best.Candidate.{Candidate}
+use Rattle.search.specs.declared.run.Run.{Run}
 use Rattle.book.specs.Calls.{Call, answer, scored}
 use Rattle.book.specs.Book.{Entry, scored_of}
 use Rattle.book.specs.Walk.{run_call}

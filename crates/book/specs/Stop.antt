@@ -1,8 +1,8 @@
 -- What the reply of Stop means in a run (docs/SPECIFICATION.md, 9.2), as a type. Definitions only.
 use Rattle.std.specs.Prelude.{◌≡◌, ◌↔◌, true, List, ◌++◌, Float, None}
-use Rattle.score_best.specs.Best.{best_of}
-use Rattle.search_record.specs.declared.run.Run.{Run}
-use Rattle.search_calls.specs.declared.stop.Outlook.{Outlook}
+use Rattle.score.specs.Best.{best_of}
+use Rattle.search.specs.declared.run.Run.{Run}
+use Rattle.search.specs.declared.stop.Outlook.{Outlook}
 use Rattle.book.specs.Calls.{Call}
 use Rattle.book.specs.Book.{Entry, scored_of}
 use Rattle.book.specs.Rounds.{up_to}

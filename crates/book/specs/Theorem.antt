@@ -8,29 +8,29 @@ use Rattle.common.specs.declared.Refusal.{Refusal}
 use Rattle.common.specs.declared.Refusal.TheVariants.{NothingScored}
 use Rattle.float.specs.Float.{abs_of, is_finite}
 use Rattle.float.specs.Literals.{plus_zero}
-use Rattle.camera_tilt.specs.declared.sensor.ScheimpflugParams.{ScheimpflugParams}
-use Rattle.seed_rules.specs.Rules.{tilts, seed_grid}
-use Rattle.seed_rules.specs.AnyOffsets.{most_seeds}
-use Rattle.seed_rules.specs.Layout.{six}
-use Rattle.seed_rules.specs.Theorem.{Tried}
-use Rattle.score_outcome.specs.declared.Finding.{Finding}
-use Rattle.score_outcome.specs.declared.Finding.TheVariants.{Failed}
-use Rattle.score_outcome.specs.Reasons.{Outcome}
-use Rattle.score_camera.specs.Camera.{tangential_bound}
-use Rattle.score_outcome.specs.Evaluation.{row_checks, finding_refusal}
-use Rattle.score_best.specs.declared.Candidate.{Candidate}
-use Rattle.score_floor.specs.Floor.{seeds_between}
-use Rattle.search_record.specs.declared.run.Run.{Run}
-use Rattle.search_record.specs.Record.{sound}
-use Rattle.search_record.specs.declared.run.Options.{Options}
-use Rattle.search_calls.specs.declared.next.Handed.TheVariants as handed-as
-use Rattle.search_start.specs.Start.{start_reply, start_list}
-use Rattle.search_calls.specs.Next.{next_def}
-use Rattle.search_answer.specs.Answer.{answer_refusal}
-use Rattle.search_calls.specs.Result.{result_def}
-use Rattle.search_calls.specs.Progress.{progress_def}
-use Rattle.search_calls.specs.declared.stop.Outlook.{Outlook}
-use Rattle.search_calls.specs.Stop.{stop_def}
+use Rattle.camera.specs.declared.sensor.ScheimpflugParams.{ScheimpflugParams}
+use Rattle.seeds.specs.Rules.{tilts, seed_grid}
+use Rattle.seeds.specs.AnyOffsets.{most_seeds}
+use Rattle.seeds.specs.Layout.{six}
+use Rattle.seeds.specs.Theorem.{Tried}
+use Rattle.score.specs.declared.outcome.Finding.{Finding}
+use Rattle.score.specs.declared.outcome.Finding.TheVariants.{Failed}
+use Rattle.score.specs.Reasons.{Outcome}
+use Rattle.score.specs.Camera.{tangential_bound}
+use Rattle.score.specs.Evaluation.{row_checks, finding_refusal}
+use Rattle.score.specs.declared.best.Candidate.{Candidate}
+use Rattle.score.specs.Floor.{seeds_between}
+use Rattle.search.specs.declared.run.Run.{Run}
+use Rattle.search.specs.Record.{sound}
+use Rattle.search.specs.declared.run.Options.{Options}
+use Rattle.search.specs.declared.next.Handed.TheVariants as handed-as
+use Rattle.search.specs.Start.{start_reply, start_list}
+use Rattle.search.specs.Next.{next_def}
+use Rattle.search.specs.Answer.{answer_refusal}
+use Rattle.search.specs.Result.{result_def}
+use Rattle.search.specs.Progress.{progress_def}
+use Rattle.search.specs.declared.stop.Outlook.{Outlook}
+use Rattle.search.specs.Stop.{stop_def}
 use Rattle.book.specs.Calls.{Call}
 use Rattle.book.specs.Book.{Inputs, demand, Entry, Book, entries, scored_of, first_list, opened, replies, after}
 use Rattle.book.specs.Conditions.{FirstHolds, NoneHolds, conditions}

@@ -3,15 +3,15 @@
 use Rattle.std.specs.Prelude.{ℕ, ◌<◌, ◌≡◌, List, [], ◌∷◌, ◌++◌, map, eqb, length, get_or, take, Float, Result, Ok, Err}
 use Rattle.std.specs.Float.{nan}
 use Rattle.common.specs.declared.Refusal.{Refusal}
-use Rattle.seed_rules.specs.Merge.{keep}
-use Rattle.seed_rules.specs.Layout.{six}
-use Rattle.score_outcome.specs.Evaluation.{outcome_of}
+use Rattle.seeds.specs.Merge.{keep}
+use Rattle.seeds.specs.Layout.{six}
+use Rattle.score.specs.Evaluation.{outcome_of}
 use Rattle.float.specs.Literals.{plus_zero}
-use Rattle.search_record.specs.declared.run.Run.{Run}
-use Rattle.search_calls.specs.declared.next.Handed.{Handed}
-use Rattle.search_calls.specs.declared.next.Handed.TheVariants.{Candidate, Over}
-use Rattle.search_calls.specs.Next.{next_def, seed_part}
-use Rattle.search_answer.specs.Answer.{answer_refusal}
+use Rattle.search.specs.declared.run.Run.{Run}
+use Rattle.search.specs.declared.next.Handed.{Handed}
+use Rattle.search.specs.declared.next.Handed.TheVariants.{Candidate, Over}
+use Rattle.search.specs.Next.{next_def, seed_part}
+use Rattle.search.specs.Answer.{answer_refusal}
 use Rattle.book.specs.Calls.{Call, next, seed, answer, ask, progress, stop, last, counts}
 use Rattle.book.specs.Book.{Entry}
 use Rattle.book.specs.Walk.{run_call}

@@ -2,24 +2,24 @@
 -- same definitions that the contracts of the entry points name. Definitions only.
 use Rattle.std.specs.Prelude.{List, [], ◌∷◌, ◌++◌, take, drop, Float, Option, Some, None, Result, Ok, Err}
 use Rattle.common.specs.declared.Refusal.{Refusal}
-use Rattle.score_best.specs.declared.Candidate.{Candidate}
-use Rattle.score_best.specs.Best.{Chosen, nothing, chosen}
-use Rattle.search_record.specs.declared.run.Run.{Run}
-use Rattle.search_calls.specs.declared.next.Handed.{Handed}
-use Rattle.search_calls.specs.declared.next.Handed.TheVariants as handed
-use Rattle.search_answer.specs.declared.Answered.{Answered}
-use Rattle.search_answer.specs.declared.Answered.TheVariants as answered
-use Rattle.search_calls.specs.declared.progress.ProgressReply.{ProgressReply}
-use Rattle.search_calls.specs.declared.stop.Outlook.{Outlook}
-use Rattle.search_calls.specs.Next.{next_def, seed_part}
-use Rattle.search_answer.specs.Answer.{answer_def}
-use Rattle.search_calls.specs.Result.{result_def}
-use Rattle.search_calls.specs.Progress.{progress_def}
-use Rattle.search_calls.specs.Stop.{stop_def}
+use Rattle.score.specs.declared.best.Candidate.{Candidate}
+use Rattle.score.specs.Best.{Chosen, nothing, chosen}
+use Rattle.search.specs.declared.run.Run.{Run}
+use Rattle.search.specs.declared.next.Handed.{Handed}
+use Rattle.search.specs.declared.next.Handed.TheVariants as handed
+use Rattle.search.specs.declared.answer.Answered.{Answered}
+use Rattle.search.specs.declared.answer.Answered.TheVariants as answered
+use Rattle.search.specs.declared.progress.ProgressReply.{ProgressReply}
+use Rattle.search.specs.declared.stop.Outlook.{Outlook}
+use Rattle.search.specs.Next.{next_def, seed_part}
+use Rattle.search.specs.Answer.{answer_def}
+use Rattle.search.specs.Result.{result_def}
+use Rattle.search.specs.Progress.{progress_def}
+use Rattle.search.specs.Stop.{stop_def}
 use Rattle.book.specs.Calls.{Call, next, seed, answer, ask, progress, stop, nothing_left, floor, Rest, Reply, candidate, over, part, scored, skipped, result, bar, stopped, refused, last, line, no_line, counts, counted}
-use Rattle.journal_line.specs.declared.Line.{Line}
-use Rattle.search_calls.specs.Last.{last_def}
-use Rattle.search_calls.specs.Counts.{counts_def}
+use Rattle.journal.specs.declared.Line.{Line}
+use Rattle.search.specs.Last.{last_def}
+use Rattle.search.specs.Counts.{counts_def}
 
 -- ---- the entry points' replies
 abbrev pub handed_reply : Result Handed Refusal → Reply

@@ -5,18 +5,18 @@ use Rattle.common.specs.declared.Refusal.{Refusal}
 use Rattle.common.specs.declared.Refusal.TheVariants as refusal
 use lib.ListN.{length-map}
 use Rattle.common.specs.Tests.{case}
-use Rattle.score_best.specs.declared.Candidate.{Candidate}
-use Rattle.score_best.specs.Best.{chosen}
-use Rattle.journal_line.specs.Line.{journal_bytes}
-use Rattle.journal_line.specs.Reading.{ended, refused, Lines, read_journal}
-use Rattle.journal_line.proofs.Whole.{lines_read_to_the_end_were_written}
-use Rattle.journal_replay.specs.declared.WalkEnd.{WalkEnd}
-use Rattle.journal_replay.specs.declared.WalkEnd.TheVariants.{AllTaken, NotALine, NotTheRun}
-use Rattle.journal_replay.specs.declared.Standing.{Standing}
-use Rattle.journal_replay.specs.declared.Standing.TheVariants.{Winner, Unfinished}
-use Rattle.journal_replay.specs.declared.ReplayRefusal.{ReplayRefusal}
-use Rattle.journal_replay.specs.declared.ReplayRefusal.TheVariants.{Refused, At}
-use Rattle.journal_replay.specs.Replay.{of_no_line, reply_by}
+use Rattle.score.specs.declared.best.Candidate.{Candidate}
+use Rattle.score.specs.Best.{chosen}
+use Rattle.journal.specs.Line.{journal_bytes}
+use Rattle.journal.specs.Reading.{ended, refused, Lines, read_journal}
+use Rattle.journal.proofs.Whole.{lines_read_to_the_end_were_written}
+use Rattle.replay.specs.declared.WalkEnd.{WalkEnd}
+use Rattle.replay.specs.declared.WalkEnd.TheVariants.{AllTaken, NotALine, NotTheRun}
+use Rattle.replay.specs.declared.Standing.{Standing}
+use Rattle.replay.specs.declared.Standing.TheVariants.{Winner, Unfinished}
+use Rattle.replay.specs.declared.ReplayRefusal.{ReplayRefusal}
+use Rattle.replay.specs.declared.ReplayRefusal.TheVariants.{Refused, At}
+use Rattle.replay.specs.Replay.{of_no_line, reply_by}
 use Rattle.book.specs.Book.{Inputs, Book, entries, current, run_best_of, line_of}
 use Rattle.book.specs.Conditions.{NoneHolds, conditions}
 use Rattle.book.specs.Theorem.{Wins}

@@ -1,17 +1,17 @@
 -- The writer takes every line of a run, the reader gives the lines back, and walking them leads to the run's book
 -- again. Assumes nothing.
 use Rattle.std.proofs.Common.{ℕ, suc, ◌+◌, ◌≤◌, arith, ◌≡◌, refl, sym, ap, ◌∙◌, true, false, not, List, [], ◌∷◌, ◌++◌, map, append-nil, le-leb, length, length-append, Float, Ok, Err}
-use Rattle.journal_replay.specs.Replay.{of_no_line}
+use Rattle.replay.specs.Replay.{of_no_line}
 use Rattle.common.specs.Each.{All}
-use Rattle.camera_tilt.specs.declared.sensor.ScheimpflugParams.{ScheimpflugParams}
-use Rattle.seed_rules.specs.Layout.{written}
-use Rattle.score_outcome.specs.Reasons.{Outcome}
-use Rattle.journal_line.specs.declared.Line.{Line}
-use Rattle.journal_line.specs.Line.{recordable, writable, Writable, LineFits}
-use Rattle.journal_line.proofs.Whole.{written_journal_is_read}
-use Rattle.journal_line.specs.Outcome.{recorded_as}
-use Rattle.journal_replay.specs.declared.WalkEnd.{WalkEnd}
-use Rattle.journal_replay.specs.declared.WalkEnd.TheVariants.{AllTaken}
+use Rattle.camera.specs.declared.sensor.ScheimpflugParams.{ScheimpflugParams}
+use Rattle.seeds.specs.Layout.{written}
+use Rattle.score.specs.Reasons.{Outcome}
+use Rattle.journal.specs.declared.Line.{Line}
+use Rattle.journal.specs.Line.{recordable, writable, Writable, LineFits}
+use Rattle.journal.proofs.Whole.{written_journal_is_read}
+use Rattle.journal.specs.Outcome.{recorded_as}
+use Rattle.replay.specs.declared.WalkEnd.{WalkEnd}
+use Rattle.replay.specs.declared.WalkEnd.TheVariants.{AllTaken}
 use Rattle.book.specs.Book.{Inputs, Entry, Book, entries, number, current, run_best_of, first_list, opened, book_enter, line_of}
 use Rattle.book.specs.Conditions.{NoneHolds, conditions}
 use Rattle.book.proofs.Moves.{entry, Stands}

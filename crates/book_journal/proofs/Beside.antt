@@ -6,18 +6,18 @@ use lib.ListN.{length-map}
 use Rattle.common.specs.Tests.{case}
 use Rattle.common.specs.All.{all_map}
 use Rattle.common.specs.Each.{All}
-use Rattle.seed_rules.specs.Layout.{written}
-use Rattle.score_outcome.specs.Reasons.{Outcome}
-use Rattle.journal_line.specs.declared.Line.{Line}
-use Rattle.journal_line.specs.Line.{LineFits, Writable}
-use Rattle.journal_line.specs.Reading.{Ending, ended, refused, unread, Lines, read_journal}
-use Rattle.journal_line.proofs.Numbers.{whole_numbered}
-use Rattle.journal_line.proofs.Whole.{whole_stops}
-use Rattle.journal_line.proofs.Fronts.{whole_front}
-use Rattle.journal_line.specs.Outcome.{outcome_in}
-use Rattle.journal_replay.specs.declared.WalkEnd.{WalkEnd}
-use Rattle.journal_replay.specs.declared.WalkEnd.TheVariants.{AllTaken, NotALine, NotTheRun}
-use Rattle.journal_replay.specs.Walk.{walk_end_at}
+use Rattle.seeds.specs.Layout.{written}
+use Rattle.score.specs.Reasons.{Outcome}
+use Rattle.journal.specs.declared.Line.{Line}
+use Rattle.journal.specs.Line.{LineFits, Writable}
+use Rattle.journal.specs.Reading.{Ending, ended, refused, unread, Lines, read_journal}
+use Rattle.journal.proofs.Numbers.{whole_numbered}
+use Rattle.journal.proofs.Whole.{whole_stops}
+use Rattle.journal.proofs.Fronts.{whole_front}
+use Rattle.journal.specs.Outcome.{outcome_in}
+use Rattle.replay.specs.declared.WalkEnd.{WalkEnd}
+use Rattle.replay.specs.declared.WalkEnd.TheVariants.{AllTaken, NotALine, NotTheRun}
+use Rattle.replay.specs.Walk.{walk_end_at}
 use Rattle.book.specs.Book.{Inputs, Entry, Book, entries, number, first_list, opened, book_enter, line_of}
 use Rattle.book.specs.Conditions.{NoneHolds, conditions}
 use Rattle.book.proofs.Moves.{entry, enter_adds_entry as enter-place}

@@ -3,10 +3,10 @@
 use Rattle.std.proofs.Common.{ℕ, ◌+◌, ◌-◌, ◌*◌, ◌≤◌, ◌<◌, arith, ◌≡◌, refl, sym, ap, ◌∙◌, ◌⊎◌, inl, inr, ⊎_elim, false, List, [], ◌∷◌, ◌++◌, eq-eqb, ne_eqb, length, drop, length-append, length-drop, take_at, drop-drop, Float}
 use lib.Seq.{drop-append-add}
 use Rattle.common.specs.Each.{All}
-use Rattle.seed_rules.specs.declared.CandidateSeed.{CandidateSeed}
-use Rattle.seed_rules.specs.Layout.{flat, written}
-use Rattle.seed_rules.specs.LayoutLaws.{flat_length}
-use Rattle.score_outcome.specs.Reasons.{Outcome}
+use Rattle.seeds.specs.declared.CandidateSeed.{CandidateSeed}
+use Rattle.seeds.specs.Layout.{flat, written}
+use Rattle.seeds.specs.LayoutLaws.{flat_length}
+use Rattle.score.specs.Reasons.{Outcome}
 use Rattle.book.specs.Calls.{Call}
 use Rattle.book.specs.Book.{Inputs, demand, Entry, Book, entries, current, first_list, opened, with_waiting, with_entry, with_round, with_end, book_enter, BookLeft as Answer, book_call, after}
 use Rattle.book.specs.Conditions.{NoneHolds, conditions}
@@ -20,7 +20,7 @@ use Rattle.book_journal.proofs.Standing.{following_line_is_of_entry}
 use Rattle.book_journal.proofs.Walk.{walked_keeps, walked_ignores_list}
 use Rattle.book_journal.proofs.Kept.{Trail, GoodTrail, enter_at_rest, opened_book_has_trail, opening_book_has_trail, enter_keeps_trail, taken_line_keeps_trail, calls_keep_trail}
 use Rattle.book_journal.proofs.Again.{list_along, history_sound, walked_again, replayed_standing, replayed_list}
-use Rattle.journal_line.specs.Outcome.{outcome_in}
+use Rattle.journal.specs.Outcome.{outcome_in}
 
 -- ---- entering an outcome: the round and its list stay, or a later round opens
 abbrev Moved : Book → Book → Type 0

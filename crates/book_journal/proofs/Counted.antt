@@ -5,13 +5,13 @@ use Rattle.common.specs.declared.Refusal.{Refusal}
 use mathlib.Core.List.{map-append}
 use Rattle.common.specs.Tests.{case}
 use Rattle.common.specs.Each.{All}
-use Rattle.score_outcome.specs.Reasons.{Outcome}
-use Rattle.score_outcome.specs.Evaluation.{finding_refusal, outcome_of}
-use Rattle.journal_line.specs.Counts.{Kind, kind_of, one_if_of_kind, count_in, counts_in}
-use Rattle.journal_line.proofs.CountLaws.{count_snoc}
-use Rattle.journal_line.specs.Reading.{Lines}
-use Rattle.journal_line.specs.Outcome.{recorded_as}
-use Rattle.journal_line.specs.Report.{total}
+use Rattle.score.specs.Reasons.{Outcome}
+use Rattle.score.specs.Evaluation.{finding_refusal, outcome_of}
+use Rattle.journal.specs.Counts.{Kind, kind_of, one_if_of_kind, count_in, counts_in}
+use Rattle.journal.proofs.CountLaws.{count_snoc}
+use Rattle.journal.specs.Reading.{Lines}
+use Rattle.journal.specs.Outcome.{recorded_as}
+use Rattle.journal.specs.Report.{total}
 use Rattle.book.specs.Calls.{Call, next, seed, answer, ask, Reply, candidate, over, refused, progress, stop, last, counts, counted}
 use Rattle.book.specs.Book.{Inputs, demand, Book, entries, number, current, run_best_of, opened, with_waiting, book_enter, BookLeft as Answer, book_next, book_seed, book_answer, book_result, book_progress, book_stop, book_last, last_of, tally, book_counts, book_call, reply_to, replies, after, line_of}
 use Rattle.book.proofs.Cases.{case_result, case_chosen, case_option}

@@ -6,20 +6,20 @@ use lib.ListN.{length-map}
 use lib.Seq.{take-append_seam, drop-append_seam}
 use Rattle.common.specs.All.{all_right}
 use Rattle.common.specs.Each.{All}
-use Rattle.seed_rules.specs.Layout.{written}
-use Rattle.journal_line.specs.declared.Line.{Line}
-use Rattle.journal_line.specs.Line.{line_bytes, LineFits, Writable, journal_bytes}
-use Rattle.journal_line.specs.Reading.{newlines, Lines, read_journal}
-use Rattle.journal_line.proofs.Numbers.{newlines_append}
-use Rattle.journal_line.proofs.Whole.{lines_read_to_the_end_were_written}
-use Rattle.journal_line.specs.Theorem.{NoLine}
-use Rattle.journal_line.proofs.Fronts.{whole_front, whole_rest_has_no_line, front_lines_read_back, front_ended, no_newline_no_line, Cut, cut_journal_is_lines_and_part, journal_bytes_append}
-use Rattle.journal_replay.specs.declared.WalkEnd.{WalkEnd}
-use Rattle.journal_replay.specs.declared.WalkEnd.TheVariants.{AllTaken, NotALine, NotTheRun}
-use Rattle.journal_replay.specs.declared.EndedBy.TheVariants as by
-use Rattle.journal_replay.specs.declared.KeptLines.{KeptLines}
-use Rattle.journal_replay.specs.Walk.{walk_end_at}
-use Rattle.journal_replay.specs.Resume.{is_cut_line, ended_by_of}
+use Rattle.seeds.specs.Layout.{written}
+use Rattle.journal.specs.declared.Line.{Line}
+use Rattle.journal.specs.Line.{line_bytes, LineFits, Writable, journal_bytes}
+use Rattle.journal.specs.Reading.{newlines, Lines, read_journal}
+use Rattle.journal.proofs.Numbers.{newlines_append}
+use Rattle.journal.proofs.Whole.{lines_read_to_the_end_were_written}
+use Rattle.journal.specs.Theorem.{NoLine}
+use Rattle.journal.proofs.Fronts.{whole_front, whole_rest_has_no_line, front_lines_read_back, front_ended, no_newline_no_line, Cut, cut_journal_is_lines_and_part, journal_bytes_append}
+use Rattle.replay.specs.declared.WalkEnd.{WalkEnd}
+use Rattle.replay.specs.declared.WalkEnd.TheVariants.{AllTaken, NotALine, NotTheRun}
+use Rattle.replay.specs.declared.EndedBy.TheVariants as by
+use Rattle.replay.specs.declared.KeptLines.{KeptLines}
+use Rattle.replay.specs.Walk.{walk_end_at}
+use Rattle.replay.specs.Resume.{is_cut_line, ended_by_of}
 use Rattle.book.specs.Book.{Inputs, Entry, Book, entries, first_list, opened, book_enter, line_of}
 use Rattle.book.specs.Conditions.{NoneHolds, conditions}
 use Rattle.book.proofs.Cases.{case_result}

@@ -4,17 +4,17 @@ use Rattle.std.proofs.Common.{ℕ, zero, suc, ◌+◌, ◌≤◌, arith, ◌≡�
 use lib.Seq.{take-append_seam}
 use Rattle.common.specs.Tests.{case}
 use Rattle.common.specs.Each.{All}
-use Rattle.seed_rules.specs.Layout.{written}
-use Rattle.journal_line.specs.declared.Line.{Line}
-use Rattle.journal_line.specs.Line.{line_bytes, journal_bytes}
-use Rattle.journal_line.specs.Reading.{line_number_of, ended, read_journal}
-use Rattle.journal_line.proofs.Whole.{written_journal_is_read, lines_read_to_the_end_were_written}
-use Rattle.journal_line.proofs.Fronts.{whole_front, front_read_first, journal_bytes_append}
-use Rattle.journal_line.proofs.Numbers.{line_number_behind_lines}
-use Rattle.journal_line.specs.Outcome.{outcome_in}
-use Rattle.journal_replay.specs.declared.WalkEnd.{WalkEnd}
-use Rattle.journal_replay.specs.declared.WalkEnd.TheVariants.{AllTaken}
-use Rattle.journal_replay.specs.Walk.{walk_end_at}
+use Rattle.seeds.specs.Layout.{written}
+use Rattle.journal.specs.declared.Line.{Line}
+use Rattle.journal.specs.Line.{line_bytes, journal_bytes}
+use Rattle.journal.specs.Reading.{line_number_of, ended, read_journal}
+use Rattle.journal.proofs.Whole.{written_journal_is_read, lines_read_to_the_end_were_written}
+use Rattle.journal.proofs.Fronts.{whole_front, front_read_first, journal_bytes_append}
+use Rattle.journal.proofs.Numbers.{line_number_behind_lines}
+use Rattle.journal.specs.Outcome.{outcome_in}
+use Rattle.replay.specs.declared.WalkEnd.{WalkEnd}
+use Rattle.replay.specs.declared.WalkEnd.TheVariants.{AllTaken}
+use Rattle.replay.specs.Walk.{walk_end_at}
 use Rattle.book.specs.Book.{Inputs, Book, first_list, opened, book_enter}
 use Rattle.book_journal.specs.Replay.{follows, Walked, buffer_after, walk_from, walked}
 use Rattle.book_journal.specs.ReplayLaw.{kept_bytes, FrontAlone}

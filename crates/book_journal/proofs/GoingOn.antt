@@ -6,9 +6,9 @@ use borrow.Author.Tests.{eqb-false}
 use lib.ListN.{length-map}
 use Rattle.common.specs.Tests.{case}
 use Rattle.common.specs.Each.{All}
-use Rattle.journal_line.specs.declared.Line.{Line}
-use Rattle.journal_line.specs.Line.{journal_bytes}
-use Rattle.journal_line.proofs.Fronts.{journal_bytes_append}
+use Rattle.journal.specs.declared.Line.{Line}
+use Rattle.journal.specs.Line.{journal_bytes}
+use Rattle.journal.proofs.Fronts.{journal_bytes_append}
 use Rattle.book.specs.Calls.{Call, next}
 use Rattle.book.specs.Book.{Inputs, demand, Entry, Book, entries, number, opened, with_waiting, book_enter, BookLeft as Answer, book_next, book_call, replies, after, line_of}
 use Rattle.book.proofs.Moves.{entered_by, Moves, stays, hands, enters, call_moves, call_adds_entries, calls_keep}

@@ -13,30 +13,30 @@ use Rattle.common.specs.Each.{All}
 use Rattle.float.specs.Binary64.{◌+₆₄◌, ◌/₆₄◌}
 use Rattle.float.specs.Float.{clamp_of}
 use Rattle.float.specs.Literals.{infinity}
-use Rattle.camera_models.specs.declared.math.Pt2.{Pt2}
-use Rattle.camera_models.specs.declared.intrinsics.FxFyCxCy.{FxFyCxCy}
-use Rattle.camera_tilt.specs.declared.sensor.ScheimpflugParams.{ScheimpflugParams}
-use Rattle.seed_rules.specs.declared.CandidateSeed.{CandidateSeed}
-use Rattle.seed_rules.specs.Rules.{tilts, seed_with}
-use Rattle.seed_rules.specs.Layout.{read_from, six, seed_at, all_seeds}
-use Rattle.seed_rules.proofs.Facts.{initial_list_all, next_list_all}
-use Rattle.score_camera.specs.declared.pinhole.PinholeCamera.{PinholeCamera}
-use Rattle.score_camera.specs.Camera.{tangential_bound, damped, damped_camera}
-use Rattle.score_rows.specs.declared.ErrorSum.{ErrorSum}
-use Rattle.score_rows.specs.Rows.{mean_of}
-use Rattle.score_outcome.specs.declared.SolvedCamera.{SolvedCamera}
-use Rattle.score_outcome.specs.declared.Finding.{Finding}
-use Rattle.score_outcome.specs.declared.Finding.TheVariants.{Failed, Solved}
-use Rattle.score_outcome.specs.declared.Scoring.{Scoring}
-use Rattle.score_outcome.specs.Reasons.{Outcome}
-use Rattle.score_outcome.specs.Evaluation.{solved_at, mean_with, scoring_of, evaluated, outcome_of, finding_refusal}
-use Rattle.score_outcome.proofs.Outcomes.{scored_passed_tests}
-use Rattle.score_best.specs.declared.Candidate.{Candidate}
-use Rattle.score_best.specs.Best.{Chosen, nothing, chosen, best_of}
-use Rattle.score_best.proofs.Order.{chosen_is_best}
-use Rattle.journal_line.specs.declared.Line.{Line}
-use Rattle.journal_line.specs.Line.{Fits, recorded_numbers, LineFits}
-use Rattle.journal_line.specs.Outcome.{recorded_as, outcome_in}
+use Rattle.camera.specs.declared.math.Pt2.{Pt2}
+use Rattle.camera.specs.declared.intrinsics.FxFyCxCy.{FxFyCxCy}
+use Rattle.camera.specs.declared.sensor.ScheimpflugParams.{ScheimpflugParams}
+use Rattle.seeds.specs.declared.CandidateSeed.{CandidateSeed}
+use Rattle.seeds.specs.Rules.{tilts, seed_with}
+use Rattle.seeds.specs.Layout.{read_from, six, seed_at, all_seeds}
+use Rattle.seeds.proofs.Facts.{initial_list_all, next_list_all}
+use Rattle.score.specs.declared.pinhole.PinholeCamera.{PinholeCamera}
+use Rattle.score.specs.Camera.{tangential_bound, damped, damped_camera}
+use Rattle.score.specs.declared.errors.ErrorSum.{ErrorSum}
+use Rattle.score.specs.Rows.{mean_of}
+use Rattle.score.specs.declared.outcome.SolvedCamera.{SolvedCamera}
+use Rattle.score.specs.declared.outcome.Finding.{Finding}
+use Rattle.score.specs.declared.outcome.Finding.TheVariants.{Failed, Solved}
+use Rattle.score.specs.declared.outcome.Scoring.{Scoring}
+use Rattle.score.specs.Reasons.{Outcome}
+use Rattle.score.specs.Evaluation.{solved_at, mean_with, scoring_of, evaluated, outcome_of, finding_refusal}
+use Rattle.score.proofs.Outcomes.{scored_passed_tests}
+use Rattle.score.specs.declared.best.Candidate.{Candidate}
+use Rattle.score.specs.Best.{Chosen, nothing, chosen, best_of}
+use Rattle.score.proofs.Order.{chosen_is_best}
+use Rattle.journal.specs.declared.Line.{Line}
+use Rattle.journal.specs.Line.{Fits, recorded_numbers, LineFits}
+use Rattle.journal.specs.Outcome.{recorded_as, outcome_in}
 use Rattle.book.specs.Calls.{Call, next, seed, answer, ask, progress, stop, last, counts}
 use Rattle.book.specs.Book.{Inputs, demand, Entry, Book, entries, no_seed, current, scored_of, round_best_of, run_best_of, or_else, first_list, list_around, opened, with_waiting, with_entry, with_round, with_end, book_enter, BookLeft, book_call, after}
 use Rattle.book.proofs.Cases.{case_result}

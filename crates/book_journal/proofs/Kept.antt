@@ -2,10 +2,10 @@
 -- the book's entries, entered one after the other in the book that Start opens, lead to it, each as it could be entered
 -- there. It doesn't need the numbers to be those of binary64. Assumes nothing.
 use Rattle.std.proofs.Common.{ℕ, ◌≡◌, refl, sym, ap, ◌∙◌, Bool, true, false, List, [], ◌∷◌, ◌++◌, append_assoc, append-nil, Float}
-use Rattle.score_outcome.specs.Reasons.{Outcome}
-use Rattle.journal_line.specs.declared.Line.{Line}
-use Rattle.journal_line.specs.Line.{LineFits, Writable}
-use Rattle.journal_line.specs.Outcome.{outcome_in}
+use Rattle.score.specs.Reasons.{Outcome}
+use Rattle.journal.specs.declared.Line.{Line}
+use Rattle.journal.specs.Line.{LineFits, Writable}
+use Rattle.journal.specs.Outcome.{outcome_in}
 use Rattle.book.specs.Calls.{Call}
 use Rattle.book.specs.Book.{Inputs, Entry, Book, entries, current, opened, with_waiting, with_entry, book_enter, book_call, after}
 use Rattle.book.specs.Conditions.{NoneHolds, conditions}

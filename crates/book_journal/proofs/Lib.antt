@@ -17,3 +17,7 @@ pub mod Written
 pub mod Reported
 pub mod Theorem
 pub mod Worked
+pub mod Lines
+pub mod Bytes
+pub mod File
+pub mod Replayed

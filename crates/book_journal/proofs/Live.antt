@@ -5,15 +5,15 @@ use borrow.Author.Tests.{eqb-false}
 use lib.Seq.{drop-append-le}
 use Rattle.common.specs.Tests.{case}
 use Rattle.common.specs.Each.{All}
-use Rattle.seed_rules.specs.declared.CandidateSeed.{CandidateSeed}
-use Rattle.seed_rules.specs.Layout.{laid, flat, written}
-use Rattle.score_outcome.specs.declared.Finding.{Finding}
-use Rattle.score_outcome.specs.Reasons.{Outcome}
-use Rattle.score_outcome.specs.Evaluation.{finding_refusal}
-use Rattle.score_best.specs.Best.{no_best}
-use Rattle.search_record.specs.declared.run.Run.{Run}
-use Rattle.search_answer.specs.Answer as ans
-use Rattle.search_answer.specs.AnswerLaws.{answer_refused, answer_enters}
+use Rattle.seeds.specs.declared.CandidateSeed.{CandidateSeed}
+use Rattle.seeds.specs.Layout.{laid, flat, written}
+use Rattle.score.specs.declared.outcome.Finding.{Finding}
+use Rattle.score.specs.Reasons.{Outcome}
+use Rattle.score.specs.Evaluation.{finding_refusal}
+use Rattle.score.specs.Best.{no_best}
+use Rattle.search.specs.declared.run.Run.{Run}
+use Rattle.search.specs.Answer as ans
+use Rattle.search.specs.AnswerLaws.{answer_refused, answer_enters}
 use Rattle.common.specs.declared.Refusal.{Refusal}
 use Rattle.common.specs.declared.Refusal.TheVariants.{ListShortened, NoSeedWaiting}
 use Rattle.book.specs.Calls.{Call, next, seed, answer, ask, progress, stop, last, counts}

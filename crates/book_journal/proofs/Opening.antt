@@ -4,7 +4,7 @@ use lib.ListN.{length-replicate}
 use Rattle.common.specs.Tests.{case}
 use Rattle.common.specs.Checks.{Check}
 use Rattle.float.specs.Literals.{plus_zero}
-use Rattle.search_start.specs.Start.{start_checks}
+use Rattle.search.specs.Start.{start_checks}
 use Rattle.book.specs.Book.{Inputs, demand, opened}
 use Rattle.book.specs.Conditions.{NoneHolds, conditions}
 use Rattle.book.specs.Theorem.{options_of}

@@ -4,12 +4,12 @@ use Rattle.std.proofs.Common.{ℕ, ◌≤◌, arith, ◌≡◌, refl, sym, ap, �
 use lib.ListN.{length-replicate}
 use lib.Seq.{take-append_seam}
 use Rattle.common.specs.Each.{All}
-use Rattle.journal_line.specs.declared.Counts.{Counts}
-use Rattle.journal_line.specs.Counts.{counts_in}
-use Rattle.journal_line.specs.Reading.{read_journal, Lines}
-use Rattle.journal_line.specs.Report.{total, report_bytes, refuses_report, report_reply, report_into}
-use Rattle.search_record.specs.declared.run.Run.{Run}
-use Rattle.search_calls.specs.Counts.{counts_def}
+use Rattle.journal.specs.declared.Counts.{Counts}
+use Rattle.journal.specs.Counts.{counts_in}
+use Rattle.journal.specs.Reading.{read_journal, Lines}
+use Rattle.journal.specs.Report.{total, report_bytes, refuses_report, report_reply, report_into}
+use Rattle.search.specs.declared.run.Run.{Run}
+use Rattle.search.specs.Counts.{counts_def}
 use Rattle.book.specs.Calls.{Call}
 use Rattle.book.specs.Book.{Inputs, Book, entries, opened, tally, after}
 use Rattle.book.specs.Trace.{run_after}

@@ -11,23 +11,23 @@ use Rattle.float.specs.Binary64.{◌+₆₄◌}
 use Rattle.float.specs.Float.{bits_of, is_finite, within}
 use Rattle.float.specs.Bits.{reading_bits_gives_value}
 use Rattle.float.specs.Literals.{plus_zero}
-use Rattle.camera_models.specs.declared.math.Pt2.{Pt2}
-use Rattle.camera_tilt.specs.declared.sensor.ScheimpflugParams.{ScheimpflugParams}
-use Rattle.seed_rules.specs.declared.CandidateSeed.{CandidateSeed}
-use Rattle.seed_rules.specs.Layout.{six, seed_at}
-use Rattle.score_camera.specs.declared.pinhole.PinholeCamera.{PinholeCamera}
-use Rattle.score_camera.specs.Camera.{tangential_bound, valid_camera}
-use Rattle.score_camera.specs.Penalties.{distortion_penalty, tilt_penalty, centre_penalty, score_of}
-use Rattle.score_outcome.specs.declared.Scoring.{Scoring}
-use Rattle.score_outcome.specs.Reasons.{Outcome}
-use Rattle.score_outcome.specs.Facts.{ScoredFacts}
-use Rattle.score_outcome.proofs.Facts.{valid_numbers}
-use Rattle.journal_line.specs.declared.ScoredFields.{ScoredFields}
-use Rattle.journal_line.specs.Outcome.{Recorded}
-use Rattle.journal_line.specs.declared.Line.{Line}
-use Rattle.journal_line.specs.Line.{recordable, writable, Writable, Fits, recorded_numbers, LineFits}
-use Rattle.journal_line.specs.Outcome.{fields_of, recorded_as, scoring_in, outcome_in}
-use Rattle.journal_replay.specs.Stand.{same_real, same_reals, is_mean, can_be_scored, can_stand}
+use Rattle.camera.specs.declared.math.Pt2.{Pt2}
+use Rattle.camera.specs.declared.sensor.ScheimpflugParams.{ScheimpflugParams}
+use Rattle.seeds.specs.declared.CandidateSeed.{CandidateSeed}
+use Rattle.seeds.specs.Layout.{six, seed_at}
+use Rattle.score.specs.declared.pinhole.PinholeCamera.{PinholeCamera}
+use Rattle.score.specs.Camera.{tangential_bound, valid_camera}
+use Rattle.score.specs.Penalties.{distortion_penalty, tilt_penalty, centre_penalty, score_of}
+use Rattle.score.specs.declared.outcome.Scoring.{Scoring}
+use Rattle.score.specs.Reasons.{Outcome}
+use Rattle.score.specs.Facts.{ScoredFacts}
+use Rattle.score.proofs.Facts.{valid_numbers}
+use Rattle.journal.specs.declared.ScoredFields.{ScoredFields}
+use Rattle.journal.specs.Outcome.{Recorded}
+use Rattle.journal.specs.declared.Line.{Line}
+use Rattle.journal.specs.Line.{recordable, writable, Writable, Fits, recorded_numbers, LineFits}
+use Rattle.journal.specs.Outcome.{fields_of, recorded_as, scoring_in, outcome_in}
+use Rattle.replay.specs.Stand.{same_real, same_reals, is_mean, can_be_scored, can_stand}
 use Rattle.book.specs.Book.{Inputs, Book, number, current, line_of}
 use Rattle.book.proofs.Moves.{entry, Stands}
 use Rattle.book_journal.specs.Replay.{follows}

@@ -4,15 +4,15 @@ use Rattle.std.proofs.Common.{◌≡◌, refl, sym, ap, ◌∙◌, List, [], ◌
 use mathlib.Core.List.{flat_map}
 use Rattle.common.specs.Each.{All}
 use Rattle.common.specs.Results.{ok_values_equal}
-use Rattle.score_outcome.specs.declared.Scoring.{Scoring}
-use Rattle.score_best.specs.declared.Candidate.{Candidate}
-use Rattle.score_best.specs.Best.{Chosen, best_of, candidate_of}
-use Rattle.score_best.specs.Winners.{winner_of, joined}
-use Rattle.score_best.proofs.WinnerLaws as law
-use Rattle.journal_line.specs.Outcome.{Recorded}
-use Rattle.journal_line.specs.declared.Line.{Line}
-use Rattle.journal_line.specs.Reading.{Lines, read_journal}
-use Rattle.journal_line.specs.Outcome.{fields_of, scoring_in}
+use Rattle.score.specs.declared.outcome.Scoring.{Scoring}
+use Rattle.score.specs.declared.best.Candidate.{Candidate}
+use Rattle.score.specs.Best.{Chosen, best_of, candidate_of}
+use Rattle.score.specs.Winners.{winner_of, joined}
+use Rattle.score.proofs.WinnerLaws as law
+use Rattle.journal.specs.Outcome.{Recorded}
+use Rattle.journal.specs.declared.Line.{Line}
+use Rattle.journal.specs.Reading.{Lines, read_journal}
+use Rattle.journal.specs.Outcome.{fields_of, scoring_in}
 use Rattle.book.specs.Book.{Inputs, Entry, Book, entries, scored_of, run_best_of, line_of}
 use Rattle.book.proofs.Cases.{case_result}
 use Rattle.book.proofs.Simulation.{scored_of_append}

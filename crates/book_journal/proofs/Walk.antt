@@ -3,15 +3,15 @@
 use Rattle.std.proofs.Common.{ℕ, suc, ◌≡◌, refl, true, false, List, [], ◌∷◌, Float}
 use Rattle.common.specs.Tests.{case}
 use Rattle.common.specs.Each.{All}
-use Rattle.seed_rules.specs.Layout.{written}
-use Rattle.journal_line.specs.declared.Line.{Line}
-use Rattle.journal_line.specs.Line.{LineFits, Writable}
-use Rattle.journal_line.specs.Reading.{read_journal}
-use Rattle.journal_line.proofs.Fronts.{whole_front}
-use Rattle.journal_line.specs.Outcome.{outcome_in}
-use Rattle.journal_replay.specs.declared.WalkEnd.{WalkEnd}
-use Rattle.journal_replay.specs.declared.WalkEnd.TheVariants.{NotTheRun}
-use Rattle.journal_replay.specs.Walk.{walk_end_at}
+use Rattle.seeds.specs.Layout.{written}
+use Rattle.journal.specs.declared.Line.{Line}
+use Rattle.journal.specs.Line.{LineFits, Writable}
+use Rattle.journal.specs.Reading.{read_journal}
+use Rattle.journal.proofs.Fronts.{whole_front}
+use Rattle.journal.specs.Outcome.{outcome_in}
+use Rattle.replay.specs.declared.WalkEnd.{WalkEnd}
+use Rattle.replay.specs.declared.WalkEnd.TheVariants.{NotTheRun}
+use Rattle.replay.specs.Walk.{walk_end_at}
 use Rattle.book.specs.Book.{Inputs, Book, first_list, opened, book_enter}
 use Rattle.book_journal.specs.Replay.{follows, Walked, buffer_after, walk_from, walked}
 

@@ -3,17 +3,17 @@ use Rattle.std.specs.Prelude.{refl}
 use Rattle.std.specs.Float.Ieee.{of_bits, to_bits, of_fields, of_int, add, sub, mul, div, neg, lt, le, eq, is_nan, sum, round, units, odd, size, span, climb}
 use Rattle.common.specs.Each.{every}
 use Rattle.float.specs.Float.{bits_of, abs_of, is_finite, min_of, max_of, within}
-use Rattle.seed_rules.specs.Merge.{keep, has_near, push, merged_into}
-use Rattle.seed_rules.specs.Rules.{closer, tilt_near, camera_near, near, in_bound, pairs, seed_grid, initial_list, offsets, y_offsets, next_list}
-use Rattle.seed_rules.specs.Layout.{laid, read_from}
-use Rattle.score_camera.specs.Camera.{finite_intrinsics, finite_distortion, valid_camera}
-use Rattle.score_camera.specs.Penalties.{distortion_penalty, tilt_penalty, centre_penalty, score_of}
-use Rattle.score_best.specs.Best.{beats, unbeaten, first_unbeaten, best_of}
-use Rattle.search_start.specs.Start.{good_seed, too_many, demand_of}
-use Rattle.journal_line.specs.Line.{digit_byte, digits, decimal_width, decimal, real, reason_letter, outcome_fields, rest_of_line, line_bytes, recordable, writable, journal_bytes}
-use Rattle.journal_line.specs.Reading.{digit_of, number_at, decimal_width_at, real_at, reals, reason_of, outcome_at, from_round, from_seed, unchecked_line, begins, of_form, newlines, read_line, goes_on, read_all}
-use Rattle.journal_replay.specs.Stand.{same_real, same_reals, is_mean, can_be_scored}
-use Rattle.journal_replay.specs.Resume.{ended_by_of}
+use Rattle.seeds.specs.Merge.{keep, has_near, push, merged_into}
+use Rattle.seeds.specs.Rules.{closer, tilt_near, camera_near, near, in_bound, pairs, seed_grid, initial_list, offsets, y_offsets, next_list}
+use Rattle.seeds.specs.Layout.{laid, read_from}
+use Rattle.score.specs.Camera.{finite_intrinsics, finite_distortion, valid_camera}
+use Rattle.score.specs.Penalties.{distortion_penalty, tilt_penalty, centre_penalty, score_of}
+use Rattle.score.specs.Best.{beats, unbeaten, first_unbeaten, best_of}
+use Rattle.search.specs.Start.{good_seed, too_many, demand_of}
+use Rattle.journal.specs.Line.{digit_byte, digits, decimal_width, decimal, real, reason_letter, outcome_fields, rest_of_line, line_bytes, recordable, writable, journal_bytes}
+use Rattle.journal.specs.Reading.{digit_of, number_at, decimal_width_at, real_at, reals, reason_of, outcome_at, from_round, from_seed, unchecked_line, begins, of_form, newlines, read_line, goes_on, read_all}
+use Rattle.replay.specs.Stand.{same_real, same_reals, is_mean, can_be_scored}
+use Rattle.replay.specs.Resume.{ended_by_of}
 use Rattle.book.specs.Book.{demand, step_of, scored_of, round_best_of, run_best_of, first_list, list_around, opened, with_entry, with_round, with_end, close_round, book_enter}
 use Rattle.book_journal.specs.Replay.{start_refused, follows, buffer_after, walk_from, walked, standing, replay_of}
 use Rattle.book_journal.specs.Resume.{kept_lines_of}

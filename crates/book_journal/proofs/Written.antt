@@ -3,13 +3,13 @@ use Rattle.std.proofs.Common.{ℕ, arith, ◌≡◌, sym, ap, subst, ◌∙◌, 
 use mathlib.Core.Option.{some}
 use lib.ListN.{length-replicate}
 use lib.Seq.{take-append_seam}
-use Rattle.score_outcome.specs.Reasons.{Outcome}
-use Rattle.journal_line.specs.declared.Line.{Line}
-use Rattle.journal_line.specs.Line.{line_bytes, Writable, journal_bytes}
-use Rattle.journal_line.specs.Writing.{refuses_line, write_reply, write_into}
-use Rattle.journal_line.proofs.Fronts.{journal_bytes_append}
-use Rattle.search_record.specs.declared.run.Run.{Run}
-use Rattle.search_calls.specs.Last.{last_def}
+use Rattle.score.specs.Reasons.{Outcome}
+use Rattle.journal.specs.declared.Line.{Line}
+use Rattle.journal.specs.Line.{line_bytes, Writable, journal_bytes}
+use Rattle.journal.specs.Writing.{refuses_line, write_reply, write_into}
+use Rattle.journal.proofs.Fronts.{journal_bytes_append}
+use Rattle.search.specs.declared.run.Run.{Run}
+use Rattle.search.specs.Last.{last_def}
 use Rattle.book.specs.Calls.{Call}
 use Rattle.book.specs.Book.{Inputs, Book, entries, current, line_of, last_of, opened, book_enter, BookLeft as Answer, book_call, after}
 use Rattle.book.specs.Walk.{run_call}

@@ -3,9 +3,9 @@
 -- only.
 use Rattle.std.specs.Prelude.{ℕ, ◌+◌, ◌≤◌, ◌≡◌, cond, List, [], ◌∷◌, Some, None}
 use Rattle.common.specs.declared.Refusal.{Refusal}
-use Rattle.journal_line.specs.Counts.{Kind, one_if_of_kind, count_in, counts_in}
-use Rattle.journal_line.specs.Reading.{read_journal}
-use Rattle.journal_line.specs.Report.{total}
+use Rattle.journal.specs.Counts.{Kind, one_if_of_kind, count_in, counts_in}
+use Rattle.journal.specs.Reading.{read_journal}
+use Rattle.journal.specs.Report.{total}
 use Rattle.book.specs.Calls.{Call, Reply, candidate, over, part, scored, skipped, result, bar, stopped, line, no_line, refused, counts, counted}
 use Rattle.book.specs.Book.{Inputs, number, book_call, replies}
 use Rattle.book_journal.specs.Lines.{lines_of, journal_of}

@@ -1,14 +1,14 @@
 -- How a run opens, by Start or by Resume, and its histories: an opening and any calls after it. Definitions only.
 use Rattle.std.specs.Prelude.{ℕ, false, List, [], ◌∷◌, ◌++◌, Float}
 use Rattle.common.specs.Each.{All}
-use Rattle.camera_models.specs.declared.intrinsics.FxFyCxCy.{FxFyCxCy}
-use Rattle.score_outcome.specs.declared.Finding.{Finding}
-use Rattle.score_outcome.specs.declared.Finding.TheVariants.{Failed, Solved}
-use Rattle.journal_line.specs.Line.{Fits}
+use Rattle.camera.specs.declared.intrinsics.FxFyCxCy.{FxFyCxCy}
+use Rattle.score.specs.declared.outcome.Finding.{Finding}
+use Rattle.score.specs.declared.outcome.Finding.TheVariants.{Failed, Solved}
+use Rattle.journal.specs.Line.{Fits}
 use Rattle.book.specs.Calls.{Call, next, seed, answer, ask, progress, stop, last, counts}
 use Rattle.book.specs.Book.{Inputs, Entry, Book, first_list, opened, book_enter, book_call, after}
 use Rattle.book.specs.Conditions.{NoneHolds, conditions}
-use Rattle.seed_rules.specs.Layout.{written}
+use Rattle.seeds.specs.Layout.{written}
 use Rattle.book_journal.specs.Replay.{buffer_after, walked}
 
 -- ---- Start's book, or the book in which the kept lines' outcomes were entered; which list is lent makes no difference

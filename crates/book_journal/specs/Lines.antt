@@ -1,7 +1,7 @@
 -- The journal of a run: the lines of a book, and their bytes (docs/SPECIFICATION.md, 8.4). Definitions only.
 use Rattle.std.specs.Prelude.{ℕ, List, map}
-use Rattle.journal_line.specs.declared.Line.{Line}
-use Rattle.journal_line.specs.Line.{journal_bytes}
+use Rattle.journal.specs.declared.Line.{Line}
+use Rattle.journal.specs.Line.{journal_bytes}
 use Rattle.book.specs.Book.{Book, entries, line_of}
 
 -- one line for each entry, in order

@@ -1,7 +1,7 @@
 -- What ties the reference model to the run's record and the lent list: the list that a live run leaves, and the runs
 -- that Resume gives back, as types. Definitions only.
 use Rattle.std.specs.Prelude.{◌≡◌, List, Float, Ok}
-use Rattle.search_record.specs.declared.run.Run.{Run}
+use Rattle.search.specs.declared.run.Run.{Run}
 use Rattle.book.specs.Calls.{Call}
 use Rattle.book.specs.Book.{Inputs, Book, entries, number, opened, after}
 use Rattle.book.specs.Trace.{list_after}

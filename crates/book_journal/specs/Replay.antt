@@ -4,22 +4,22 @@
 use Rattle.std.specs.Prelude.{ℕ, suc, Bool, true, false, not, ◌&&◌, cond, List, [], ◌∷◌, eqb, length, take, Float, Result, Ok, Err, ⊤}
 use Rattle.common.specs.declared.Refusal.{Refusal}
 use Rattle.common.specs.declared.Refusal.TheVariants.{NothingScored}
-use Rattle.seed_rules.specs.Layout.{six, written}
-use Rattle.score_best.specs.Best.{Chosen, nothing, chosen}
-use Rattle.search_start.specs.Start.{start_refusal}
-use Rattle.journal_line.specs.declared.Line.{Line}
-use Rattle.journal_line.specs.Line.{journal_bytes}
-use Rattle.journal_line.specs.Outcome.{outcome_in}
-use Rattle.journal_line.specs.Reading.{read_journal}
-use Rattle.journal_replay.specs.declared.WalkEnd.{WalkEnd}
-use Rattle.journal_replay.specs.declared.WalkEnd.TheVariants.{NotTheRun}
-use Rattle.journal_replay.specs.declared.Standing.{Standing}
-use Rattle.journal_replay.specs.declared.Standing.TheVariants.{Winner, Unfinished}
-use Rattle.journal_replay.specs.declared.ReplayRefusal.{ReplayRefusal}
-use Rattle.journal_replay.specs.declared.ReplayRefusal.TheVariants.{Refused}
-use Rattle.journal_replay.specs.Stand.{same_reals, can_stand}
-use Rattle.journal_replay.specs.Walk.{walk_end_at}
-use Rattle.journal_replay.specs.Replay.{reply_by, ReplayLeft}
+use Rattle.seeds.specs.Layout.{six, written}
+use Rattle.score.specs.Best.{Chosen, nothing, chosen}
+use Rattle.search.specs.Start.{start_refusal}
+use Rattle.journal.specs.declared.Line.{Line}
+use Rattle.journal.specs.Line.{journal_bytes}
+use Rattle.journal.specs.Outcome.{outcome_in}
+use Rattle.journal.specs.Reading.{read_journal}
+use Rattle.replay.specs.declared.WalkEnd.{WalkEnd}
+use Rattle.replay.specs.declared.WalkEnd.TheVariants.{NotTheRun}
+use Rattle.replay.specs.declared.Standing.{Standing}
+use Rattle.replay.specs.declared.Standing.TheVariants.{Winner, Unfinished}
+use Rattle.replay.specs.declared.ReplayRefusal.{ReplayRefusal}
+use Rattle.replay.specs.declared.ReplayRefusal.TheVariants.{Refused}
+use Rattle.replay.specs.Stand.{same_reals, can_stand}
+use Rattle.replay.specs.Walk.{walk_end_at}
+use Rattle.replay.specs.Replay.{reply_by, ReplayLeft}
 use Rattle.book.specs.Book.{Inputs, Book, number, current, run_best_of, first_list, opened, book_enter}
 use Rattle.book.specs.Theorem.{options_of}
 

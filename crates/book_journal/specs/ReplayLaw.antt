@@ -4,16 +4,16 @@ use Rattle.std.specs.Prelude.{ℕ, suc, ◌*◌, ◌≤◌, ◌≡◌, ◌↔◌
 use Rattle.common.specs.declared.Refusal.{Refusal}
 use Rattle.common.specs.declared.Refusal.TheVariants as refusal
 use Rattle.common.specs.Each.{All}
-use Rattle.seed_rules.specs.Layout.{flat}
-use Rattle.score_outcome.specs.declared.Scoring.{Scoring}
-use Rattle.score_outcome.specs.Facts.{ScoredFacts}
-use Rattle.score_best.specs.declared.Candidate.{Candidate}
-use Rattle.journal_line.specs.declared.Line.{Line}
-use Rattle.journal_line.specs.Line.{LineFits}
-use Rattle.journal_line.specs.Reading.{line_number_of, ended, refused, read_journal}
-use Rattle.journal_replay.specs.declared.WalkEnd.TheVariants.{AllTaken, NotALine, NotTheRun}
-use Rattle.journal_replay.specs.declared.ReplayRefusal.TheVariants.{Refused, At}
-use Rattle.journal_replay.specs.Replay.{of_no_line}
+use Rattle.seeds.specs.Layout.{flat}
+use Rattle.score.specs.declared.outcome.Scoring.{Scoring}
+use Rattle.score.specs.Facts.{ScoredFacts}
+use Rattle.score.specs.declared.best.Candidate.{Candidate}
+use Rattle.journal.specs.declared.Line.{Line}
+use Rattle.journal.specs.Line.{LineFits}
+use Rattle.journal.specs.Reading.{line_number_of, ended, refused, read_journal}
+use Rattle.replay.specs.declared.WalkEnd.TheVariants.{AllTaken, NotALine, NotTheRun}
+use Rattle.replay.specs.declared.ReplayRefusal.TheVariants.{Refused, At}
+use Rattle.replay.specs.Replay.{of_no_line}
 use Rattle.book.specs.Book.{Inputs, demand, Entry, Book, entries, number}
 use Rattle.book.specs.Conditions.{FirstHolds, NoneHolds, conditions}
 use Rattle.book.specs.Theorem.{Wins}

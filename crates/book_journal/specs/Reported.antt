@@ -2,12 +2,12 @@
 -- right, as types (docs/SPECIFICATION.md, 8.5). Definitions only.
 use Rattle.std.specs.Prelude.{ℕ, ◌≡◌, List, [], length, take, replicate, Float, Result, Ok, Err}
 use Rattle.common.specs.declared.Refusal.{Refusal}
-use Rattle.journal_line.specs.declared.Counts.{Counts}
-use Rattle.journal_line.specs.Counts.{counts_in}
-use Rattle.journal_line.specs.Reading.{read_journal}
-use Rattle.journal_line.specs.Report.{report_bytes, report_reply, report_into}
-use Rattle.search_record.specs.declared.run.Run.{Run}
-use Rattle.search_calls.specs.Counts.{counts_def}
+use Rattle.journal.specs.declared.Counts.{Counts}
+use Rattle.journal.specs.Counts.{counts_in}
+use Rattle.journal.specs.Reading.{read_journal}
+use Rattle.journal.specs.Report.{report_bytes, report_reply, report_into}
+use Rattle.search.specs.declared.run.Run.{Run}
+use Rattle.search.specs.Counts.{counts_def}
 use Rattle.book.specs.Calls.{Call}
 use Rattle.book.specs.Book.{Inputs, Book, opened, after}
 use Rattle.book.specs.Conditions.{NoneHolds, conditions}

@@ -2,14 +2,14 @@
 -- and that the run goes on as if it had not stopped. Definitions only.
 use Rattle.std.specs.Prelude.{ℕ, ◌+◌, ◌≤◌, ◌≡◌, false, cond, List, [], ◌∷◌, ◌++◌, length, take, drop, Float, Ok, Err}
 use Rattle.common.specs.declared.Refusal.{Refusal}
-use Rattle.journal_line.specs.declared.Line.{Line}
-use Rattle.journal_line.specs.Line.{line_bytes, LineFits, Writable, journal_bytes}
-use Rattle.journal_line.specs.Reading.{newlines}
-use Rattle.journal_line.specs.Theorem.{NoLine}
-use Rattle.journal_replay.specs.declared.WalkEnd.TheVariants.{AllTaken, NotALine, NotTheRun}
-use Rattle.journal_replay.specs.declared.EndedBy.TheVariants as by
-use Rattle.journal_replay.specs.declared.KeptLines.{KeptLines}
-use Rattle.journal_replay.specs.Resume.{ended_by_of}
+use Rattle.journal.specs.declared.Line.{Line}
+use Rattle.journal.specs.Line.{line_bytes, LineFits, Writable, journal_bytes}
+use Rattle.journal.specs.Reading.{newlines}
+use Rattle.journal.specs.Theorem.{NoLine}
+use Rattle.replay.specs.declared.WalkEnd.TheVariants.{AllTaken, NotALine, NotTheRun}
+use Rattle.replay.specs.declared.EndedBy.TheVariants as by
+use Rattle.replay.specs.declared.KeptLines.{KeptLines}
+use Rattle.replay.specs.Resume.{ended_by_of}
 use Rattle.book.specs.Calls.{Call, next}
 use Rattle.book.specs.Book.{Inputs, demand, Book, entries, number, opened, replies, after}
 use Rattle.book.specs.Conditions.{FirstHolds, NoneHolds, conditions}

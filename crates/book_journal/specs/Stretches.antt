@@ -3,13 +3,13 @@
 use Rattle.std.specs.Prelude.{◌≡◌, Ok, Err}
 use mathlib.Core.List.{List, [], ◌∷◌, map, foldr}
 use Rattle.common.specs.Each.{All}
-use Rattle.score_best.specs.declared.Candidate.{Candidate}
-use Rattle.score_best.specs.Best.{Chosen, nothing, best_of, held, candidate_of}
-use Rattle.score_best.specs.Winners.{winner_of_two, winner_of_bests, winner_of, joined}
-use Rattle.score_best.specs.Theorem.{IsNumber}
-use Rattle.journal_line.specs.declared.Line.{Line}
-use Rattle.journal_line.specs.Reading.{read_journal}
-use Rattle.journal_line.specs.Outcome.{scoring_in}
+use Rattle.score.specs.declared.best.Candidate.{Candidate}
+use Rattle.score.specs.Best.{Chosen, nothing, best_of, held, candidate_of}
+use Rattle.score.specs.Winners.{winner_of_two, winner_of_bests, winner_of, joined}
+use Rattle.score.specs.Theorem.{IsNumber}
+use Rattle.journal.specs.declared.Line.{Line}
+use Rattle.journal.specs.Reading.{read_journal}
+use Rattle.journal.specs.Outcome.{scoring_in}
 use Rattle.book.specs.Book.{Entry, Book, entries, scored_of, run_best_of}
 use Rattle.book_journal.specs.Lines.{journal_of}
 

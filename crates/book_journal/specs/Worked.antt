@@ -3,18 +3,18 @@
 use Rattle.std.specs.Prelude.{ℕ, ◌≡◌, false, List, [], ◌∷◌, ◌++◌, take, replicate, Float, Ok, Err}
 use Rattle.std.specs.Float.{binary64}
 use Rattle.std.specs.Float.Ieee.{of_bits, neg}
-use Rattle.camera_models.specs.declared.intrinsics.FxFyCxCy.{FxFyCxCy}
-use Rattle.seed_rules.specs.declared.CandidateSeed.{CandidateSeed}
-use Rattle.seed_rules.specs.Layout.{six}
+use Rattle.camera.specs.declared.intrinsics.FxFyCxCy.{FxFyCxCy}
+use Rattle.seeds.specs.declared.CandidateSeed.{CandidateSeed}
+use Rattle.seeds.specs.Layout.{six}
 use Rattle.common.specs.declared.Refusal.TheVariants.{ListTooShort, NothingScored, NotALine, NotTheRun}
-use Rattle.score_outcome.specs.declared.SkipReason.TheVariants.{HostFailed, NoNumber}
-use Rattle.journal_line.specs.declared.Line.{Line}
-use Rattle.journal_line.specs.Line.{journal_bytes}
-use Rattle.journal_replay.specs.declared.Standing.TheVariants.{Winner, Unfinished}
-use Rattle.journal_replay.specs.declared.ReplayRefusal.TheVariants.{Refused, At}
-use Rattle.journal_replay.specs.declared.WalkEnd.TheVariants as walk_end
-use Rattle.journal_replay.specs.declared.EndedBy.TheVariants as by
-use Rattle.journal_replay.specs.declared.KeptLines.{KeptLines}
+use Rattle.score.specs.declared.outcome.SkipReason.TheVariants.{HostFailed, NoNumber}
+use Rattle.journal.specs.declared.Line.{Line}
+use Rattle.journal.specs.Line.{journal_bytes}
+use Rattle.replay.specs.declared.Standing.TheVariants.{Winner, Unfinished}
+use Rattle.replay.specs.declared.ReplayRefusal.TheVariants.{Refused, At}
+use Rattle.replay.specs.declared.WalkEnd.TheVariants as walk_end
+use Rattle.replay.specs.declared.EndedBy.TheVariants as by
+use Rattle.replay.specs.declared.KeptLines.{KeptLines}
 use Rattle.book.specs.Book.{Inputs}
 use Rattle.book_journal.specs.Replay.{walked, replay_of}
 use Rattle.book_journal.specs.Resume.{kept_lines_of}

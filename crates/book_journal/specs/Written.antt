@@ -2,10 +2,10 @@
 -- (docs/SPECIFICATION.md, 8.4). Definitions only.
 use Rattle.std.specs.Prelude.{ℕ, ◌≡◌, cond, List, [], ◌∷◌, ◌++◌, eqb, take, replicate, Float, Option, Some, None, Result, Ok, Err}
 use Rattle.common.specs.declared.Refusal.{Refusal}
-use Rattle.journal_line.specs.declared.Line.{Line}
-use Rattle.journal_line.specs.Writing.{write_reply, write_into}
-use Rattle.search_record.specs.declared.run.Run.{Run}
-use Rattle.search_calls.specs.Last.{last_def}
+use Rattle.journal.specs.declared.Line.{Line}
+use Rattle.journal.specs.Writing.{write_reply, write_into}
+use Rattle.search.specs.declared.run.Run.{Run}
+use Rattle.search.specs.Last.{last_def}
 use Rattle.book.specs.Calls.{Call}
 use Rattle.book.specs.Book.{Inputs, opened, after}
 use Rattle.book.specs.Walk.{Step, run_call}

@@ -2,25 +2,25 @@
 // struct out alike. C has no generic functions, so there is one for each struct.
 ghost use Rattle.std.specs.Prelude.{◌≡◌};
 
-use camera_models::distortion::{BrownConrady5, DistortedPoint, Jacobian};
-use camera_models::intrinsics::FxFyCxCy;
-use camera_models::math::Pt2;
-use camera_tilt::sensor::{ScheimpflugParams, TiltTrig};
-use capi_records::camera::{CameraReply, InverseReply, Matrix3, SumReply};
-use capi_records::journal::{LineRecord, ReadReply, WriteReply};
+use camera::distortion::{BrownConrady5, DistortedPoint, Jacobian};
+use camera::intrinsics::FxFyCxCy;
+use camera::math::Pt2;
+use camera::sensor::{ScheimpflugParams, TiltTrig};
+use capi_records::cameras::{CameraReply, InverseReply, Matrix3, SumReply};
+use capi_records::journals::{LineRecord, ReadReply, WriteReply};
 use capi_records::lists::{CenterReply, LineReply, NormalizeReply};
 use capi_records::plate::PlateReply;
 use capi_records::record::{
     BestRecord, LastRecord, OptionsRecord, PlaceRecord, RunRecord, WaitingRecord,
 };
-use capi_records::replay::{ReplayFlat, ResumeFlat};
+use capi_records::replays::{ReplayFlat, ResumeFlat};
 use capi_records::run::{AnswerFlat, NextFlat, ResultFlat, StartFlat, StopFlat};
 use capi_records::scoring::ErrorCountReply;
-use journal_line::Counts;
-use score_best::Candidate;
-use score_camera::pinhole::PinholeCamera;
-use search_calls::progress::ProgressReply;
-use seed_rules::CandidateSeed;
+use journal::Counts;
+use score::best::Candidate;
+use score::pinhole::PinholeCamera;
+use search::progress::ProgressReply;
+use seeds::CandidateSeed;
 use zhang::Conic;
 
 #[unsafe(no_mangle)]

@@ -5,12 +5,12 @@
 
 #![tactic(auto)]
 
-pub mod camera;
+pub mod cameras;
 pub mod echo;
-pub mod journal;
+pub mod journals;
 pub mod lists;
 pub mod plate;
-pub mod replay;
+pub mod replays;
 pub mod run;
 pub mod scoring;
 pub mod version;

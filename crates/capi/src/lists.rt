@@ -1,20 +1,20 @@
 // Operations on lists of points: the point maps, normalising, the line test, the design rows and the centre.
 ghost use Rattle.std.specs.Prelude.{◌≡◌, length};
-ghost use Rattle.camera_tilt.specs.Sensor.{tilt_projection_matrix};
-ghost use Rattle.camera_undistort.specs.Undistortion.{undistorted};
-ghost use Rattle.point_maps.specs.Maps.{map_reply, map_destination};
-ghost use Rattle.point_normalise.specs.Linalg.{normalize_reply, normalize_into};
-ghost use Rattle.point_homography.specs.Line.{line_reply};
-ghost use Rattle.point_homography.specs.Rows.{rows_reply, rows_into};
-ghost use Rattle.point_maps.specs.Centre.{centre_reply};
+ghost use Rattle.camera.specs.Sensor.{tilt_projection_matrix};
+ghost use Rattle.camera.specs.Undistortion.{undistorted};
+ghost use Rattle.points.specs.Maps.{map_reply, map_destination};
+ghost use Rattle.points.specs.Linalg.{normalize_reply, normalize_into};
+ghost use Rattle.points.specs.Line.{line_reply};
+ghost use Rattle.points.specs.Rows.{rows_reply, rows_into};
+ghost use Rattle.points.specs.Centre.{centre_reply};
 ghost use Rattle.capi_records.specs.Lists.{refusal_number, flat_normalized, flat_line_test, flat_centre};
 
-use camera_models::intrinsics::FxFyCxCy;
-use camera_tilt::sensor::TiltTrig;
+use camera::intrinsics::FxFyCxCy;
+use camera::sensor::TiltTrig;
 use capi_records::lists::{CenterReply, LineReply, NormalizeReply, refusal_number};
-use point_homography::Pairs;
-use point_maps::{centre, maps};
-use score_camera::pinhole::PinholeCamera;
+use points::homography::Pairs;
+use points::{centre, maps};
+use score::pinhole::PinholeCamera;
 
 // Writes the pixels of a sensor that isn't tilted to the front of `to`: 0, or 17, 18 or 15.
 #[unsafe(no_mangle)]
@@ -51,14 +51,14 @@ pub extern "C" fn jc_normalize_points_2d(points: &[f64], to: &mut [f64]) -> Norm
     ensures reply { result ≡ flat_normalized (normalize_reply points.now (length to.old)) }
     ensures written { to.new ≡ normalize_into points.now to.old }
 {
-    point_normalise::linalg::normalize_points_2d(points, to).into()
+    points::linalg::normalize_points_2d(points, to).into()
 }
 
 #[unsafe(no_mangle)]
 pub extern "C" fn jc_points_are_collinear(points: &[f64]) -> LineReply
     ensures { result ≡ flat_line_test (line_reply points.now) }
 {
-    point_homography::points_are_collinear(points).into()
+    points::homography::points_are_collinear(points).into()
 }
 
 // Writes the design rows to the front of `to`, 18 numbers a point: 0, or 17, 18 or 20 to 25.
@@ -71,7 +71,7 @@ pub extern "C" fn jc_design_rows(source: &[f64], destination: &[f64], to: &mut [
         src: source,
         dst: destination,
     };
-    refusal_number(point_homography::design_rows(pairs, to))
+    refusal_number(points::homography::design_rows(pairs, to))
 }
 
 #[unsafe(no_mangle)]

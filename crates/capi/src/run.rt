@@ -1,28 +1,28 @@
 // The search: Start and the calls over the run's record, and the winner of two stretches. The caller keeps the record
 // that a call returns, and hands it to the next call.
 ghost use Rattle.std.specs.Prelude.{◌≡◌};
-ghost use Rattle.search_start.specs.Start.{start_reply, start_list};
-ghost use Rattle.search_calls.specs.Next.{next_def, seed_part};
-ghost use Rattle.search_answer.specs.Answer.{answer_def};
-ghost use Rattle.search_calls.specs.Result.{result_def};
-ghost use Rattle.search_calls.specs.Progress.{progress_def};
-ghost use Rattle.search_calls.specs.Stop.{stop_def};
-ghost use Rattle.search_calls.specs.Last.{last_def};
-ghost use Rattle.search_calls.specs.Counts.{counts_def};
-ghost use Rattle.score_best.specs.Winners.{winner_of_bests};
+ghost use Rattle.search.specs.Start.{start_reply, start_list};
+ghost use Rattle.search.specs.Next.{next_def, seed_part};
+ghost use Rattle.search.specs.Answer.{answer_def};
+ghost use Rattle.search.specs.Result.{result_def};
+ghost use Rattle.search.specs.Progress.{progress_def};
+ghost use Rattle.search.specs.Stop.{stop_def};
+ghost use Rattle.search.specs.Last.{last_def};
+ghost use Rattle.search.specs.Counts.{counts_def};
+ghost use Rattle.score.specs.Winners.{winner_of_bests};
 ghost use Rattle.capi_records.specs.Record.{options_from, best_from, flat_best, run_from};
 ghost use Rattle.capi_records.specs.Run.{flat_started, flat_next, flat_answer, flat_result, flat_stopped, flat_last_line, finding_of, copied, copy_count};
 
-use camera_models::intrinsics::FxFyCxCy;
-use camera_models::math::Pt2;
+use camera::intrinsics::FxFyCxCy;
+use camera::math::Pt2;
 use capi_records::record::{BestRecord, LastRecord, OptionsRecord, RunRecord};
 use capi_records::run::{
     AnswerFlat, NextFlat, ResultFlat, StartFlat, StopFlat, copy_part, finding_of,
 };
-use journal_line::Counts;
-use score_camera::pinhole::PinholeCamera;
-use search_calls::progress::ProgressReply;
-use search_start::{Inputs, start};
+use journal::Counts;
+use score::pinhole::PinholeCamera;
+use search::progress::ProgressReply;
+use search::start::{Inputs, start};
 
 // Start: writes round 0's list to the front of `list`. C lends each list by itself, so there are eight parameters.
 #[unsafe(no_mangle)]
@@ -56,7 +56,7 @@ pub extern "C" fn jc_start(
 pub extern "C" fn jc_next(run: RunRecord, list: &[f64]) -> NextFlat
     ensures { result ≡ flat_next (next_def (run_from run) list.now) }
 {
-    search_calls::next::next(run.into(), list).into()
+    search::next::next(run.into(), list).into()
 }
 
 // The seed call: copies the waiting seed's six numbers to the front of `to`. Returns how many were copied: 6, or 0
@@ -66,7 +66,7 @@ pub extern "C" fn jc_seed(run: RunRecord, list: &[f64], to: &mut [f64]) -> usize
     ensures count { result ≡ copy_count (seed_part (run_from run) list.now) to.old }
     ensures copy { to.new ≡ copied (seed_part (run_from run) list.now) to.old }
 {
-    copy_part(search_calls::next::seed(run.into(), list), to)
+    copy_part(search::next::seed(run.into(), list), to)
 }
 
 // Answer: the finding is Failed where `is_solved` is 0, else Solved, since C has no value for Failed alone. The answer
@@ -83,7 +83,7 @@ pub extern "C" fn jc_answer(
     ensures reply { result ≡ flat_answer (answer_def (run_from run) (finding_of is_solved solved) rows.now flags.now list.old).reply }
     ensures written { list.new ≡ (answer_def (run_from run) (finding_of is_solved solved) rows.now flags.now list.old).list }
 {
-    search_answer::answer(run.into(), finding_of(is_solved, solved), rows, flags, list).into()
+    search::answer::answer(run.into(), finding_of(is_solved, solved), rows, flags, list).into()
 }
 
 // Result: the run's best, once the run is over.
@@ -91,7 +91,7 @@ pub extern "C" fn jc_answer(
 pub extern "C" fn jc_result(run: RunRecord) -> ResultFlat
     ensures { result ≡ flat_result (result_def (run_from run)) }
 {
-    search_calls::result::result(run.into()).into()
+    search::result::result(run.into()).into()
 }
 
 // Progress: how far the run has come.
@@ -99,7 +99,7 @@ pub extern "C" fn jc_result(run: RunRecord) -> ResultFlat
 pub extern "C" fn jc_progress(run: RunRecord) -> ProgressReply
     ensures { result ≡ progress_def (run_from run) }
 {
-    search_calls::progress::progress(run.into())
+    search::progress::progress(run.into())
 }
 
 // Stop: the best so far, and whether this round could gain anything.
@@ -107,7 +107,7 @@ pub extern "C" fn jc_progress(run: RunRecord) -> ProgressReply
 pub extern "C" fn jc_stop(run: RunRecord, list: &[f64]) -> StopFlat
     ensures { result ≡ flat_stopped (stop_def (run_from run) list.now) }
 {
-    search_calls::stop::stop(run.into(), list).into()
+    search::stop::stop(run.into(), list).into()
 }
 
 // The last entry's line, or nothing before the first answer.
@@ -115,7 +115,7 @@ pub extern "C" fn jc_stop(run: RunRecord, list: &[f64]) -> StopFlat
 pub extern "C" fn jc_last_line(run: RunRecord) -> LastRecord
     ensures { result ≡ flat_last_line (last_def (run_from run)) }
 {
-    search_calls::last::last_line(run.into()).into()
+    search::last::last_line(run.into()).into()
 }
 
 // How many candidates were scored, and how many skipped for each reason.
@@ -123,7 +123,7 @@ pub extern "C" fn jc_last_line(run: RunRecord) -> LastRecord
 pub extern "C" fn jc_counts(run: RunRecord) -> Counts
     ensures { result ≡ counts_def (run_from run) }
 {
-    search_calls::counts::counts(run.into())
+    search::counts::counts(run.into())
 }
 
 // The winner of two stretches of a run's entries, the earlier stretch first.
@@ -131,5 +131,5 @@ pub extern "C" fn jc_counts(run: RunRecord) -> Counts
 pub extern "C" fn jc_winner(first: BestRecord, second: BestRecord) -> BestRecord
     ensures { result ≡ flat_best (winner_of_bests (best_from first) (best_from second)) }
 {
-    score_best::winner(first.into(), second.into()).into()
+    score::best::winner(first.into(), second.into()).into()
 }

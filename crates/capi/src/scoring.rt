@@ -1,19 +1,19 @@
 // The parts of a candidate's score.
 ghost use Rattle.std.specs.Prelude.{◌≡◌};
-ghost use Rattle.camera_tilt.specs.Sensor.{tilt_projection_matrix};
-ghost use Rattle.score_camera.specs.Camera.{damped};
-ghost use Rattle.score_camera.specs.Penalties.{distortion_penalty, tilt_penalty, centre_penalty};
-ghost use Rattle.score_rows.specs.Rows.{rows_of, error_sum, mean_of};
-ghost use Rattle.score_outcome.specs.Evaluation.{error_count_of};
+ghost use Rattle.camera.specs.Sensor.{tilt_projection_matrix};
+ghost use Rattle.score.specs.Camera.{damped};
+ghost use Rattle.score.specs.Penalties.{distortion_penalty, tilt_penalty, centre_penalty};
+ghost use Rattle.score.specs.Rows.{rows_of, error_sum, mean_of};
+ghost use Rattle.score.specs.Evaluation.{error_count_of};
 ghost use Rattle.capi_records.specs.Scoring.{flat_error_count};
 
-use camera_models::distortion::BrownConrady5;
-use camera_models::intrinsics::FxFyCxCy;
-use camera_models::math::Pt2;
-use camera_tilt::sensor::{ScheimpflugParams, TiltTrig};
+use camera::distortion::BrownConrady5;
+use camera::intrinsics::FxFyCxCy;
+use camera::math::Pt2;
+use camera::sensor::{ScheimpflugParams, TiltTrig};
 use capi_records::scoring::ErrorCountReply;
-use score_camera::pinhole::PinholeCamera;
-use score_camera::{penalties, pinhole};
+use score::pinhole::PinholeCamera;
+use score::{penalties, pinhole};
 
 #[unsafe(no_mangle)]
 pub extern "C" fn jc_damp_seed_distortion(distortion: BrownConrady5) -> BrownConrady5
@@ -54,7 +54,7 @@ pub extern "C" fn jc_mean_reproj_error(
 ) -> f64
     ensures { result ≡ mean_of (error_sum camera (tilt_projection_matrix trig) (rows_of rows.now flags.now)) }
 {
-    score_rows::mean_of_rows(camera, trig, rows, flags)
+    score::errors::mean_of_rows(camera, trig, rows, flags)
 }
 
 // What the mean of an answer rests on: sum and count of its errors, with the solved camera damped and the sines and
@@ -68,5 +68,5 @@ pub extern "C" fn jc_count_errors(
 ) -> ErrorCountReply
     ensures { result ≡ flat_error_count (error_count_of solved sensor rows.now flags.now) }
 {
-    score_outcome::count_errors(solved, sensor, rows, flags).into()
+    score::outcome::count_errors(solved, sensor, rows, flags).into()
 }

@@ -4,34 +4,34 @@ use Rattle.std.proofs.Math.Seq.{take-append_seam}
 use Rattle.common.specs.declared.Refusal.{Refusal}
 use Rattle.common.specs.declared.Refusal.TheVariants.{TooFewViews, NoTilts, BadBound, BadStep, TooMany, BadSeed, TiltNotFinite, ListTooShort, SeedWaiting, ListShortened, NothingScored, NoSeedWaiting, BadRows, NotOver, SingularTilt, DegenerateViews, BadPoints, DestinationTooShort, Coincident, SourceNotFinite, DestinationNotFinite, TooFewPoints, CountsDiffer, SourceCollinear, DestinationCollinear, TiltTooLarge, NotWritable, NotALine, NotTheRun, TiltsOffAxis, SeedOffAxis, ShareTooLarge, NoSharedPower}
 use Rattle.common.specs.Number.{number_of}
-use Rattle.score_outcome.proofs.Facts.{reason_numbered_back}
+use Rattle.score.proofs.Facts.{reason_numbered_back}
 use Rattle.common.specs.Tests.{case}
-use Rattle.search_record.specs.declared.run.Run.{Run}
-use Rattle.search_calls.specs.declared.next.Handed.{Handed}
-use Rattle.search_calls.specs.declared.next.Handed.TheVariants as handed
-use Rattle.search_calls.specs.Next.{next_def, seed_lent, seed_part}
-use Rattle.search_answer.specs.declared.Answered.{Answered}
-use Rattle.search_answer.specs.declared.Answered.TheVariants as answered
-use Rattle.search_answer.specs.Answer.{answer_def}
-use Rattle.search_calls.specs.declared.progress.ProgressReply.{ProgressReply}
-use Rattle.search_calls.specs.Result.{result_def}
-use Rattle.search_calls.specs.Progress.{progress_def}
-use Rattle.search_calls.specs.declared.stop.Outlook.{Outlook}
-use Rattle.search_calls.specs.Stop.{stop_def}
-use Rattle.search_calls.specs.Last.{last_def}
-use Rattle.journal_line.specs.declared.Line.{Line}
-use Rattle.score_best.specs.declared.Candidate.{Candidate}
-use Rattle.journal_replay.specs.declared.WalkEnd.{WalkEnd}
-use Rattle.journal_replay.specs.declared.WalkEnd.TheVariants as walk_end
-use Rattle.journal_replay.specs.declared.Standing.{Standing}
-use Rattle.journal_replay.specs.declared.Standing.TheVariants.{Winner, Unfinished}
-use Rattle.journal_replay.specs.declared.ReplayRefusal.{ReplayRefusal}
-use Rattle.journal_replay.specs.declared.EndedBy.{EndedBy}
-use Rattle.journal_replay.specs.declared.EndedBy.TheVariants as by
-use Rattle.journal_replay.specs.declared.KeptLines.{KeptLines}
-use Rattle.journal_replay.specs.declared.Resumed.{Resumed}
-use Rattle.journal_replay.specs.Replay.{of_no_line, reply_by, ReplayLeft, replay_from}
-use Rattle.journal_replay.specs.Resume.{ResumeLeft, resume_from}
+use Rattle.search.specs.declared.run.Run.{Run}
+use Rattle.search.specs.declared.next.Handed.{Handed}
+use Rattle.search.specs.declared.next.Handed.TheVariants as handed
+use Rattle.search.specs.Next.{next_def, seed_lent, seed_part}
+use Rattle.search.specs.declared.answer.Answered.{Answered}
+use Rattle.search.specs.declared.answer.Answered.TheVariants as answered
+use Rattle.search.specs.Answer.{answer_def}
+use Rattle.search.specs.declared.progress.ProgressReply.{ProgressReply}
+use Rattle.search.specs.Result.{result_def}
+use Rattle.search.specs.Progress.{progress_def}
+use Rattle.search.specs.declared.stop.Outlook.{Outlook}
+use Rattle.search.specs.Stop.{stop_def}
+use Rattle.search.specs.Last.{last_def}
+use Rattle.journal.specs.declared.Line.{Line}
+use Rattle.score.specs.declared.best.Candidate.{Candidate}
+use Rattle.replay.specs.declared.WalkEnd.{WalkEnd}
+use Rattle.replay.specs.declared.WalkEnd.TheVariants as walk_end
+use Rattle.replay.specs.declared.Standing.{Standing}
+use Rattle.replay.specs.declared.Standing.TheVariants.{Winner, Unfinished}
+use Rattle.replay.specs.declared.ReplayRefusal.{ReplayRefusal}
+use Rattle.replay.specs.declared.EndedBy.{EndedBy}
+use Rattle.replay.specs.declared.EndedBy.TheVariants as by
+use Rattle.replay.specs.declared.KeptLines.{KeptLines}
+use Rattle.replay.specs.declared.Resumed.{Resumed}
+use Rattle.replay.specs.Replay.{of_no_line, reply_by, ReplayLeft, replay_from}
+use Rattle.replay.specs.Resume.{ResumeLeft, resume_from}
 use Rattle.capi_records.specs.Record.{run_from, flat_run}
 use Rattle.capi_records.specs.RoundTrip.{flag_comes_back, run_back, line_back}
 use Rattle.capi_records.specs.Run.{flat_started, flat_handed, flat_answered, flat_result, flat_stopped, flat_last_line, finding_of, copied, copy_count}
@@ -39,11 +39,11 @@ use Rattle.capi_records.specs.Replay.{flat_replayed, ended_number, flat_resumed}
 use Rattle.book.specs.Book.{Inputs, Book, opened, replies, after}
 use Rattle.book.specs.Conditions.{NoneHolds, conditions}
 use Rattle.book.specs.Trace.{run_after}
-use Rattle.journal_line.specs.declared.Counts.{Counts}
-use Rattle.journal_line.specs.Writing.{write_reply, write_into}
-use Rattle.journal_line.specs.Report.{report_reply, report_into}
-use Rattle.search_calls.specs.Counts.{counts_def}
-use Rattle.capi_records.specs.declared.journal.LineRecord.{LineRecord}
+use Rattle.journal.specs.declared.Counts.{Counts}
+use Rattle.journal.specs.Writing.{write_reply, write_into}
+use Rattle.journal.specs.Report.{report_reply, report_into}
+use Rattle.search.specs.Counts.{counts_def}
+use Rattle.capi_records.specs.declared.journals.LineRecord.{LineRecord}
 use Rattle.capi_records.specs.Journal.{line_from, flat_line, flat_written, record_reply, record_into}
 use Rattle.book.specs.Calls.{Call, next, seed, answer, ask, progress, stop, last, counts, Reply, part}
 use Rattle.book.specs.Walk.{Step, handed_reply, answered_reply, resulted_reply, progress_reply, stopped_reply, last_reply, run_call, walk}
@@ -61,8 +61,8 @@ use Rattle.book_journal.specs.Reported.{small_buffer, report_of, ReportRight}
 use Rattle.book_journal.proofs.Written.{calls_write_journal as written_on}
 use Rattle.book_journal.proofs.Live.{walked_book_state}
 use Rattle.book_journal.proofs.Theorem.{journals_right}
-use Rattle.book_replay.specs.Theorem.{with_record}
-use Rattle.book_replay.proofs.Theorem.{replay_right}
+use Rattle.book_journal.specs.Theorem.{with_record}
+use Rattle.book_journal.proofs.Replayed.{replay_right}
 use Rattle.capi_book.specs.Exported.{Exported, call_next, call_seed, call_answer, call_result, call_progress, call_stop, call_last_line, call_counts, no_room, calls_of, all_calls, read_next, read_answer, read_result, read_progress, read_stop, read_last, refusal_with, read_replay, read_ended, read_kept_lines, read_resume, FlatStep, flat_call, flat_walk, flat_after, bytes_in, flat_line_bytes, flat_file}
 use Rattle.capi_book.specs.Theorem.{start_with, flat_start_list, ExportedStarts, ExportedIsWalk, ExportedIsBook, ExportedReplays, ExportedGivesBack, ExportedResumes}
 use Rattle.capi_book.specs.Theorem.{FlatReportRight, ExportedJournal, ExportedJournalGrows, ExportedReport, ExportedResumedReport, ExportedRight}

@@ -5,43 +5,43 @@ use Rattle.std.specs.Prelude.{ℕ, Bool, false, cond, ltb, List, [], ◌∷◌, 
 use Rattle.common.specs.declared.Refusal.{Refusal}
 use Rattle.common.specs.declared.Refusal.TheVariants.{TooFewViews, NoTilts, BadBound, BadStep, TooMany, BadSeed, TiltNotFinite, ListTooShort, SeedWaiting, ListShortened, NothingScored, NoSeedWaiting, BadRows, NotOver, SingularTilt, DegenerateViews, BadPoints, DestinationTooShort, Coincident, SourceNotFinite, DestinationNotFinite, TooFewPoints, CountsDiffer, SourceCollinear, DestinationCollinear, TiltTooLarge, NotWritable, NotALine, NotTheRun, TiltsOffAxis, SeedOffAxis, ShareTooLarge, NoSharedPower}
 use Rattle.common.specs.Number.{number_of}
-use Rattle.score_camera.specs.declared.pinhole.PinholeCamera.{PinholeCamera}
-use Rattle.score_outcome.specs.declared.SkipReason.{SkipReason}
-use Rattle.score_outcome.specs.Reasons.{reason_numbered}
-use Rattle.journal_line.specs.declared.Line.{Line}
-use Rattle.search_calls.specs.Next.{next_def, seed_part}
-use Rattle.search_answer.specs.Answer.{answer_def}
-use Rattle.search_calls.specs.declared.progress.ProgressReply.{ProgressReply}
-use Rattle.search_calls.specs.Result.{result_def}
-use Rattle.search_calls.specs.Progress.{progress_def}
-use Rattle.search_calls.specs.Stop.{stop_def}
-use Rattle.search_calls.specs.Last.{last_def}
-use Rattle.search_calls.specs.Counts.{counts_def}
-use Rattle.journal_replay.specs.declared.Standing.{Standing}
-use Rattle.journal_replay.specs.declared.Standing.TheVariants.{Winner, Unfinished}
-use Rattle.journal_replay.specs.declared.ReplayRefusal.{ReplayRefusal}
-use Rattle.journal_replay.specs.declared.ReplayRefusal.TheVariants.{Refused, At}
-use Rattle.journal_replay.specs.declared.EndedBy.{EndedBy}
-use Rattle.journal_replay.specs.declared.EndedBy.TheVariants as by
-use Rattle.journal_replay.specs.declared.WalkEnd.TheVariants as walk_end
-use Rattle.journal_replay.specs.declared.KeptLines.{KeptLines}
-use Rattle.journal_replay.specs.declared.Resumed.{Resumed}
+use Rattle.score.specs.declared.pinhole.PinholeCamera.{PinholeCamera}
+use Rattle.score.specs.declared.outcome.SkipReason.{SkipReason}
+use Rattle.score.specs.Reasons.{reason_numbered}
+use Rattle.journal.specs.declared.Line.{Line}
+use Rattle.search.specs.Next.{next_def, seed_part}
+use Rattle.search.specs.Answer.{answer_def}
+use Rattle.search.specs.declared.progress.ProgressReply.{ProgressReply}
+use Rattle.search.specs.Result.{result_def}
+use Rattle.search.specs.Progress.{progress_def}
+use Rattle.search.specs.Stop.{stop_def}
+use Rattle.search.specs.Last.{last_def}
+use Rattle.search.specs.Counts.{counts_def}
+use Rattle.replay.specs.declared.Standing.{Standing}
+use Rattle.replay.specs.declared.Standing.TheVariants.{Winner, Unfinished}
+use Rattle.replay.specs.declared.ReplayRefusal.{ReplayRefusal}
+use Rattle.replay.specs.declared.ReplayRefusal.TheVariants.{Refused, At}
+use Rattle.replay.specs.declared.EndedBy.{EndedBy}
+use Rattle.replay.specs.declared.EndedBy.TheVariants as by
+use Rattle.replay.specs.declared.WalkEnd.TheVariants as walk_end
+use Rattle.replay.specs.declared.KeptLines.{KeptLines}
+use Rattle.replay.specs.declared.Resumed.{Resumed}
 use Rattle.capi_records.specs.declared.record.LastRecord.{LastRecord}
 use Rattle.capi_records.specs.declared.record.RunRecord.{RunRecord}
 use Rattle.capi_records.specs.declared.run.NextFlat.{NextFlat}
 use Rattle.capi_records.specs.declared.run.AnswerFlat.{AnswerFlat}
 use Rattle.capi_records.specs.declared.run.ResultFlat.{ResultFlat}
 use Rattle.capi_records.specs.declared.run.StopFlat.{StopFlat}
-use Rattle.capi_records.specs.declared.replay.ReplayFlat.{ReplayFlat}
-use Rattle.capi_records.specs.declared.replay.ResumeFlat.{ResumeFlat}
-use Rattle.capi_records.specs.declared.journal.WriteReply.{WriteReply}
+use Rattle.capi_records.specs.declared.replays.ReplayFlat.{ReplayFlat}
+use Rattle.capi_records.specs.declared.replays.ResumeFlat.{ResumeFlat}
+use Rattle.capi_records.specs.declared.journals.WriteReply.{WriteReply}
 use Rattle.capi_records.specs.Journal.{line_from, flat_written, record_reply, record_into}
 use Rattle.capi_records.specs.Record.{is_set, run_from}
 use Rattle.capi_records.specs.Run.{flat_next, flat_answer, flat_result, flat_stopped, flat_last_line, finding_of, copied, copy_count}
-use Rattle.score_best.specs.Best.{nothing, chosen}
+use Rattle.score.specs.Best.{nothing, chosen}
 use Rattle.book.specs.Calls.{Call, nothing_left, floor, Reply, candidate, over, part, scored, skipped, result, bar, stopped, line, no_line, counted, refused}
 use Rattle.book.specs.Calls as book
-use Rattle.journal_line.specs.Report.{report_reply, report_into}
+use Rattle.journal.specs.Report.{report_reply, report_into}
 use Rattle.book_journal.specs.Counts.{is_answer}
 use Rattle.book_journal.specs.Written.{buffer}
 use Rattle.book_journal.specs.Reported.{small_buffer}

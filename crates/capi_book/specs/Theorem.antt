@@ -3,22 +3,22 @@ use Rattle.std.specs.Prelude.{ℕ, ◌≡◌, List, ◌++◌, length, take, Floa
 use Rattle.common.specs.Each.{All}
 use Rattle.common.specs.declared.Refusal.{Refusal}
 use Rattle.common.specs.Number.{number_of}
-use Rattle.search_record.specs.declared.run.Run.{Run}
-use Rattle.search_start.specs.Start.{start_reply, start_list}
+use Rattle.search.specs.declared.run.Run.{Run}
+use Rattle.search.specs.Start.{start_reply, start_list}
 use Rattle.capi_records.specs.declared.record.OptionsRecord.{OptionsRecord}
 use Rattle.capi_records.specs.declared.run.StartFlat.{StartFlat}
-use Rattle.capi_records.specs.declared.replay.ReplayFlat.{ReplayFlat}
-use Rattle.capi_records.specs.declared.replay.ResumeFlat.{ResumeFlat}
+use Rattle.capi_records.specs.declared.replays.ReplayFlat.{ReplayFlat}
+use Rattle.capi_records.specs.declared.replays.ResumeFlat.{ResumeFlat}
 use Rattle.capi_records.specs.declared.record.RunRecord.{RunRecord}
 use Rattle.capi_records.specs.Record.{options_from, run_from, flat_run}
 use Rattle.capi_records.specs.Run.{flat_started}
 use Rattle.capi_records.specs.Replay.{flat_replayed, flat_resumed}
-use Rattle.journal_replay.specs.Replay.{ReplayLeft, replay_from}
-use Rattle.journal_replay.specs.Resume.{ResumeLeft, resume_from}
-use Rattle.journal_line.specs.Counts.{counts_in}
-use Rattle.journal_line.specs.Reading.{read_journal}
-use Rattle.journal_line.specs.Report.{report_bytes}
-use Rattle.search_calls.specs.Counts.{counts_def}
+use Rattle.replay.specs.Replay.{ReplayLeft, replay_from}
+use Rattle.replay.specs.Resume.{ResumeLeft, resume_from}
+use Rattle.journal.specs.Counts.{counts_in}
+use Rattle.journal.specs.Reading.{read_journal}
+use Rattle.journal.specs.Report.{report_bytes}
+use Rattle.search.specs.Counts.{counts_def}
 use Rattle.book.specs.Book.{Inputs, Book, opened, replies, after}
 use Rattle.book.specs.Conditions.{FirstHolds, NoneHolds, conditions}
 use Rattle.book.specs.Walk.{walk}
@@ -27,7 +27,7 @@ use Rattle.book_journal.specs.Lines.{journal_of}
 use Rattle.book_journal.specs.History.{InputsFit, CallFits}
 use Rattle.book_journal.specs.Replay.{walked, replay_of}
 use Rattle.book_journal.specs.Resume.{resume_of}
-use Rattle.book_replay.specs.Theorem.{with_record}
+use Rattle.book_journal.specs.Theorem.{with_record}
 use Rattle.capi_book.specs.Exported.{Exported, all_calls, read_replay, read_kept_lines, read_resume, flat_walk, flat_after, flat_file, flat_report}
 
 -- Start's reply, with the options that the record o is read as

@@ -4,12 +4,12 @@ use Rattle.std.specs.Prelude.{[], ◌∷◌, Float, Result, Ok, Err}
 use Rattle.common.specs.declared.Refusal.{Refusal}
 use Rattle.common.specs.Number.{number_of}
 use Rattle.float.specs.Literals.{plus_zero}
-use Rattle.camera_models.specs.declared.intrinsics.FxFyCxCy.{FxFyCxCy}
-use Rattle.camera_tilt.specs.Matrix.{Matrix, at}
-use Rattle.capi_records.specs.declared.camera.SumReply.{SumReply}
-use Rattle.capi_records.specs.declared.camera.Matrix3.{Matrix3}
-use Rattle.capi_records.specs.declared.camera.InverseReply.{InverseReply}
-use Rattle.capi_records.specs.declared.camera.CameraReply.{CameraReply}
+use Rattle.camera.specs.declared.intrinsics.FxFyCxCy.{FxFyCxCy}
+use Rattle.camera.specs.Matrix.{Matrix, at}
+use Rattle.capi_records.specs.declared.cameras.SumReply.{SumReply}
+use Rattle.capi_records.specs.declared.cameras.Matrix3.{Matrix3}
+use Rattle.capi_records.specs.declared.cameras.InverseReply.{InverseReply}
+use Rattle.capi_records.specs.declared.cameras.CameraReply.{CameraReply}
 
 -- the sine or the cosine, or 27
 abbrev pub flat_sum : Result Float Refusal → SumReply

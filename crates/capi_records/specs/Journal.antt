@@ -4,19 +4,19 @@ use Rattle.std.specs.Prelude.{ℕ, List, Result, Ok, Err}
 use Rattle.common.specs.declared.Refusal.{Refusal}
 use Rattle.common.specs.declared.Refusal.TheVariants as refusal
 use Rattle.common.specs.Number.{number_of}
-use Rattle.score_outcome.specs.Reasons.{reason_number}
+use Rattle.score.specs.Reasons.{reason_number}
 use Rattle.float.specs.Literals.{plus_zero}
-use Rattle.camera_models.specs.declared.intrinsics.FxFyCxCy.{FxFyCxCy}
-use Rattle.seed_rules.specs.declared.CandidateSeed.{CandidateSeed}
-use Rattle.journal_line.specs.declared.Line.{Line}
-use Rattle.journal_line.specs.declared.ScoredFields.{ScoredFields}
-use Rattle.journal_line.specs.Outcome.{Recorded, recorded_with}
-use Rattle.journal_line.specs.Writing.{write_reply, write_into}
-use Rattle.journal_line.specs.declared.Read.{Read}
-use Rattle.journal_line.specs.declared.Read.TheVariants as read
-use Rattle.capi_records.specs.declared.journal.LineRecord.{LineRecord}
-use Rattle.capi_records.specs.declared.journal.WriteReply.{WriteReply}
-use Rattle.capi_records.specs.declared.journal.ReadReply.{ReadReply}
+use Rattle.camera.specs.declared.intrinsics.FxFyCxCy.{FxFyCxCy}
+use Rattle.seeds.specs.declared.CandidateSeed.{CandidateSeed}
+use Rattle.journal.specs.declared.Line.{Line}
+use Rattle.journal.specs.declared.ScoredFields.{ScoredFields}
+use Rattle.journal.specs.Outcome.{Recorded, recorded_with}
+use Rattle.journal.specs.Writing.{write_reply, write_into}
+use Rattle.journal.specs.declared.Read.{Read}
+use Rattle.journal.specs.declared.Read.TheVariants as read
+use Rattle.capi_records.specs.declared.journals.LineRecord.{LineRecord}
+use Rattle.capi_records.specs.declared.journals.WriteReply.{WriteReply}
+use Rattle.capi_records.specs.declared.journals.ReadReply.{ReadReply}
 
 -- ---- a line: `skipped` is 0 for a scored one, and else the reason's number; with any other number it is a line that
 -- can't be written

@@ -3,9 +3,9 @@
 use Rattle.std.specs.Prelude.{ℕ, Bool, Result, Ok, Err}
 use Rattle.common.specs.declared.Refusal.{Refusal}
 use Rattle.common.specs.Number.{number_of}
-use Rattle.camera_models.specs.declared.math.Pt2.{Pt2}
+use Rattle.camera.specs.declared.math.Pt2.{Pt2}
 use Rattle.float.specs.Literals.{plus_zero}
-use Rattle.point_normalise.specs.declared.linalg.Transform.{Transform}
+use Rattle.points.specs.declared.linalg.Transform.{Transform}
 use Rattle.capi_records.specs.Record.{flag_of}
 use Rattle.capi_records.specs.declared.lists.NormalizeReply.{NormalizeReply}
 use Rattle.capi_records.specs.declared.lists.LineReply.{LineReply}

@@ -2,15 +2,15 @@
 -- written as 1. Definitions only.
 use Rattle.std.specs.Prelude.{ℕ, Bool, not, cond, eqb}
 use Rattle.float.specs.Literals.{plus_zero}
-use Rattle.score_best.specs.declared.Best.{Best}
-use Rattle.score_best.specs.Best.{no_best}
-use Rattle.journal_line.specs.Counts.{no_counts}
-use Rattle.search_record.specs.Record.{no_waiting_seed}
-use Rattle.search_record.specs.declared.run.LastAnswer.{LastAnswer}
-use Rattle.search_record.specs.declared.run.Options.{Options}
-use Rattle.search_record.specs.declared.run.Place.{Place}
-use Rattle.search_record.specs.declared.run.Waiting.{Waiting}
-use Rattle.search_record.specs.declared.run.Run.{Run}
+use Rattle.score.specs.declared.best.Best.{Best}
+use Rattle.score.specs.Best.{no_best}
+use Rattle.journal.specs.Counts.{no_counts}
+use Rattle.search.specs.Record.{no_waiting_seed}
+use Rattle.search.specs.declared.run.LastAnswer.{LastAnswer}
+use Rattle.search.specs.declared.run.Options.{Options}
+use Rattle.search.specs.declared.run.Place.{Place}
+use Rattle.search.specs.declared.run.Waiting.{Waiting}
+use Rattle.search.specs.declared.run.Run.{Run}
 use Rattle.capi_records.specs.declared.record.OptionsRecord.{OptionsRecord}
 use Rattle.capi_records.specs.declared.record.PlaceRecord.{PlaceRecord}
 use Rattle.capi_records.specs.declared.record.WaitingRecord.{WaitingRecord}

@@ -4,16 +4,16 @@ use Rattle.std.specs.Prelude.{ℕ, Result, Ok, Err}
 use Rattle.common.specs.declared.Refusal.{Refusal}
 use Rattle.common.specs.Number.{number_of}
 use Rattle.float.specs.Literals.{plus_zero}
-use Rattle.search_record.specs.Record.{no_seed}
-use Rattle.journal_replay.specs.declared.EndedBy.{EndedBy}
-use Rattle.journal_replay.specs.declared.Standing.{Standing}
-use Rattle.journal_replay.specs.declared.Standing.TheVariants.{Winner, Unfinished}
-use Rattle.journal_replay.specs.declared.ReplayRefusal.{ReplayRefusal}
-use Rattle.journal_replay.specs.declared.ReplayRefusal.TheVariants.{Refused, At}
-use Rattle.journal_replay.specs.declared.Resumed.{Resumed}
-use Rattle.journal_replay.specs.Resume as resume
-use Rattle.capi_records.specs.declared.replay.ReplayFlat.{ReplayFlat}
-use Rattle.capi_records.specs.declared.replay.ResumeFlat.{ResumeFlat}
+use Rattle.search.specs.Record.{no_seed}
+use Rattle.replay.specs.declared.EndedBy.{EndedBy}
+use Rattle.replay.specs.declared.Standing.{Standing}
+use Rattle.replay.specs.declared.Standing.TheVariants.{Winner, Unfinished}
+use Rattle.replay.specs.declared.ReplayRefusal.{ReplayRefusal}
+use Rattle.replay.specs.declared.ReplayRefusal.TheVariants.{Refused, At}
+use Rattle.replay.specs.declared.Resumed.{Resumed}
+use Rattle.replay.specs.Resume as resume
+use Rattle.capi_records.specs.declared.replays.ReplayFlat.{ReplayFlat}
+use Rattle.capi_records.specs.declared.replays.ResumeFlat.{ResumeFlat}
 use Rattle.capi_records.specs.Record.{flat_run, no_run}
 
 -- the reply of replay

@@ -1,11 +1,11 @@
 -- A run that crosses the C boundary and comes back is the run that it was, and so is a line. Assumes nothing.
 use Rattle.std.specs.Prelude.{ℕ, ◌≡◌, refl, Bool, true, false, Ok, Err}
-use Rattle.seed_rules.specs.declared.CandidateSeed.{CandidateSeed}
-use Rattle.search_record.specs.declared.run.Run.{Run}
-use Rattle.journal_line.specs.declared.Line.{Line}
-use Rattle.score_outcome.specs.declared.SkipReason.{SkipReason}
-use Rattle.score_outcome.specs.declared.SkipReason.TheVariants.{HostFailed, BadCamera, NoMean, NoNumber}
-use Rattle.journal_line.specs.Outcome.{Recorded}
+use Rattle.seeds.specs.declared.CandidateSeed.{CandidateSeed}
+use Rattle.search.specs.declared.run.Run.{Run}
+use Rattle.journal.specs.declared.Line.{Line}
+use Rattle.score.specs.declared.outcome.SkipReason.{SkipReason}
+use Rattle.score.specs.declared.outcome.SkipReason.TheVariants.{HostFailed, BadCamera, NoMean, NoNumber}
+use Rattle.journal.specs.Outcome.{Recorded}
 use Rattle.capi_records.specs.Record.{flag_of, is_set, run_from, flat_run}
 use Rattle.capi_records.specs.Journal.{line_from, flat_fields, flat_line}
 use Rattle.capi_records.specs.Theorem.{ComesBack}

@@ -3,21 +3,21 @@
 use Rattle.std.specs.Prelude.{ℕ, cond, List, ◌++◌, eqb, leb, length, drop, Float, Option, Some, None, is_some, unwrap_or, Result, Ok, Err}
 use Rattle.common.specs.declared.Refusal.{Refusal}
 use Rattle.common.specs.Number.{number_of}
-use Rattle.journal_line.specs.declared.Line.{Line}
-use Rattle.score_best.specs.declared.Candidate.{Candidate}
-use Rattle.score_outcome.specs.Reasons.{reason_number}
+use Rattle.journal.specs.declared.Line.{Line}
+use Rattle.score.specs.declared.best.Candidate.{Candidate}
+use Rattle.score.specs.Reasons.{reason_number}
 use Rattle.float.specs.Literals.{plus_zero}
-use Rattle.score_camera.specs.declared.pinhole.PinholeCamera.{PinholeCamera}
-use Rattle.score_outcome.specs.declared.Finding.{Finding}
-use Rattle.score_outcome.specs.declared.Finding.TheVariants.{Failed, Solved}
-use Rattle.score_best.specs.Best.{no_best}
-use Rattle.search_record.specs.declared.run.Reply.{Reply}
-use Rattle.search_record.specs.declared.run.Run.{Run}
-use Rattle.search_calls.specs.declared.next.Handed.{Handed}
-use Rattle.search_calls.specs.declared.next.Handed.TheVariants as handed
-use Rattle.search_answer.specs.declared.Answered.{Answered}
-use Rattle.search_answer.specs.declared.Answered.TheVariants as answered
-use Rattle.search_calls.specs.declared.stop.Outlook.{Outlook}
+use Rattle.score.specs.declared.pinhole.PinholeCamera.{PinholeCamera}
+use Rattle.score.specs.declared.outcome.Finding.{Finding}
+use Rattle.score.specs.declared.outcome.Finding.TheVariants.{Failed, Solved}
+use Rattle.score.specs.Best.{no_best}
+use Rattle.search.specs.declared.run.Reply.{Reply}
+use Rattle.search.specs.declared.run.Run.{Run}
+use Rattle.search.specs.declared.next.Handed.{Handed}
+use Rattle.search.specs.declared.next.Handed.TheVariants as handed
+use Rattle.search.specs.declared.answer.Answered.{Answered}
+use Rattle.search.specs.declared.answer.Answered.TheVariants as answered
+use Rattle.search.specs.declared.stop.Outlook.{Outlook}
 use Rattle.capi_records.specs.Record.{flag_of, flat_run, no_run}
 use Rattle.capi_records.specs.declared.run.StartFlat.{StartFlat}
 use Rattle.capi_records.specs.declared.run.NextFlat.{NextFlat}

@@ -4,7 +4,7 @@ use Rattle.float.specs.Literals.{plus_zero}
 use Rattle.std.specs.Prelude.{Result, Ok, Err}
 use Rattle.common.specs.declared.Refusal.{Refusal}
 use Rattle.common.specs.Number.{number_of}
-use Rattle.score_rows.specs.declared.ErrorSum.{ErrorSum}
+use Rattle.score.specs.declared.errors.ErrorSum.{ErrorSum}
 use Rattle.capi_records.specs.declared.scoring.ErrorCountReply.{ErrorCountReply}
 
 -- the sum and the count, or 13 or 27

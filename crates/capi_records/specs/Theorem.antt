@@ -1,7 +1,7 @@
 -- What crosses the C boundary comes back as it was, as a type. `specs/RoundTrip.antt` proves it. Definitions only.
 use Rattle.std.specs.Prelude.{◌≡◌, Ok}
-use Rattle.search_record.specs.declared.run.Run.{Run}
-use Rattle.journal_line.specs.declared.Line.{Line}
+use Rattle.search.specs.declared.run.Run.{Run}
+use Rattle.journal.specs.declared.Line.{Line}
 use Rattle.capi_records.specs.Record.{run_from, flat_run}
 use Rattle.capi_records.specs.Journal.{line_from, flat_line}
 

@@ -4,12 +4,12 @@
 
 #![tactic(auto)]
 
-pub mod camera;
-pub mod journal;
+pub mod cameras;
+pub mod journals;
 pub mod laws;
 pub mod lists;
 pub mod plate;
 pub mod record;
-pub mod replay;
+pub mod replays;
 pub mod run;
 pub mod scoring;

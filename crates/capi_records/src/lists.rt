@@ -3,9 +3,9 @@
 ghost use Rattle.std.specs.Prelude.{◌≡◌};
 ghost use Rattle.capi_records.specs.Lists.{refusal_number, flat_normalized, flat_line_test, flat_centre};
 
-use camera_models::math::Pt2;
+use camera::math::Pt2;
 use common::Refusal;
-use point_normalise::linalg::Transform;
+use points::linalg::Transform;
 
 // 0 and the transform's numbers that are neither 0 nor 1, or 17, 18 or 19.
 #[repr(C)]

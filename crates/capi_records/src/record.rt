@@ -4,12 +4,12 @@
 ghost use Rattle.std.specs.Prelude.{◌≡◌};
 ghost use Rattle.capi_records.specs.Record.{options_from, flat_options, place_from, flat_place, waiting_from, flat_waiting, best_from, flat_best, last_from, flat_last, run_from, flat_run};
 
-use crate::journal::LineRecord;
-use camera_models::math::Pt2;
-use journal_line::Counts;
-use score_best::{Best, Candidate};
-use search_record::run::{LastAnswer, Options, Place, Run, Waiting};
-use seed_rules::CandidateSeed;
+use crate::journals::LineRecord;
+use camera::math::Pt2;
+use journal::Counts;
+use score::best::{Best, Candidate};
+use search::run::{LastAnswer, Options, Place, Run, Waiting};
+use seeds::CandidateSeed;
 
 #[repr(C)]
 #[derive(Clone, Copy, Default)]

@@ -6,14 +6,14 @@ ghost use Rattle.capi_records.specs.Run.{flat_started, flat_next, flat_answer, f
 use crate::lists::refusal_number;
 use crate::record::{LastRecord, RunRecord};
 use common::Refusal;
-use journal_line::Line;
-use score_best::Candidate;
-use score_camera::pinhole::PinholeCamera;
-use score_outcome::Finding;
-use search_answer::{AnswerReply, Answered};
-use search_calls::next::{Handed, NextReply};
-use search_calls::stop::Outlook;
-use search_record::run::Run;
+use journal::Line;
+use score::best::Candidate;
+use score::outcome::Finding;
+use score::pinhole::PinholeCamera;
+use search::answer::{AnswerReply, Answered};
+use search::next::{Handed, NextReply};
+use search::run::Run;
+use search::stop::Outlook;
 
 // 0 and the run, or 1 to 8, 27, 31, 32, 33.
 #[repr(C)]
@@ -66,7 +66,7 @@ pub struct StopFlat {
 impl From<Result<Run, Refusal>> for StartFlat {
     ghost from_gives = { λ started flat. flat ≡ flat_started started };
 
-    #[tactic(auto, unfolding(score_best::specs::Best::no_best))]
+    #[tactic(auto, unfolding(score::specs::Best::no_best))]
     fn from(started: Result<Run, Refusal>) -> StartFlat {
         StartFlat {
             number: refusal_number(started),
@@ -119,7 +119,7 @@ impl From<AnswerReply> for AnswerFlat {
 impl From<Result<Candidate, Refusal>> for ResultFlat {
     ghost from_gives = { λ best flat. flat ≡ flat_result best };
 
-    #[tactic(auto, unfolding(score_best::specs::Best::no_best))]
+    #[tactic(auto, unfolding(score::specs::Best::no_best))]
     fn from(best: Result<Candidate, Refusal>) -> ResultFlat {
         ResultFlat {
             number: refusal_number(best),
@@ -131,7 +131,7 @@ impl From<Result<Candidate, Refusal>> for ResultFlat {
 impl From<Outlook> for StopFlat {
     ghost from_gives = { λ outlook flat. flat ≡ flat_outlook outlook };
 
-    #[tactic(auto, unfolding(score_best::specs::Best::no_best))]
+    #[tactic(auto, unfolding(score::specs::Best::no_best))]
     fn from(outlook: Outlook) -> StopFlat {
         StopFlat {
             number: 0,
@@ -147,7 +147,7 @@ impl From<Outlook> for StopFlat {
 impl From<Result<Outlook, Refusal>> for StopFlat {
     ghost from_gives = { λ stopped flat. flat ≡ flat_stopped stopped };
 
-    #[tactic(auto, unfolding(score_best::specs::Best::no_best))]
+    #[tactic(auto, unfolding(score::specs::Best::no_best))]
     fn from(stopped: Result<Outlook, Refusal>) -> StopFlat {
         match stopped {
             Ok(outlook) => outlook.into(),

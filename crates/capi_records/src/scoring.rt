@@ -5,7 +5,7 @@ ghost use Rattle.capi_records.specs.Scoring.{flat_error_count};
 
 use crate::lists::refusal_number;
 use common::Refusal;
-use score_rows::ErrorSum;
+use score::errors::ErrorSum;
 
 // 0, the sum of the errors and how many there are, or 13 or 27.
 #[repr(C)]

@@ -6,10 +6,10 @@ use mathlib.Core.List.Memᴰ
 use Rattle.common.specs.Each.{All, every}
 use Rattle.float.specs.Float.{abs_of, is_finite, within}
 use Rattle.float.specs.Literals.{plus_zero}
-use Rattle.seed_rules.specs.Merge.{keep, has_near, push, merged_into}
-use Rattle.seed_rules.specs.Rules.{closer, tilt_near, camera_near, near, in_bound, untilted_y, pairs, tilts, seed_grid, initial_list}
-use Rattle.seed_rules.specs.Layout.{read_from}
-use Rattle.search_start.specs.Start.{good_seed, only_zero, too_many, demand_of, start_reply}
+use Rattle.seeds.specs.Merge.{keep, has_near, push, merged_into}
+use Rattle.seeds.specs.Rules.{closer, tilt_near, camera_near, near, in_bound, untilted_y, pairs, tilts, seed_grid, initial_list}
+use Rattle.seeds.specs.Layout.{read_from}
+use Rattle.search.specs.Start.{good_seed, only_zero, too_many, demand_of, start_reply}
 use Rattle.book.specs.Trace.{tilt_y_of, handed_in_round, handed, answers}
 use Rattle.book.specs.Named.{outcomes_in, handings}
 use Rattle.book.specs.Theorem.{start_of, started_list, Wins, TiltTried, Follows}

@@ -4,21 +4,21 @@ use Rattle.std.specs.Float.Ieee.{add, sub, mul, div, neg, lt, le, eq, is_nan, of
 use Rattle.common.specs.Each.{every}
 use Rattle.float.specs.Float.{abs_of, is_finite, min_of, max_of, clamp_of, within}
 use Rattle.root.specs.Root.{root_in, isqrt, root_of, root}
-use Rattle.float_series.specs.Series.{coefficient_of, horner_of, series_of}
-use Rattle.float_series.specs.Answer.{tilt_too_large}
-use Rattle.camera_tilt.specs.Matrix.{product_of, first_other, second_other, minor_of, cofactor_of, determinant_of, inverse_of}
-use Rattle.camera_tilt.specs.Sensor.{tilt_projection_matrix, forward_depth, inverse_depth, apply_homography, apply_homography_inverse}
-use Rattle.camera_models.specs.Distortion.{radial_factor, tangential_x, tangential_y, distorted, jacobian_radial, radial_derivative, jacobian_at}
-use Rattle.seed_rules.specs.Merge.{keep, has_near, push, merged_into}
-use Rattle.seed_rules.specs.Rules.{closer, tilt_near, camera_near, near, in_bound, pairs, seed_grid, initial_list, offsets, y_offsets, next_list}
-use Rattle.seed_rules.specs.Layout.{laid, read_from}
-use Rattle.score_camera.specs.Camera.{damped, finite_intrinsics, finite_distortion, valid_camera}
-use Rattle.score_camera.specs.Penalties.{distortion_penalty, tilt_penalty, centre_penalty, score_of}
-use Rattle.score_rows.specs.Rows.{rows_of, tilt_matrix, projected, row_error, is_counted, counted_errors, summed, error_sum, mean_of}
-use Rattle.score_outcome.specs.Evaluation.{any_above_one, solved_refusal, finding_refusal, trig_of, errors_with, mean_with, enough, enough_with, scoring_of, scored_as, evaluated, outcome_of}
-use Rattle.score_best.specs.Best.{beats, unbeaten, first_unbeaten, best_of, no_best, is_better, improved}
-use Rattle.score_floor.specs.Floor.{counted_penalty, floor_of}
-use Rattle.journal_line.specs.Counts.{count_in}
+use Rattle.trig.specs.Series.{coefficient_of, horner_of, series_of}
+use Rattle.trig.specs.Answer.{tilt_too_large}
+use Rattle.camera.specs.Matrix.{product_of, first_other, second_other, minor_of, cofactor_of, determinant_of, inverse_of}
+use Rattle.camera.specs.Sensor.{tilt_projection_matrix, forward_depth, inverse_depth, apply_homography, apply_homography_inverse}
+use Rattle.camera.specs.Distortion.{radial_factor, tangential_x, tangential_y, distorted, jacobian_radial, radial_derivative, jacobian_at}
+use Rattle.seeds.specs.Merge.{keep, has_near, push, merged_into}
+use Rattle.seeds.specs.Rules.{closer, tilt_near, camera_near, near, in_bound, pairs, seed_grid, initial_list, offsets, y_offsets, next_list}
+use Rattle.seeds.specs.Layout.{laid, read_from}
+use Rattle.score.specs.Camera.{damped, finite_intrinsics, finite_distortion, valid_camera}
+use Rattle.score.specs.Penalties.{distortion_penalty, tilt_penalty, centre_penalty, score_of}
+use Rattle.score.specs.Rows.{rows_of, tilt_matrix, projected, row_error, is_counted, counted_errors, summed, error_sum, mean_of}
+use Rattle.score.specs.Evaluation.{any_above_one, solved_refusal, finding_refusal, trig_of, errors_with, mean_with, enough, enough_with, scoring_of, scored_as, evaluated, outcome_of}
+use Rattle.score.specs.Best.{beats, unbeaten, first_unbeaten, best_of, no_best, is_better, improved}
+use Rattle.score.specs.Floor.{counted_penalty, floor_of}
+use Rattle.journal.specs.Counts.{count_in}
 use Rattle.book.specs.Book.{demand, scored_of, round_best_of, run_best_of, step_of, first_list, list_around, opened, with_waiting, with_entry, with_round, with_end, close_round, book_enter, book_next, book_seed, book_answer, book_result, book_progress, rest_of, book_stop, book_call, replies, tally, book_counts}
 use Rattle.cases.specs.Theorem.{OnBook}
 

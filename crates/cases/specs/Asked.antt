@@ -3,9 +3,9 @@
 -- that is too short. Definitions only.
 use Rattle.std.specs.Prelude.{true, false, List, [], ◌∷◌, ◌++◌, Float}
 use Rattle.common.specs.declared.Refusal.TheVariants.{ListShortened}
-use Rattle.score_outcome.specs.declared.SkipReason.TheVariants.{HostFailed}
-use Rattle.score_best.specs.declared.Candidate.{Candidate}
-use Rattle.score_best.specs.Best.{nothing, chosen}
+use Rattle.score.specs.declared.outcome.SkipReason.TheVariants.{HostFailed}
+use Rattle.score.specs.declared.best.Candidate.{Candidate}
+use Rattle.score.specs.Best.{nothing, chosen}
 use Rattle.book.specs.Calls.{Call, next, answer, ask, progress, stop, nothing_left, floor, Reply, candidate, scored, skipped, result, bar, stopped, refused}
 use Rattle.book.specs.Book.{Inputs}
 use Rattle.cases.specs.Numbers.{bits, eighth, quarter}

@@ -5,16 +5,16 @@ use Rattle.common.specs.declared.Refusal.{Refusal}
 use Rattle.std.specs.Float.Ieee.{of_int, of_bits}
 use Rattle.std.specs.Float.{binary64}
 use Rattle.root.specs.Root.{root}
-use Rattle.camera_models.specs.declared.math.Pt2.{Pt2}
-use Rattle.camera_models.specs.declared.intrinsics.FxFyCxCy.{FxFyCxCy}
-use Rattle.camera_tilt.specs.declared.sensor.ScheimpflugParams.{ScheimpflugParams}
-use Rattle.camera_tilt.specs.Matrix.{Matrix}
-use Rattle.camera_tilt.specs.Sensor.{tilt_projection_matrix, tilt_verdict, apply_homography, apply_homography_inverse}
-use Rattle.point_maps.specs.Centre.{centre_reply}
+use Rattle.camera.specs.declared.math.Pt2.{Pt2}
+use Rattle.camera.specs.declared.intrinsics.FxFyCxCy.{FxFyCxCy}
+use Rattle.camera.specs.declared.sensor.ScheimpflugParams.{ScheimpflugParams}
+use Rattle.camera.specs.Matrix.{Matrix}
+use Rattle.camera.specs.Sensor.{tilt_projection_matrix, tilt_verdict, apply_homography, apply_homography_inverse}
+use Rattle.points.specs.Centre.{centre_reply}
 use Rattle.zhang.specs.declared.Conic.{Conic}
 use Rattle.zhang.specs.Zhang.{from_homographies}
-use Rattle.seed_rules.specs.Rules.{seed_with, initial_list, offsets, next_list}
-use Rattle.score_camera.specs.Penalties.{tilt_penalty}
+use Rattle.seeds.specs.Rules.{seed_with, initial_list, offsets, next_list}
+use Rattle.score.specs.Penalties.{tilt_penalty}
 
 -- ---- numbers: n and -n
 abbrev pub whole : ℕ → Float

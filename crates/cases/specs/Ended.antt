@@ -1,8 +1,8 @@
 -- Two runs without a winner: in one, round 0 is empty; in the other, nothing is scored. Definitions only.
 use Rattle.std.specs.Prelude.{false, List, [], ◌∷◌, ◌++◌}
 use Rattle.common.specs.declared.Refusal.TheVariants.{ListShortened, NothingScored, NoSeedWaiting}
-use Rattle.score_outcome.specs.declared.SkipReason.TheVariants.{HostFailed}
-use Rattle.score_outcome.specs.declared.Finding.TheVariants.{Failed}
+use Rattle.score.specs.declared.outcome.SkipReason.TheVariants.{HostFailed}
+use Rattle.score.specs.declared.outcome.Finding.TheVariants.{Failed}
 use Rattle.book.specs.Calls.{Call, next, seed, answer, ask, Reply, candidate, part, skipped, refused}
 use Rattle.book.specs.Book.{Inputs}
 use Rattle.cases.specs.Numbers.{bits, quarter}

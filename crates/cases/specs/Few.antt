@@ -1,8 +1,8 @@
 -- Runs with a share of counted rows: one of three rows is enough for 33 per cent and not for 34. Definitions only.
 use Rattle.std.specs.Prelude.{ℕ, false, List, [], ◌∷◌, ◌++◌, Float}
 use Rattle.common.specs.declared.Refusal.TheVariants.{NothingScored}
-use Rattle.score_outcome.specs.declared.SkipReason.TheVariants.{NoMean, NoNumber}
-use Rattle.score_outcome.specs.declared.Finding.TheVariants.{Solved}
+use Rattle.score.specs.declared.outcome.SkipReason.TheVariants.{NoMean, NoNumber}
+use Rattle.score.specs.declared.outcome.Finding.TheVariants.{Solved}
 use Rattle.book.specs.Calls.{Call, next, ask, Reply, candidate, over, scored, skipped, result, refused, counts, counted}
 use Rattle.book.specs.Book.{Inputs}
 use Rattle.cases.specs.Numbers.{bits, quarter, far}

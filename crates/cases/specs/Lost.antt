@@ -1,11 +1,11 @@
 -- Runs with scores that aren't numbers: the first score, the second of three, and all. Definitions only.
 use Rattle.std.specs.Prelude.{false, List, [], ◌∷◌, ◌++◌, ℕ, Float}
 use Rattle.common.specs.declared.Refusal.TheVariants.{NothingScored}
-use Rattle.score_outcome.specs.declared.SkipReason.TheVariants.{NoNumber}
-use Rattle.score_outcome.specs.declared.Finding.TheVariants.{Solved}
-use Rattle.score_best.specs.declared.Candidate.{Candidate}
-use Rattle.search_record.specs.declared.run.Run.{Run}
-use Rattle.search_start.specs.Start.{opening_of}
+use Rattle.score.specs.declared.outcome.SkipReason.TheVariants.{NoNumber}
+use Rattle.score.specs.declared.outcome.Finding.TheVariants.{Solved}
+use Rattle.score.specs.declared.best.Candidate.{Candidate}
+use Rattle.search.specs.declared.run.Run.{Run}
+use Rattle.search.specs.Start.{opening_of}
 use Rattle.book.specs.Calls.{Call, next, ask, Reply, candidate, over, scored, skipped, result, refused}
 use Rattle.book.specs.Book.{Inputs}
 use Rattle.book.specs.Theorem.{options_of}

@@ -3,16 +3,16 @@
 use Rattle.std.specs.Prelude.{ℕ, ◌≡◌, refl, Bool, true, false, List, [], ◌∷◌, ◌++◌, length, Float, Result, Ok, Err, ⊤}
 use Rattle.common.specs.declared.Refusal.{Refusal}
 use Rattle.common.specs.declared.Refusal.TheVariants.{NoTilts, BadSeed, TiltNotFinite, TiltTooLarge, TiltsOffAxis, SeedOffAxis}
-use Rattle.score_outcome.specs.declared.SkipReason.TheVariants.{HostFailed}
+use Rattle.score.specs.declared.outcome.SkipReason.TheVariants.{HostFailed}
 use Rattle.std.specs.Float.Ieee.{of_bits, add, sub, neg, lt, le, eq}
 use Rattle.common.specs.Each.{All, every}
 use Rattle.float.specs.Float.{abs_of, is_finite, within}
-use Rattle.seed_rules.specs.Merge.{keep, has_near, push, merged_into}
-use Rattle.seed_rules.specs.Rules.{closer, tilt_near, camera_near, near, in_bound, untilted_y, tilts, pairs, seed_with, offsets, y_offsets, next_list}
-use Rattle.seed_rules.specs.Layout.{read_from}
-use Rattle.score_best.specs.declared.Candidate.{Candidate}
-use Rattle.search_record.specs.declared.run.Run.{Run}
-use Rattle.search_start.specs.Start.{good_seed, only_zero, too_many, demand_of, opening_of, start_refusal}
+use Rattle.seeds.specs.Merge.{keep, has_near, push, merged_into}
+use Rattle.seeds.specs.Rules.{closer, tilt_near, camera_near, near, in_bound, untilted_y, tilts, pairs, seed_with, offsets, y_offsets, next_list}
+use Rattle.seeds.specs.Layout.{read_from}
+use Rattle.score.specs.declared.best.Candidate.{Candidate}
+use Rattle.search.specs.declared.run.Run.{Run}
+use Rattle.search.specs.Start.{good_seed, only_zero, too_many, demand_of, opening_of, start_refusal}
 use Rattle.book.specs.Calls.{Call, next, seed, answer, ask, Reply, candidate, over, part, scored, skipped, result}
 use Rattle.book.specs.Book.{Inputs}
 use Rattle.book.specs.Theorem.{options_of}

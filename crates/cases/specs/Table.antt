@@ -3,21 +3,21 @@
 use Rattle.std.specs.Prelude.{refl, List, [], ◌∷◌, Float, Result, Ok, Err}
 use Rattle.common.specs.declared.Refusal.{Refusal}
 use Rattle.common.specs.declared.Refusal.TheVariants.{SingularTilt, DegenerateViews}
-use Rattle.camera_models.specs.declared.intrinsics.FxFyCxCy.{FxFyCxCy}
+use Rattle.camera.specs.declared.intrinsics.FxFyCxCy.{FxFyCxCy}
 use Rattle.std.specs.Float.Ieee.{of_int, of_bits, add, sub, mul, div, neg, lt, le, eq, is_nan}
 use Rattle.common.specs.Each.{All}
 use Rattle.float.specs.Float.{abs_of, is_finite, min_of, max_of, within}
 use Rattle.root.specs.Root.{root}
-use Rattle.camera_models.specs.declared.math.Pt2.{Pt2}
-use Rattle.camera_tilt.specs.Matrix.{Matrix, product_of, first_other, second_other, minor_of, determinant_of}
-use Rattle.camera_tilt.specs.Sensor.{tilt_projection_matrix, forward_depth, inverse_depth, apply_homography, apply_homography_inverse}
-use Rattle.point_normalise.specs.Points.{fold_points}
-use Rattle.point_maps.specs.Centre.{extent_of, centre_of, centre_reply}
+use Rattle.camera.specs.declared.math.Pt2.{Pt2}
+use Rattle.camera.specs.Matrix.{Matrix, product_of, first_other, second_other, minor_of, determinant_of}
+use Rattle.camera.specs.Sensor.{tilt_projection_matrix, forward_depth, inverse_depth, apply_homography, apply_homography_inverse}
+use Rattle.points.specs.Points.{fold_points}
+use Rattle.points.specs.Centre.{extent_of, centre_of, centre_reply}
 use Rattle.zhang.specs.declared.Conic.{Conic}
 use Rattle.zhang.specs.Zhang.{definite, from_homographies}
-use Rattle.seed_rules.specs.Merge.{keep, has_near, push, merged_into}
-use Rattle.seed_rules.specs.Rules.{closer, tilt_near, near, in_bound, tilts, pairs, seed_grid, initial_list, offsets, next_list}
-use Rattle.score_camera.specs.Penalties.{tilt_penalty}
+use Rattle.seeds.specs.Merge.{keep, has_near, push, merged_into}
+use Rattle.seeds.specs.Rules.{closer, tilt_near, near, in_bound, tilts, pairs, seed_grid, initial_list, offsets, next_list}
+use Rattle.score.specs.Penalties.{tilt_penalty}
 use Rattle.cases.specs.Case.{Case, sqrt, tilt, forward, backward, centre, conic, typed, around, penalty, Holds, whole, minus}
 use Rattle.cases.specs.Numbers.{bits, eighth, quarter, half}
 

@@ -6,8 +6,8 @@ use Rattle.std.specs.Float.Ieee.{neg, eq}
 use Rattle.common.specs.Each.{All}
 use Rattle.common.specs.declared.Refusal.TheVariants.{NothingScored, ShareTooLarge}
 use Rattle.float.specs.Literals.{plus_zero}
-use Rattle.seed_rules.specs.Rules.{tilts, seed_with, offsets, y_offsets, next_list}
-use Rattle.search_calls.specs.Result.{result_def}
+use Rattle.seeds.specs.Rules.{tilts, seed_with, offsets, y_offsets, next_list}
+use Rattle.search.specs.Result.{result_def}
 use Rattle.book.specs.Calls.{next, candidate, refused}
 use Rattle.book.specs.Book.{opened, replies}
 use Rattle.book.specs.Trace.{tilt_y_of, handed_in_round, handed, answers, run_after}

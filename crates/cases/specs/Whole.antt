@@ -3,12 +3,12 @@
 -- in between, and the counts while a seed waits and at the end. Definitions only.
 use Rattle.std.specs.Prelude.{false, List, [], ◌∷◌, ◌++◌, Float}
 use Rattle.common.specs.declared.Refusal.TheVariants.{SeedWaiting, ListShortened, NoSeedWaiting, BadRows, NotOver}
-use Rattle.score_outcome.specs.declared.SkipReason.TheVariants.{HostFailed, BadCamera, NoMean}
-use Rattle.score_outcome.specs.declared.Finding.TheVariants.{Failed}
-use Rattle.score_best.specs.declared.Candidate.{Candidate}
-use Rattle.journal_line.specs.Counts.{no_counts}
-use Rattle.search_record.specs.declared.run.Run.{Run}
-use Rattle.search_start.specs.Start.{opening_of}
+use Rattle.score.specs.declared.outcome.SkipReason.TheVariants.{HostFailed, BadCamera, NoMean}
+use Rattle.score.specs.declared.outcome.Finding.TheVariants.{Failed}
+use Rattle.score.specs.declared.best.Candidate.{Candidate}
+use Rattle.journal.specs.Counts.{no_counts}
+use Rattle.search.specs.declared.run.Run.{Run}
+use Rattle.search.specs.Start.{opening_of}
 use Rattle.book.specs.Calls.{Call, next, seed, answer, ask, Reply, candidate, over, part, scored, skipped, result, refused, counts, counted}
 use Rattle.book.specs.Book.{Inputs}
 use Rattle.book.specs.Theorem.{options_of}

@@ -1,11 +1,11 @@
 -- Numbers, cameras and findings that the worked runs are made of. Definitions only.
 use Rattle.std.specs.Prelude.{ℕ, List, [], ◌∷◌, ◌++◌, Float, Result, Ok, Err}
 use Rattle.common.specs.declared.Refusal.{Refusal}
-use Rattle.camera_models.specs.declared.math.Pt2.{Pt2}
-use Rattle.camera_models.specs.declared.intrinsics.FxFyCxCy.{FxFyCxCy}
-use Rattle.score_outcome.specs.declared.Finding.{Finding}
-use Rattle.score_outcome.specs.declared.Finding.TheVariants.{Failed, Solved}
-use Rattle.search_record.specs.declared.run.Run.{Run}
+use Rattle.camera.specs.declared.math.Pt2.{Pt2}
+use Rattle.camera.specs.declared.intrinsics.FxFyCxCy.{FxFyCxCy}
+use Rattle.score.specs.declared.outcome.Finding.{Finding}
+use Rattle.score.specs.declared.outcome.Finding.TheVariants.{Failed, Solved}
+use Rattle.search.specs.declared.run.Run.{Run}
 use Rattle.book.specs.Calls.{Call, next, answer, Reply, refused}
 use Rattle.book.specs.Book.{Inputs}
 use Rattle.book.specs.Walk.{walk}

@@ -1,4 +1,8 @@
-pub mod Laws
+mod Rounds
+mod Steps
+mod Patterns
+mod Exponents
+pub mod RootLaws
 pub mod Nearest
 pub mod MachineRoot
 pub mod NearestWhole

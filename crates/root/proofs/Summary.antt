@@ -2,7 +2,7 @@
 use Rattle.std.specs.Float.{Format}
 use Rattle.root.specs.Theorem.{SquareRootOf754, RootIs754}
 use Rattle.root.proofs.Nearest.{root_fits, root_nearest, root_no_tie, root_exact}
-use Rattle.root.proofs.Laws.{root_nan, root_infinity, root_zero, root_negative, root_not_below, root_is_nan, root_is_finite}
+use Rattle.root.proofs.RootLaws.{root_nan, root_infinity, root_zero, root_negative, root_not_below, root_is_nan, root_is_finite}
 
 of_format : (f : Format) → SquareRootOf754 f
 of_format f =

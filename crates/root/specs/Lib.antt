@@ -1,3 +1,6 @@
+pub mod NearestRoot
+pub mod Exponent
+pub mod Operand
 pub mod Root
 pub mod IntegerRoot
 pub mod ByValue

@@ -1,19 +1,55 @@
-// The square root that IEEE 754 asks for, as a definition over whole numbers (specs/Root.antt), and what is proved of
-// that definition (specs/Theorem.antt). There is no code here, but for the functions whose contracts are the theorems.
+// The square root that IEEE 754 asks for, worked out from the bits of an f64 with whole numbers. specs/Root.antt
+// defines it, and specs/Theorem.antt says what is proved of the definition.
+//
+// A guess from a short fixed-point calculation is checked exactly and, if it fails, the digits are worked out one by
+// one, so the answer does not depend on the guess. Every loop has a constant number of turns.
 
 #![tactic(auto)]
 
-ghost use Rattle.root.specs.Theorem.{RootIs754, MachineRootIs754};
+mod digits;
+pub mod estimate;
+pub mod from_guess;
+pub mod laws;
+pub mod machine;
+pub mod operand;
 
-/// The definition of the root is IEEE 754's square root, for both formats: no value of the format is nearer to the true
-/// root, ties don't occur, squares are exact, and the special values are IEEE 754's.
-#[tactic(auto, using(crate::proofs::Summary::square_root))]
-pub fn root_law()
-    ensures { RootIs754 }
-{}
+ghost use Rattle.std.specs.Prelude.{◌≡◌, ◌*◌, ◌^◌};
+ghost use Rattle.std.specs.Float.{binary64};
+ghost use Rattle.root.specs.Root.{root_of, root};
+ghost use Rattle.root.specs.Operand.{Bounded};
 
-/// The machine's square root equals that root for every value of binary64.
-#[tactic(auto, using(crate::proofs::MachineRoot::machine_root))]
-pub fn machine_root_law()
-    ensures { MachineRootIs754 }
-{}
+use crate::estimate::reciprocal_root;
+use crate::from_guess::Radicand;
+use crate::operand::{Operand, Scaled, decompose};
+
+// The root of s, rounded. The root of significand * 4^26 has 53 digits, the leading one of which adds 1 to the
+// exponent's field.
+fn rounded(s: Scaled, guess: u32) -> f64
+    requires { Bounded s }
+    ensures { result ≡ root_of binary64 (s.significand * 4 ^ s.half) }
+{
+    let radicand = Radicand {
+        significand: s.significand,
+        guess,
+    };
+    let q = radicand.nearest_root();
+    f64::from_bits((s.half - 26) * 0x10_0000_0000_0000 + q)
+}
+
+// The root of s from the estimate.
+fn estimated(s: Scaled) -> f64
+    requires { Bounded s }
+    ensures { result ≡ root_of binary64 (s.significand * 4 ^ s.half) }
+{
+    rounded(s, reciprocal_root(s.significand))
+}
+
+// The square root, correctly rounded.
+pub fn sqrt(x: f64) -> f64
+    ensures { result ≡ root binary64 x }
+{
+    match decompose(x) {
+        Operand::Known(r) => r,
+        Operand::Positive(s) => estimated(s),
+    }
+}

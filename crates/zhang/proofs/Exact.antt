@@ -15,7 +15,7 @@ use Rattle.float.specs.Order.{lt_le_trans, le_not_lt}
 use Rattle.float.specs.Binary64.{◌+₆₄◌, ◌-₆₄◌, ◌*₆₄◌, ◌/₆₄◌}
 use Rattle.root.specs.Root.{root}
 use Rattle.root.proofs.Nearest.{root_exact}
-use Rattle.camera_models.specs.declared.intrinsics.FxFyCxCy.{FxFyCxCy}
+use Rattle.camera.specs.declared.intrinsics.FxFyCxCy.{FxFyCxCy}
 use Rattle.zhang.specs.declared.Conic.{Conic}
 use Rattle.zhang.specs.Zhang.{least_definite, least_b11, denom, norm, v0, lambda, alpha, beta, gamma, u0, definite, from_homographies}
 use Rattle.zhang.specs.Theorem.{Conic-of, Recovered, CameraRecovered}

@@ -1,1 +1,7 @@
 pub mod Exact
+pub mod Units
+pub mod Lowest
+pub mod Given
+pub mod WholeNumber
+pub mod Turns
+pub mod Cases

@@ -1,2 +1,5 @@
 pub mod Zhang
 pub mod Theorem
+pub mod Plate
+pub mod Table
+pub mod Whole

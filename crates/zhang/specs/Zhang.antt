@@ -7,7 +7,7 @@ use Rattle.float.specs.Binary64.{◌+₆₄◌, ◌-₆₄◌, ◌*₆₄◌, �
 use Rattle.float.specs.Float.{abs_of}
 use Rattle.float.specs.Literals.{plus_zero, ten_to_minus6, ten_to_minus12}
 use Rattle.root.specs.Root.{root}
-use Rattle.camera_models.specs.declared.intrinsics.FxFyCxCy.{FxFyCxCy}
+use Rattle.camera.specs.declared.intrinsics.FxFyCxCy.{FxFyCxCy}
 use Rattle.zhang.specs.declared.Conic.{Conic}
 use Rattle.common.specs.declared.Refusal.{Refusal}
 use Rattle.common.specs.declared.Refusal.TheVariants.{DegenerateViews}

@@ -1,15 +1,17 @@
-// Zhang's closed form: a camera from the conic that a plate's homographies determine.
-// The reply equals a definition that reads like the appendix of Zhang's paper, for every six numbers.
+// Zhang's closed form: a camera from the conic that a plate's homographies determine; `plate` has the conic that
+// gives a chosen camera back. The reply equals a definition that reads like the appendix of Zhang's paper, for every
+// six numbers.
 
 #![tactic(auto)]
 
 pub mod laws;
+pub mod plate;
 
 ghost use Rattle.std.specs.Prelude.{◌≡◌};
 ghost use Rattle.zhang.specs.Zhang as zhang;
 ghost use Rattle.zhang.specs.Zhang.{camera_of, from_homographies};
 
-use camera_models::intrinsics::FxFyCxCy;
+use camera::intrinsics::FxFyCxCy;
 use common::Refusal;
 
 // The conic B = μ K⁻ᵀ K⁻¹, a symmetric matrix known up to its scale μ, in the order in which the linear solve gives its
@@ -31,8 +33,8 @@ fn camera_of(b: Conic, denom: f64, v0: f64, lambda: f64) -> FxFyCxCy
     ensures { result ≡ camera_of b }
 {
     let Conic { b11, b12, b13, .. } = b;
-    let alpha = root_code::sqrt(lambda / b11);
-    let beta = root_code::sqrt(lambda * b11 / denom);
+    let alpha = root::sqrt(lambda / b11);
+    let beta = root::sqrt(lambda * b11 / denom);
     let gamma = -b12 * alpha * alpha * beta / lambda;
     let u0 = gamma * v0 / beta - b13 * alpha * alpha / lambda;
     FxFyCxCy {

@@ -1,5 +1,5 @@
 -- `capi::scoring::jc_mean_reproj_error` meets its contract, by that of `mean_of_rows`. Assumes nothing.
-use Rattle.score_rows.specs.Rows.{tilt_matrix}
+use Rattle.score.specs.Rows.{tilt_matrix}
 use Rattle.capi.proofs.scoring.jc_mean_reproj_error.Goals as goal
 
 pub returns : goal.returns

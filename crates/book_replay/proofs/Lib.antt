@@ -1,4 +1,0 @@
-pub mod Lines
-pub mod Bytes
-pub mod File
-pub mod Theorem

@@ -1,0 +1,3 @@
+pub mod NoDistortion
+mod Turns
+pub mod Descent

@@ -1,0 +1,11 @@
+pub mod Constants
+pub mod Math
+pub mod Intrinsics
+pub mod Distortion
+pub mod NoDistortion
+pub mod Theorem
+pub mod Matrix
+pub mod Sensor
+pub mod Undistortion
+pub mod Matrices
+pub mod Invertible

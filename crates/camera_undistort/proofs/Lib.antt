@@ -1,2 +1,0 @@
-mod Turns
-pub mod Descent

@@ -1,2 +1,0 @@
-pub mod Undistortion
-pub mod Theorem

@@ -1,6 +1,0 @@
-mod Bytes
-mod Found
-mod Fits
-mod Parts
-mod Reported
-mod Stores

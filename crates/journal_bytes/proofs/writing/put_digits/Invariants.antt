@@ -1,8 +1,0 @@
--- `journal_bytes::writing::put_digits`: the loop's invariant.
-use Rattle.std.proofs.Common.{◌≡◌}
-use lib.Seq.{sets}
-use Rattle.journal_line.specs.Line.{digits}
-use Rattle.journal_bytes.proofs.writing.put_digits.Given as goal
-
-abbrev pub invariant-loop-i : goal.invariant-loop-i
-invariant-loop-i l = sets l.out l.at (digits l.base l.i l.left) ≡ sets l.initial.out l.at (digits l.base l.w l.n)

@@ -1,2 +1,0 @@
-pub mod Spread
-pub mod NearLine

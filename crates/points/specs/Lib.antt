@@ -1,0 +1,14 @@
+pub mod Points
+pub mod Walk
+pub mod Chunks
+pub mod Linalg
+pub mod Hartley
+pub mod MeanDistance
+pub mod AllPoints
+pub mod Theorem
+pub mod Line
+pub mod Rows
+pub mod RowsLaws
+pub mod Spread
+pub mod Maps
+pub mod Centre

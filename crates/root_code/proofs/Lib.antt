@@ -1,4 +1,0 @@
-mod Rounds
-mod Steps
-mod Patterns
-mod Exponents

@@ -1,3 +1,0 @@
-pub mod NearestRoot
-pub mod Exponent
-pub mod Operand

@@ -1,0 +1,13 @@
+pub mod Camera
+pub mod Penalties
+pub mod Rows
+pub mod Steps
+pub mod Theorem
+pub mod Evaluation
+pub mod Facts
+pub mod Reasons
+pub mod Share
+pub mod Best
+pub mod Winners
+pub mod Floor
+pub mod Penalty

@@ -1,3 +1,0 @@
-pub mod Best
-pub mod Winners
-pub mod Theorem

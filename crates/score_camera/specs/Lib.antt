@@ -1,2 +1,0 @@
-pub mod Camera
-pub mod Penalties

@@ -1,4 +1,0 @@
-pub mod FloorFold
-pub mod FloorLaws
-pub mod Penalty
-pub mod FloorKept

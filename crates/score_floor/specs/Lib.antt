@@ -1,3 +1,0 @@
-pub mod Floor
-pub mod Penalty
-pub mod Theorem

@@ -1,4 +1,0 @@
-pub mod Outcomes
-pub mod Share
-pub mod Invertible
-pub mod Facts

@@ -1,3 +1,0 @@
-mod Filled
-pub mod Counted
-pub mod Steps

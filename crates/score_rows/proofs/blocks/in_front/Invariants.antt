@@ -1,7 +1,0 @@
--- `score_rows::blocks::in_front`: the loop's invariant: the count is that of the first j rows.
-use Rattle.std.proofs.Common.{◌≡◌}
-use Rattle.score_rows.specs.Steps.{in_front}
-use Rattle.score_rows.proofs.blocks.in_front.Given as goal
-
-abbrev pub invariant-loop-flag : goal.invariant-loop-flag
-invariant-loop-flag l = l.count ≡ in_front l.block.rows.flags.now l.flag-index

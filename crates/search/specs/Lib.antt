@@ -1,0 +1,14 @@
+pub mod Record
+pub mod Laws
+pub mod Start
+pub mod StartLaws
+pub mod Counts
+pub mod Last
+pub mod Next
+pub mod Result
+pub mod Progress
+pub mod Stop
+pub mod NextLaws
+pub mod Theorem
+pub mod Answer
+pub mod AnswerLaws

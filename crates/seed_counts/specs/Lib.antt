@@ -1,2 +1,0 @@
-pub mod Admissible
-pub mod Theorem

@@ -1,9 +1,0 @@
--- Typed tilts that have been merged by tilt. Definitions only.
-use Rattle.std.specs.Prelude.{◌≡◌, false, List, ◌∷◌, ◌++◌}
-use Rattle.camera_tilt.specs.declared.sensor.ScheimpflugParams.{ScheimpflugParams}
-use Rattle.seed_rules.specs.Merge.{has_near}
-use Rattle.seed_rules.specs.Rules.{tilt_near}
-
--- none of them is near an earlier one
-abbrev pub TypedPairsApart : List ScheimpflugParams → Type 0
-TypedPairsApart ts = (earlier : List ScheimpflugParams) (t : ScheimpflugParams) (later : List ScheimpflugParams) → ts ≡ earlier ++ t ∷ later → has_near tilt_near earlier t ≡ false

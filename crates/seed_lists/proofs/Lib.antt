@@ -1,3 +1,0 @@
-pub mod Search
-pub mod Far
-pub mod Among

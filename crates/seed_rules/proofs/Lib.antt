@@ -1,9 +1,0 @@
-pub mod Facts
-pub mod MergeLaws
-pub mod Mirror
-pub mod Newest
-pub mod RulesLaws
-pub mod Tried
-pub mod Unmerged
-pub mod Steps
-pub mod AnyOffsets

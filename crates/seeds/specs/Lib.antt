@@ -1,0 +1,10 @@
+pub mod Layout
+pub mod LayoutLaws
+pub mod Merge
+pub mod Rules
+pub mod AnyOffsets
+pub mod Theorem
+pub mod Chunks
+pub mod Pushed
+pub mod Typed
+pub mod Admissible

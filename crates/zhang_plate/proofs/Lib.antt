@@ -1,6 +1,0 @@
-pub mod Units
-pub mod Lowest
-pub mod Given
-pub mod WholeNumber
-pub mod Turns
-pub mod Cases

@@ -1,4 +1,0 @@
-pub mod Plate
-pub mod Table
-pub mod Theorem
-pub mod Whole
