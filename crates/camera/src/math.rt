@@ -1,6 +1,6 @@
-ghost use Rattle.std.specs.Prelude.{◌≡◌};
+ghost use Rattle.std.specs.Prelude.{◌≡◌, ◌+◌, ◌<◌, length};
 ghost use Rattle.camera.specs.Distortion.{squared_norm};
-ghost use Rattle.camera.specs.Math.{minus_point};
+ghost use Rattle.camera.specs.Math.{minus_point, point_at, squared_distance, distance_of};
 
 use std::ops::Sub;
 
@@ -32,4 +32,28 @@ impl Sub for Pt2 {
             y: self.y - rhs.y,
         }
     }
+}
+
+// The point whose x stands at i.
+pub fn point_at(points: &[f64], i: usize) -> Pt2
+    requires { i + 1 < length points.now }
+    ensures { result ≡ point_at points.now i }
+{
+    Pt2 {
+        x: points[i],
+        y: points[i + 1],
+    }
+}
+
+// The square of the distance of two points.
+pub fn squared_distance(p: Pt2, q: Pt2) -> f64
+    ensures { result ≡ squared_distance p q }
+{
+    (p - q).squared_norm()
+}
+
+pub fn distance(p: Pt2, q: Pt2) -> f64
+    ensures { result ≡ distance_of p q }
+{
+    root::machine::sqrt(squared_distance(p, q))
 }

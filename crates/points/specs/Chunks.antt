@@ -15,7 +15,8 @@ use Rattle.std.proofs.iter.Yields.{fronts}
 use Rattle.std.proofs.lemmas.Iterator.{YieldsList-from_slice}
 use Rattle.std.proofs.lemmas.Iterator.Consumers.{fold_from_yields_List}
 use Rattle.camera.specs.declared.math.Pt2.{Pt2}
-use Rattle.points.specs.Points.{points_of, fold_points, find_point, point_at}
+use Rattle.points.specs.Points.{points_of, fold_points, find_point}
+use Rattle.camera.specs.Math.{point_at}
 
 -- the point of a chunk
 abbrev pub point_of : Bor (List Float) → Pt2

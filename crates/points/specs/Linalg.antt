@@ -12,7 +12,8 @@ use Rattle.root.specs.Root.{root}
 use Rattle.camera.specs.declared.math.Pt2.{Pt2}
 use Rattle.points.specs.declared.linalg.Similarity.{Similarity}
 use Rattle.points.specs.declared.linalg.Transform.{Transform}
-use Rattle.points.specs.Points.{fold_points, mapped_xy, map_points, count_of, length_checks, distance_of}
+use Rattle.points.specs.Points.{fold_points, mapped_xy, map_points, count_of, length_checks}
+use Rattle.camera.specs.Math.{distance_of}
 
 -- 2^-52
 abbrev pub epsilon : Float

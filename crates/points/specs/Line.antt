@@ -7,7 +7,8 @@ use Rattle.float.specs.Binary64.{◌-₆₄◌, ◌*₆₄◌}
 use Rattle.float.specs.Float.{abs_of}
 use Rattle.float.specs.Literals.{ten_to_minus6, ten_to_minus9}
 use Rattle.camera.specs.declared.math.Pt2.{Pt2}
-use Rattle.points.specs.Points.{find_point, point_at, distance_of}
+use Rattle.points.specs.Points.{find_point}
+use Rattle.camera.specs.Math.{point_at, distance_of}
 
 -- 1e-9: points that are no farther apart count as the same
 abbrev pub least_distance : Float

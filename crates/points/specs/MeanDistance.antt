@@ -8,7 +8,8 @@ use Rattle.float.specs.Float.{sign_bit}
 use Rattle.float.specs.Literals.{plus_zero}
 use Rattle.root.proofs.RootLaws.{sign_root}
 use Rattle.camera.specs.declared.math.Pt2.{Pt2}
-use Rattle.points.specs.Points.{fold_points, count_of, distance_of}
+use Rattle.points.specs.Points.{fold_points, count_of}
+use Rattle.camera.specs.Math.{distance_of}
 use Rattle.points.specs.Linalg.{add_distance, mean_distance}
 
 -- ---- a distance, a sum of distances and their mean have no minus sign

@@ -1,11 +1,9 @@
 -- A list of numbers as points, x then y. A number that is left over at the end belongs to no point. Definitions only.
-use Rattle.std.specs.Prelude.{ℕ, ◌+◌, ◌/◌, ◌%◌, Bool, not, ◌||◌, cond, List, [], ◌∷◌, ◌++◌, eqb, ltb, pos, length, get_or, Float}
-use Rattle.std.specs.Float.{nan, binary64}
+use Rattle.std.specs.Prelude.{ℕ, ◌/◌, ◌%◌, Bool, not, ◌||◌, cond, List, [], ◌∷◌, ◌++◌, eqb, ltb, pos, length, Float}
+use Rattle.std.specs.Float.{binary64}
 use Rattle.std.specs.Float.Ieee.{of_int}
 use Rattle.common.specs.declared.Refusal.TheVariants.{BadPoints, DestinationTooShort}
 use Rattle.common.specs.Checks.{Check, ◌when◌}
-use Rattle.float.specs.Binary64.{◌+₆₄◌, ◌-₆₄◌, ◌*₆₄◌}
-use Rattle.root.specs.Root.{root}
 use Rattle.camera.specs.declared.math.Pt2.{Pt2}
 
 -- the points
@@ -47,10 +45,6 @@ each_pair f (x ∷ y ∷ s) [] = []
 each_pair f (x ∷ y ∷ s) (u ∷ []) = []
 each_pair f (x ∷ y ∷ s) (u ∷ v ∷ d) = f (record { x = x; y = y }) (record { x = u; y = v }) ++ each_pair f s d
 
--- the point whose x stands at i
-abbrev pub point_at : List Float → ℕ → Pt2
-point_at s i = record { x = get_or s i nan; y = get_or s (i + 1) nan }
-
 -- how many points, as a float
 abbrev pub count_of : List Float → Float
 count_of s = of_int binary64 (pos (length s / 2))
@@ -65,13 +59,3 @@ length_checks numbers room =
     (BadPoints when bad_points numbers)
     ∷ (DestinationTooShort when ltb room numbers)
     ∷ []
-
--- dx × dx + dy × dy, and its root
-abbrev pub squared_distance : Pt2 → Pt2 → Float
-squared_distance p q =
-    let dx = p.x -₆₄ q.x in
-    let dy = p.y -₆₄ q.y in
-    dx *₆₄ dx +₆₄ dy *₆₄ dy
-
-abbrev pub distance_of : Pt2 → Pt2 → Float
-distance_of p q = root binary64 (squared_distance p q)

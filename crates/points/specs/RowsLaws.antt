@@ -9,7 +9,8 @@ use Rattle.common.specs.Checks.{first_refusal}
 use Rattle.common.specs.ChecksLaws.{refuses_none}
 use Rattle.camera.specs.declared.math.Pt2.{Pt2}
 use Rattle.points.specs.declared.linalg.Similarity.{Similarity}
-use Rattle.points.specs.Points.{point_at, bad_points}
+use Rattle.points.specs.Points.{bad_points}
+use Rattle.camera.specs.Math.{point_at}
 use Rattle.points.specs.Linalg.{move_by}
 use Rattle.points.specs.Hartley.{accepted_length_at_most_800}
 use Rattle.points.specs.Line.{collinear_of}

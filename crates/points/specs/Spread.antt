@@ -14,7 +14,8 @@ use Rattle.float.specs.Sign.{sign_add, sign_square}
 use Rattle.float.specs.Literals.{plus_zero}
 use Rattle.root.specs.Root.{root}
 use Rattle.camera.specs.declared.math.Pt2.{Pt2}
-use Rattle.points.specs.Points.{fold_points, find_point, count_of, distance_of}
+use Rattle.points.specs.Points.{fold_points, find_point, count_of}
+use Rattle.camera.specs.Math.{distance_of}
 use Rattle.points.specs.MeanDistance.{sign_distance, sign_mean}
 use Rattle.points.specs.Linalg.{epsilon, add_distance, mean_distance, centroid_of, degenerate}
 use Rattle.points.specs.Line.{least_distance, least_cross, far_from, cross_of, off_line, along, collinear_of}

@@ -9,7 +9,8 @@ use Rattle.std.proofs.Math.ListN.{length, length-append}
 use Rattle.std.proofs.lemmas.List.Edits.{sets, sets-eq}
 use Rattle.std.specs.Float.{nan}
 use Rattle.camera.specs.declared.math.Pt2.{Pt2}
-use Rattle.points.specs.Points.{each_point, mapped_xy, map_points, each_pair, point_at}
+use Rattle.points.specs.Points.{each_point, mapped_xy, map_points, each_pair}
+use Rattle.camera.specs.Math.{point_at}
 
 -- ---- the rest of a list from i on, where a point stands there, and where none does
 point_left : (s : List Float) (i : ℕ) → i + 1 < length s → drop i s ≡ get_or s i nan ∷ get_or s (i + 1) nan ∷ drop (i + 2) s

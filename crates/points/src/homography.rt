@@ -8,6 +8,7 @@ ghost use Rattle.points.specs.Rows.{point_conditions, first_row, second_row, des
 
 use crate::linalg;
 use crate::linalg::Similarity;
+use camera::math;
 use camera::math::Pt2;
 use common::Refusal;
 
@@ -20,7 +21,7 @@ fn first_distinct(points: &[f64], p0: Pt2) -> Option<Pt2>
     pairs
         .iter()
         .map(|&[x, y]| Pt2 { x, y })
-        .find(|p| linalg::distance(*p, p0) > 1e-9)
+        .find(|p| math::distance(*p, p0) > 1e-9)
 }
 
 // Twice the area of the triangle of the three points, with a sign. Here and below a line is given by two of its points.
@@ -37,7 +38,7 @@ fn cross(p0: Pt2, p1: Pt2, p2: Pt2) -> f64
 fn off_line(p0: Pt2, p1: Pt2, p2: Pt2) -> bool
     ensures { result ≡ off_line p0 p1 p2 }
 {
-    if linalg::distance(p2, p0) <= 1e-9 {
+    if math::distance(p2, p0) <= 1e-9 {
         return false;
     }
     let c = cross(p0, p1, p2);
@@ -63,7 +64,7 @@ fn collinear(points: &[f64]) -> bool
     if points.len() < 6 {
         return false;
     }
-    let p0 = linalg::point_at(points, 0);
+    let p0 = math::point_at(points, 0);
     let Some(p1) = first_distinct(points, p0) else {
         return true;
     };

@@ -1,11 +1,12 @@
 // Hartley's normalisation of a list of points, and what other modules need of such lists.
 
-ghost use Rattle.std.specs.Prelude.{◌≡◌, ◌++◌, ◌+◌, ◌<◌, ◌≤◌, length, drop};
+ghost use Rattle.std.specs.Prelude.{◌≡◌, ◌++◌, ◌≤◌, length, drop};
 ghost use Rattle.camera.specs.declared.math.Pt2.{Pt2};
 ghost use Rattle.common.specs.Checks.{first_refusal};
-ghost use Rattle.points.specs.Points.{bad_points, length_checks, point_at, map_points, squared_distance, distance_of};
+ghost use Rattle.points.specs.Points.{bad_points, length_checks, map_points};
 ghost use Rattle.points.specs.Linalg.{centroid_of, mean_distance, scaled_to, similarity_of, hartley_of, move_by, transform_of, normalize_reply, normalize_into};
 
+use camera::math;
 use camera::math::Pt2;
 use common::Refusal;
 use std::num::nearest_usize_to_f64;
@@ -60,30 +61,6 @@ pub fn check_lengths(numbers: usize, room: usize) -> Result<(), Refusal>
     Ok(())
 }
 
-// The point whose x stands at i.
-pub fn point_at(points: &[f64], i: usize) -> Pt2
-    requires { i + 1 < length points.now }
-    ensures { result ≡ point_at points.now i }
-{
-    Pt2 {
-        x: points[i],
-        y: points[i + 1],
-    }
-}
-
-// The square of the distance of two points.
-pub fn squared_distance(p: Pt2, q: Pt2) -> f64
-    ensures { result ≡ squared_distance p q }
-{
-    (p - q).squared_norm()
-}
-
-pub fn distance(p: Pt2, q: Pt2) -> f64
-    ensures { result ≡ distance_of p q }
-{
-    root::machine::sqrt(squared_distance(p, q))
-}
-
 fn centroid(points: &[f64]) -> Pt2
     ensures { result ≡ centroid_of points.now }
 {
@@ -108,7 +85,7 @@ fn mean_distance(points: &[f64], c: Pt2) -> f64
     let pairs = points.as_chunks::<2>().0;
     let sum = pairs
         .iter()
-        .fold(0.0, |sum, &[x, y]| sum + distance(Pt2 { x, y }, c));
+        .fold(0.0, |sum, &[x, y]| sum + math::distance(Pt2 { x, y }, c));
     let n = nearest_usize_to_f64(points.len() / 2);
     sum / n
 }

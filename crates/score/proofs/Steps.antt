@@ -11,7 +11,7 @@ use Rattle.float.specs.Binary64.{◌+₆₄◌}
 use Rattle.float.specs.Float.{is_finite}
 use Rattle.float.specs.Literals.{plus_zero, infinity}
 use Rattle.camera.specs.Matrix.{Matrix}
-use Rattle.points.specs.Points.{point_at}
+use Rattle.camera.specs.Math.{point_at}
 use Rattle.score.specs.Rows.{rows_of, row_error, is_counted, counted_errors, no_errors, summed, error_sum}
 use Rattle.score.specs.declared.pinhole.PinholeCamera.{PinholeCamera}
 use Rattle.score.specs.declared.errors.Row.{Row}

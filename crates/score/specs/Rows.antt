@@ -10,7 +10,7 @@ use Rattle.camera.specs.Intrinsics.{sensor_to_pixel}
 use Rattle.camera.specs.Matrix.{Matrix}
 use Rattle.camera.specs.Sensor.{tilt_projection_matrix, apply_homography}
 use Rattle.camera.specs.declared.math.Pt2.{Pt2}
-use Rattle.points.specs.Points.{distance_of}
+use Rattle.camera.specs.Math.{distance_of}
 use Rattle.score.specs.declared.pinhole.PinholeCamera.{PinholeCamera}
 use Rattle.camera.specs.declared.sensor.TiltTrig.{TiltTrig}
 use Rattle.score.specs.declared.errors.Row.{Row}

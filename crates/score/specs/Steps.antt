@@ -7,7 +7,7 @@ use Rattle.camera.specs.Intrinsics.{sensor_to_pixel}
 use Rattle.camera.specs.declared.math.Pt2.{Pt2}
 use Rattle.camera.specs.Matrix.{Matrix}
 use Rattle.camera.specs.Sensor.{homogeneous, forward_depth}
-use Rattle.points.specs.Points.{point_at, distance_of}
+use Rattle.camera.specs.Math.{point_at, distance_of}
 use Rattle.score.specs.Rows.{projected, row_error, is_counted}
 use Rattle.score.specs.declared.pinhole.PinholeCamera.{PinholeCamera}
 use Rattle.score.specs.declared.errors.Row.{Row}

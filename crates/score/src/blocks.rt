@@ -8,9 +8,9 @@ use crate::errors::{ErrorSum, Projection, add_error, add_rows};
 use crate::rows::{Block, Rows};
 use camera::distortion::distort;
 use camera::intrinsics::sensor_to_pixel;
+use camera::math;
 use camera::math::Pt2;
 use camera::sensor::{forward_depth, row_at};
-use points::linalg;
 
 // Writes the rows' points on the tilted sensor, each coordinate to a list of its own: the first two not yet divided,
 // the third not yet a depth. Here and below no row waits for another, and comparisons of floats have loops of their
@@ -29,7 +29,7 @@ fn tilt_points(
 {
     let [top, middle, bottom] = by.h;
     for j in 0..block.rows.flags.len() {
-        let p = distort(by.camera.dist, linalg::point_at(block.rows.numbers, 4 * j));
+        let p = distort(by.camera.dist, math::point_at(block.rows.numbers, 4 * j));
         xs[j] = row_at(top, p);
         ys[j] = row_at(middle, p);
         zs[j] = row_at(bottom, p);
@@ -62,8 +62,8 @@ fn point_errors(
             x: xs[j] / depths[j],
             y: ys[j] / depths[j],
         };
-        let seen = linalg::point_at(block.rows.numbers, 4 * j + 2);
-        *error = linalg::distance(sensor_to_pixel(by.camera.k, p), seen);
+        let seen = math::point_at(block.rows.numbers, 4 * j + 2);
+        *error = math::distance(sensor_to_pixel(by.camera.k, p), seen);
     }
 }
 

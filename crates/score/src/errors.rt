@@ -10,9 +10,9 @@ use crate::pinhole::PinholeCamera;
 use crate::rows::{Rows, rows_of};
 use camera::distortion::distort;
 use camera::intrinsics::sensor_to_pixel;
+use camera::math;
 use camera::math::Pt2;
 use camera::sensor::{TiltTrig, apply_homography, tilt_projection_matrix};
-use points::linalg;
 
 // An ideal point, the pixel where it was seen, and 1 if it lies in front of the camera, 0 if not. The rules are about
 // lists of such rows; the host sends their numbers and their flags as two lists.
@@ -83,7 +83,7 @@ fn with_row(total: ErrorSum, by: Projection, row: Row) -> ErrorSum
     if row.flag != 1 {
         return total;
     }
-    let err = linalg::distance(project_point(by, row.ideal), row.seen);
+    let err = math::distance(project_point(by, row.ideal), row.seen);
     if float::is_finite(err) {
         return add_error(total, true, err);
     }

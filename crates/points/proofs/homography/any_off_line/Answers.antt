@@ -3,7 +3,7 @@
 use Rattle.std.proofs.Common.{rules, tests, ◌∙◌}
 use Rattle.std.proofs.lemmas.Iterator.{YieldsList-from_slice}
 use Rattle.std.proofs.lemmas.Iterator.Search.{any_from_yields_List}
-use Rattle.points.specs.Points.{point_at}
+use Rattle.camera.specs.Math.{point_at}
 use Rattle.points.specs.Chunks.{pairs_of, pairs_any, any_is_find_point}
 use Rattle.points.specs.Line.{off_line}
 use Rattle.points.proofs.homography.any_off_line.Goals as goal

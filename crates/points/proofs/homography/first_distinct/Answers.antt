@@ -7,7 +7,7 @@ use Rattle.std.proofs.lemmas.Iterator.Consumers.{YieldsList-at}
 use Rattle.std.proofs.lemmas.Iterator.Adapters.{option_map_id}
 use Rattle.std.specs.List.{find}
 use Rattle.std.proofs.lemmas.Iterator.Search.{find_from_yields_List}
-use Rattle.points.specs.Points.{point_at}
+use Rattle.camera.specs.Math.{point_at}
 use Rattle.points.specs.Chunks.{pairs_of, pairs_are_points, find_is_find_point}
 use Rattle.points.specs.Line.{far_from}
 use Rattle.points.proofs.homography.first_distinct.Goals as goal

@@ -3,7 +3,8 @@ use Rattle.std.proofs.Common.{List, [], ◌≡◌, sym, ap, ◌∙◌, ◌+◌, 
 use Rattle.std.specs.Prelude.{get_or}
 use Rattle.std.specs.Float.{nan}
 use lib.Seq.{sets}
-use Rattle.points.specs.Points.{point_at, mapped_xy, map_points}
+use Rattle.points.specs.Points.{mapped_xy, map_points}
+use Rattle.camera.specs.Math.{point_at}
 use Rattle.points.specs.Chunks.{pair_at}
 use Rattle.points.specs.Walk.{each_next, each_end, mapped_length, sets_two, sets_front}
 use Rattle.points.proofs.linalg.map_points.Goals as goal

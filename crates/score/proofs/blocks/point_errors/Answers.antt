@@ -4,7 +4,7 @@ use Rattle.std.specs.Float.{nan}
 use Rattle.float.specs.Binary64.{◌/₆₄◌}
 use Rattle.camera.specs.Intrinsics.{sensor_to_pixel}
 use Rattle.camera.specs.declared.math.Pt2.{Pt2}
-use Rattle.points.specs.Points.{point_at, distance_of}
+use Rattle.camera.specs.Math.{point_at, distance_of}
 use Rattle.score.proofs.Filled.{set_extends_filled}
 use Rattle.score.proofs.blocks.point_errors.Goals as goal
 

@@ -3,7 +3,7 @@ use Rattle.std.proofs.Common.{◌≡◌, ◌∙◌, ℕ, ◌*◌, Float, length-
 use Rattle.std.specs.Float.{nan}
 use Rattle.camera.specs.Distortion.{distorted}
 use Rattle.camera.specs.Sensor.{homogeneous}
-use Rattle.points.specs.Points.{point_at}
+use Rattle.camera.specs.Math.{point_at}
 use Rattle.score.proofs.Filled.{set_extends_filled}
 use Rattle.score.proofs.blocks.tilt_points.Goals as goal
 

@@ -3,7 +3,7 @@ use Rattle.std.proofs.Common.{◌≡◌, refl, sym, ap, ◌∙◌, ◌+◌, ◌-
 use Rattle.std.proofs.lemmas.Slice.{put_mid-paste}
 use borrow.Rule.Slice.PartMut.{put_mid}
 use lib.Seq.{sets, sets-eq, length-sets}
-use Rattle.points.specs.Points.{point_at}
+use Rattle.camera.specs.Math.{point_at}
 use Rattle.points.specs.Walk.{no_pair}
 use Rattle.points.specs.Chunks.{pair_left, pairs_count, pairs_of}
 use Rattle.points.specs.Rows.{pair_rows, moved_rows}
