@@ -90,8 +90,7 @@ pub record JournalsRight : Type 0 where
   pub line_stretches_right : (i : Inputs) (h : History i) → Fitting i h → LineStretchesRight (book_at h)
 
 -- ---- What the code does with a journal is what the reference model says, and what follows for a run and its own
--- file, over the definitions of the code alone (docs/SPECIFICATION.md, 8.6 to 8.10).: `proofs/Replayed.antt`
--- proves them.
+-- file, over the definitions of the code alone (docs/SPECIFICATION.md, 8.6 to 8.10). `proofs/Replayed.antt` proves it.
 
 -- ---- for all inputs, lent lists and bytes
 -- Replay: the reply and the lent list
