@@ -84,7 +84,7 @@ enum {
     JC_TILT_TOO_LARGE = 27,        /* max_abs_tilt is above 0.5 radians (28.6 degrees), or a tilt is NaN or beyond that */
     JC_NOT_WRITABLE = 28,          /* a line's buffer is below JC_LINE_LEN bytes, or the line isn't one that a journal has; or a report's is below
                                       JC_REPORT_LEN bytes, or its total above JC_MOST_ANSWERS */
-    JC_NOT_A_LINE = 29,            /* the bytes at the place aren't those of a line */
+    JC_NOT_A_LINE = 29,            /* the bytes at the position aren't those of a line */
     JC_NOT_THE_RUN = 30,           /* a journal's line isn't the run's next answer */
     JC_TILTS_OFF_AXIS = 31,        /* a one-axis run's y tilts aren't the single value 0, of either sign */
     JC_SEED_OFF_AXIS = 32,         /* a decomposition seed of a one-axis run has a tilt y other than 0 */
@@ -235,7 +235,7 @@ typedef struct {
     jc_conic conic;
 } jc_plate_reply;
 
-/* 0 and entries (0,0), (0,2), (1,2) of the transform s, 0, a; 0, s, b; 0, 0, 1; or a refusal. */
+/* 0 and elements (0,0), (0,2), (1,2) of the transform s, 0, a; 0, s, b; 0, 0, 1; or a refusal. */
 typedef struct {
     uint8_t number;
     double t00, t02, t12;
@@ -355,7 +355,7 @@ typedef struct {
 } jc_write_flat;
 
 /* 0 and a line; 0 and end, 1; or a refusal and the line's number, from 1. The next line is read at next: behind a line that was read, and
- * else at the place that was asked for. */
+ * else at the position that was asked for. */
 typedef struct {
     uint8_t number, end;
     size_t line_number;
@@ -500,7 +500,7 @@ jc_write_flat jc_write_line(jc_line line, uint8_t *to, size_t to_len);
 /* Writes a report to the front of `to`: 12 to 24 bytes, six decimal numbers with commas between them and a newline at the end: scored, the
  * skipped for reasons 1 to 4, and the total. 28 where `to` has less than JC_REPORT_LEN bytes or the total is above JC_MOST_ANSWERS. */
 jc_write_flat jc_write_report(jc_count_record counts, uint8_t *to, size_t to_len);
-/* Reads the line at a place of a journal; at its end, and behind it, end is 1. 29 where the bytes there aren't, byte for byte, a line that
+/* Reads the line at a position of a journal; at its end, and behind it, end is 1. 29 where the bytes there aren't, byte for byte, a line that
  * jc_write_line writes. */
 jc_read_flat jc_read_line(const uint8_t *bytes, size_t bytes_len, size_t at);
 

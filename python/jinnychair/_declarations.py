@@ -95,7 +95,7 @@ REFUSALS = {
     25: 'the destination points lie on a line',
     27: 'max_abs_tilt is above 0.5 radians (28.6 degrees), or a tilt is NaN or beyond that',
     28: "a line's buffer is below 256 bytes, or the line isn't one that a journal has; or a report's is below 24 bytes, or its total above 656",
-    29: "the bytes at the place aren't those of a line",
+    29: "the bytes at the position aren't those of a line",
     30: "a journal's line isn't the run's next answer",
     31: "a one-axis run's y tilts aren't the single value 0, of either sign",
     32: 'a decomposition seed of a one-axis run has a tilt y other than 0',
@@ -314,7 +314,7 @@ class jc_plate_reply(Structure):
 
 
 class jc_normalize_reply(Structure):
-    """0 and entries (0,0), (0,2), (1,2) of the transform s, 0, a; 0, s, b; 0, 0, 1; or a refusal."""
+    """0 and elements (0,0), (0,2), (1,2) of the transform s, 0, a; 0, s, b; 0, 0, 1; or a refusal."""
 
     _fields_ = [
         ("number", c_uint8),
@@ -501,7 +501,7 @@ class jc_write_flat(Structure):
 
 
 class jc_read_flat(Structure):
-    """0 and a line; 0 and end, 1; or a refusal and the line's number, from 1. The next line is read at next: behind a line that was read, and else at the place that was asked for."""
+    """0 and a line; 0 and end, 1; or a refusal and the line's number, from 1. The next line is read at next: behind a line that was read, and else at the position that was asked for."""
 
     _fields_ = [
         ("number", c_uint8),

@@ -88,7 +88,7 @@ def write_line(line: Line) -> bytes:
 
 
 def read_line(journal: bytes, at: int = 0) -> tuple[Line, int] | None:
-    """The line at a place of a journal.
+    """The line at a position of a journal.
 
     Parameters
     ----------
@@ -100,7 +100,7 @@ def read_line(journal: bytes, at: int = 0) -> tuple[Line, int] | None:
     Returns
     -------
     tuple of Line and int, or None
-        The line and the place behind it; None at the end.
+        The line and the position behind it; None at the end.
 
     Raises
     ------

@@ -6,7 +6,7 @@ use crate::lines::damaged;
 use crate::record_words::{of_book, of_run};
 use crate::replays::another;
 use book::Inputs;
-use jinnychair::journal::{EndedBy, ResumeReport};
+use jinnychair::journal::{EndedBy, KeptLines};
 use jinnychair::record::{self, Run, answer, next};
 use random::Random;
 use words::float_words;
@@ -25,7 +25,7 @@ pub struct ResumeTally {
 }
 
 /// A resumed run with its list and what was kept, or Start's number.
-type Resumed = Result<(Run, Vec<f64>, ResumeReport), u8>;
+type Resumed = Result<(Run, Vec<f64>, KeptLines), u8>;
 
 fn kind(ended_by: EndedBy) -> usize {
     match ended_by {
@@ -36,10 +36,10 @@ fn kind(ended_by: EndedBy) -> usize {
     }
 }
 
-fn of_library((run, report): &(Run, ResumeReport)) -> Vec<u64> {
-    let ResumeReport { lines, kept, dropped, ended_by } = *report;
-    let report = [0, lines, kept, dropped, kind(ended_by)].map(|number| number as u64);
-    [report.to_vec(), of_run(run)].concat()
+fn of_library((run, kept_lines): &(Run, KeptLines)) -> Vec<u64> {
+    let KeptLines { lines, kept, dropped, ended_by } = *kept_lines;
+    let kept_lines = [0, lines, kept, dropped, kind(ended_by)].map(|number| number as u64);
+    [kept_lines.to_vec(), of_run(run)].concat()
 }
 
 fn of_resumed(resumed: &book::Resumed) -> Vec<u64> {
@@ -49,8 +49,8 @@ fn of_resumed(resumed: &book::Resumed) -> Vec<u64> {
         book::EndedBy::Number(29) => 2,
         book::EndedBy::Number(_) => 3,
     };
-    let report = [0, resumed.lines, resumed.kept, resumed.dropped, kind];
-    [report.map(|number| number as u64).to_vec(), of_book(&resumed.book)].concat()
+    let kept_lines = [0, resumed.lines, resumed.kept, resumed.dropped, kind];
+    [kept_lines.map(|number| number as u64).to_vec(), of_book(&resumed.book)].concat()
 }
 
 /// Resumes a journal on both sides, with a list that holds these numbers, and gives what the library gave.
@@ -69,14 +69,14 @@ pub fn compare(
     let library = library.map_err(|error| error.number());
     let book = book::resume(inputs.clone(), journal, &mut book_list);
     match &library {
-        Ok((_, report)) => tally.ended[kind(report.ended_by)] += 1,
+        Ok((_, kept_lines)) => tally.ended[kind(kept_lines.ended_by)] += 1,
         Err(_) => tally.refused += 1,
     }
     let refused = |number: &u8| vec![1, u64::from(*number)];
     let words = library.as_ref().map_or_else(refused, of_library);
     differ("the resumed run", words, book.as_ref().map_or_else(refused, of_resumed))?;
     differ("the list of a resumed run", float_words(&list), float_words(&book_list))?;
-    Ok(library.map(|(run, report)| (run, list, report)))
+    Ok(library.map(|(run, kept_lines)| (run, list, kept_lines)))
 }
 
 /// A run's journal as it is, then in other ways.
@@ -115,13 +115,14 @@ pub(crate) fn compare_run(
 fn cut(pair: &Pair, place: usize, tally: &mut ResumeTally) -> Result<(), String> {
     let (front, inputs) = (&pair.journal[..place], pair.book.inputs());
     let resumed = compare(inputs, front, &pair.lent, tally)?;
-    let (mut run, mut list, report) = resumed.map_err(|number| format!("refused with {number}"))?;
+    let (mut run, mut list, kept_lines) =
+        resumed.map_err(|number| format!("refused with {number}"))?;
     let lines = front.iter().filter(|byte| **byte == b'\n').count();
     let kept = front.iter().rposition(|byte| *byte == b'\n').map_or(0, |last| last + 1);
     let is_whole = kept == place;
     let ended_by = if is_whole { EndedBy::Nothing } else { EndedBy::MissingNewline };
-    let expected = ResumeReport { lines, kept, dropped: place - kept, ended_by };
-    differ("what is kept of a cut journal", report, expected)?;
+    let expected = KeptLines { lines, kept, dropped: place - kept, ended_by };
+    differ("what is kept of a cut journal", kept_lines, expected)?;
     for sent in &pair.answers[lines..] {
         let _ = next(&mut run, &list).map_err(|error| error.to_string())?;
         answer(&mut run, &sent.finding(), &mut list).map_err(|error| error.to_string())?;

@@ -37,8 +37,11 @@ fn main() -> Result<(), Box<dyn std::error::Error>> {
     drop(writer);
     OpenOptions::new().write(true).open(&path)?.set_len(len)?;
 
-    let ResumedJournal { mut writer, mut search, report, .. } = JournalWriter::resume(&path)?;
-    println!("{} lines kept, {} bytes dropped: {}", report.lines, report.dropped, report.ended_by);
+    let ResumedJournal { mut writer, mut search, kept_lines, .. } = JournalWriter::resume(&path)?;
+    println!(
+        "{} lines kept, {} bytes dropped: {}",
+        kept_lines.lines, kept_lines.dropped, kept_lines.ended_by
+    );
     let ended = writer.run(&mut search, solve, |_| ControlFlow::Continue(()))?;
     let Ended::Over(winner) = ended else { return Err("nothing stops it".into()) };
 

@@ -49,6 +49,6 @@ pub use inputs::{HostVersion, InputsError, StoredInputs, Views, inputs_path};
 pub use line::{JournalError, Line, Lines, Recorded, ScoredFields, lines, read_line, write_line};
 pub use replay::{Difference, Replayed, replay, what_differs};
 pub use report::write_report;
-pub use resume::{EndedBy, ResumeReport, Resumed};
+pub use resume::{EndedBy, KeptLines, Resumed};
 pub use stretches::{round_winners, stretch_winner};
 pub use writer::{JournalFileError, JournalWriter, JournaledRunError, ResumedJournal};

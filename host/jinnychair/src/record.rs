@@ -4,7 +4,7 @@
 //! scored. But the theorem about whole runs speaks of a record and a list that are handed on as the calls before left them.
 //! [`crate::Search`] keeps both where nothing else reaches them.
 
-use crate::journal::{EndedBy, Line, Replayed, ResumeReport};
+use crate::journal::{EndedBy, KeptLines, Line, Replayed};
 use crate::{
     AnswerError, Finding, FxFyCxCy, Handed, NextError, Outcome, Pt2, ReplayError, ResultError,
     Rows, Seed, SkipReason, StartError, StopError, Stopped, Winner, check_version, raw,
@@ -320,13 +320,13 @@ pub fn resume(
     inputs: &Inputs,
     journal: &[u8],
     list: &mut [f64],
-) -> Result<(Run, ResumeReport), StartError> {
+) -> Result<(Run, KeptLines), StartError> {
     demand_version();
     let reply = raw::replay::resume(inputs, journal, list);
     StartError::check(reply.number)?;
     let ended_by = EndedBy::of_number(reply.ended_by);
     let (lines, kept, dropped) = (reply.lines, reply.kept, reply.dropped);
-    Ok((reply.run, ResumeReport { lines, kept, dropped, ended_by }))
+    Ok((reply.run, KeptLines { lines, kept, dropped, ended_by }))
 }
 
 /// The better of two bests, the first one where their scores are equal; one that isn't found leaves the other. A score that isn't a

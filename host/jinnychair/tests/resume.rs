@@ -5,7 +5,7 @@ mod common;
 
 use common::{folder, inputs, journaled, options, solve, stored};
 use jinnychair::journal::{
-    EndedBy, JournalFileError, JournalWriter, ResumeReport, Resumed, ResumedJournal, inputs_path,
+    EndedBy, JournalFileError, JournalWriter, KeptLines, Resumed, ResumedJournal, inputs_path,
     lines,
 };
 use jinnychair::*;
@@ -19,12 +19,15 @@ fn a_search_goes_on_from_any_cut_and_ends_as_the_uncut_one() {
     let (winner, journal) = journaled(&options);
     for cut in (0..journal.len()).step_by(97).chain([journal.len()]) {
         let front = &journal[..cut];
-        let Resumed { mut search, report } = Search::resume(&inputs(&options), front).unwrap();
-        assert_eq!((report.kept + report.dropped, report.lines), (cut, search.answered()));
-        let is_whole = report.dropped == 0;
+        let Resumed { mut search, kept_lines } = Search::resume(&inputs(&options), front).unwrap();
+        assert_eq!(
+            (kept_lines.kept + kept_lines.dropped, kept_lines.lines),
+            (cut, search.answered())
+        );
+        let is_whole = kept_lines.dropped == 0;
         let ended_by = if is_whole { EndedBy::Nothing } else { EndedBy::MissingNewline };
-        assert_eq!((report.ended_by, search.waiting()), (ended_by, None));
-        let kept: Vec<_> = lines(&journal[..report.kept]).map(Result::unwrap).collect();
+        assert_eq!((kept_lines.ended_by, search.waiting()), (ended_by, None));
+        let kept: Vec<_> = lines(&journal[..kept_lines.kept]).map(Result::unwrap).collect();
         assert_eq!(
             (search.counts(), search.last_line()),
             (Counts::of(&kept), kept.last().copied())
@@ -41,9 +44,10 @@ fn what_ended_the_lines_is_told() {
     let options = options();
     let (_, journal) = journaled(&options);
     let second = journal.iter().position(|byte| *byte == b'\n').unwrap() + 1;
-    let report = |journal: &[u8]| Search::resume(&inputs(&options), journal).unwrap().report;
-    let kept = |dropped, ended_by| ResumeReport { lines: 1, kept: second, dropped, ended_by };
-    let with = |end: &[u8]| report(&[&journal[..second], end].concat());
+    let kept_lines =
+        |journal: &[u8]| Search::resume(&inputs(&options), journal).unwrap().kept_lines;
+    let kept = |dropped, ended_by| KeptLines { lines: 1, kept: second, dropped, ended_by };
+    let with = |end: &[u8]| kept_lines(&[&journal[..second], end].concat());
     assert_eq!(with(b""), kept(0, EndedBy::Nothing));
     assert_eq!(with(b"\0\0\0"), kept(3, EndedBy::MissingNewline));
     assert_eq!(with(b"x\n0,0"), kept(5, EndedBy::NotALine));
@@ -97,7 +101,7 @@ fn a_file_that_was_cut_anywhere_ends_with_the_same_bytes() {
     for cut in (0..journal.len()).step_by(5).chain([journal.len()]) {
         fs::write(&path, &journal[..cut]).unwrap();
         let mut resumed = JournalWriter::resume(&path).unwrap();
-        let kept = resumed.report.kept;
+        let kept = resumed.kept_lines.kept;
         assert_eq!(resumed.writer.len(), kept as u64);
         assert!(fs::read(&path).unwrap() == journal[..kept]);
         assert_eq!(go_on(&mut resumed), winner);
@@ -118,8 +122,8 @@ fn a_tail_that_is_not_the_runs_is_cut_before_anything_is_added() {
     ] {
         let path = left_behind("tail", &options, &[first, &end].concat());
         let mut resumed = JournalWriter::resume(&path).unwrap();
-        let report = ResumeReport { lines: 1, kept: line, dropped: end.len(), ended_by };
-        assert_eq!((resumed.report, fs::read(&path).unwrap().len()), (report, line));
+        let kept_lines = KeptLines { lines: 1, kept: line, dropped: end.len(), ended_by };
+        assert_eq!((resumed.kept_lines, fs::read(&path).unwrap().len()), (kept_lines, line));
         assert_eq!(go_on(&mut resumed), winner);
         assert!(fs::read(&path).unwrap() == journal);
     }
@@ -160,7 +164,7 @@ fn a_search_that_was_switched_off_before_it_began_is_begun() {
     drop(JournalWriter::create(&path, &stored(&options)).unwrap());
     // With its inputs on the disk it can be resumed, though it has no line.
     let mut resumed = JournalWriter::resume(&path).unwrap();
-    assert_eq!((resumed.report.lines, resumed.report.ended_by), (0, EndedBy::Nothing));
+    assert_eq!((resumed.kept_lines.lines, resumed.kept_lines.ended_by), (0, EndedBy::Nothing));
     assert_eq!(go_on(&mut resumed), journaled(&options).0);
 }
 

@@ -126,7 +126,7 @@ impl Display for JournalError {
 
 impl Error for JournalError {}
 
-/// Reads the line that stands at a place of a journal, and gives it with the place behind it; nothing at the end.
+/// Reads the line that stands at a position of a journal, and gives it with the position behind it; nothing at the end.
 ///
 /// # Errors
 ///

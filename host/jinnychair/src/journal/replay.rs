@@ -97,11 +97,11 @@ pub enum Difference {
 /// the replay is what decides.
 #[must_use]
 pub fn what_differs(inputs: &Inputs, journal: &[u8]) -> Option<Difference> {
-    let Resumed { mut search, report } = Search::resume(inputs, journal).ok()?;
-    if report.ended_by != EndedBy::NotTheRun {
+    let Resumed { mut search, kept_lines } = Search::resume(inputs, journal).ok()?;
+    if kept_lines.ended_by != EndedBy::NotTheRun {
         return None;
     }
-    let (recorded, _) = read_line(journal, report.kept).ok()??;
+    let (recorded, _) = read_line(journal, kept_lines.kept).ok()??;
     let Ok(Handed::Candidate { number, seed }) = search.next() else {
         return Some(Difference::RunOver);
     };

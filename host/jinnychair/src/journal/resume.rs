@@ -41,7 +41,7 @@ impl Display for EndedBy {
 
 /// What was kept of a journal, and what was dropped.
 #[derive(Clone, Copy, Debug, PartialEq, Eq)]
-pub struct ResumeReport {
+pub struct KeptLines {
     /// How many lines were kept.
     pub lines: usize,
     /// How many bytes they have, newlines included.
@@ -59,7 +59,7 @@ pub struct Resumed {
     /// The search, as the kept lines leave it.
     pub search: Search,
     /// What was kept.
-    pub report: ResumeReport,
+    pub kept_lines: KeptLines,
 }
 
 impl Search {
@@ -79,7 +79,7 @@ impl Search {
     pub fn resume(inputs: &Inputs, journal: &[u8]) -> Result<Resumed, StartError> {
         let (resumed, list) =
             inputs.lent(|inputs, list| crate::record::resume(inputs, journal, list));
-        let (run, report) = resumed?;
-        Ok(Resumed { search: Self::of_parts(run, list), report })
+        let (run, kept_lines) = resumed?;
+        Ok(Resumed { search: Self::of_parts(run, list), kept_lines })
     }
 }

@@ -2,7 +2,7 @@
 
 use super::inputs::{InputsError, StoredInputs, inputs_path, sync_folder};
 use super::line::{LEAST_ROOM, Line, write_line};
-use super::resume::{ResumeReport, Resumed};
+use super::resume::{KeptLines, Resumed};
 use crate::{Ended, RunError, Search, Seed, Solution, StartError, Tried, WriteError};
 use std::error::Error;
 use std::fmt::{Display, Formatter, Result as FmtResult};
@@ -27,7 +27,7 @@ pub struct ResumedJournal {
     /// The search, as the kept lines leave it.
     pub search: Search,
     /// What was kept.
-    pub report: ResumeReport,
+    pub kept_lines: KeptLines,
     /// What the search started from.
     pub inputs: StoredInputs,
 }
@@ -84,10 +84,10 @@ impl JournalWriter {
             .map_err(|error| JournalFileError::Inputs(beside.clone(), error))?;
         let mut journal = vec![];
         writer.file.read_to_end(&mut journal).map_err(fault)?;
-        let Resumed { search, report } = Search::resume(&inputs.inputs(), &journal)
+        let Resumed { search, kept_lines } = Search::resume(&inputs.inputs(), &journal)
             .map_err(|error| JournalFileError::Start(beside, error))?;
-        writer.cut(report.kept as u64).map_err(fault)?;
-        Ok(ResumedJournal { writer, search, report, inputs })
+        writer.cut(kept_lines.kept as u64).map_err(fault)?;
+        Ok(ResumedJournal { writer, search, kept_lines, inputs })
     }
 
     /// Drops what stands behind a place.

@@ -10,7 +10,7 @@ use crate::files::{read_bytes, with_ending};
 use crate::journal::{Journal, is_cut, read_inputs};
 use crate::screen::Screen;
 use jinnychair::journal::{
-    EndedBy, JournalFileError, JournalWriter, ResumeReport, Resumed, StoredInputs, inputs_path,
+    EndedBy, JournalFileError, JournalWriter, KeptLines, Resumed, StoredInputs, inputs_path,
     what_differs,
 };
 use jinnychair::{LineRefusal, Search};
@@ -80,7 +80,7 @@ fn run(words: Words, screen: &mut Screen) -> Result<End, Fault> {
     say_if_changed(&case, &stored, screen);
     let dropped = keep_dropped(path, &stored, &bytes)?;
     let resumed = JournalWriter::resume(path).map_err(|error| not_resumed(&error))?;
-    screen.say(kept_text(path, &resumed.report, dropped.as_deref()));
+    screen.say(kept_text(path, &resumed.kept_lines, dropped.as_deref()));
     screen.say(case.plan().text());
     let lines = Journal::read(path)?.lines;
     let finished = case.go_on(resumed.search, &lines, resumed.writer)?;
@@ -135,10 +135,10 @@ fn keep_dropped(
     let inputs = stored.inputs();
     let fault =
         |error| format!("{}: no search can start from them: {error}", inputs_path(path).display());
-    let Resumed { report, .. } = Search::resume(&inputs, bytes).map_err(fault)?;
+    let Resumed { kept_lines, .. } = Search::resume(&inputs, bytes).map_err(fault)?;
     let (refusal, journal) = (LineRefusal::NotTheRun, Journal::parse(bytes));
-    let is_cut = journal.changed.is_none() && is_cut(&bytes[report.kept..]);
-    let why = match report.ended_by {
+    let is_cut = journal.changed.is_none() && is_cut(&bytes[kept_lines.kept..]);
+    let why = match kept_lines.ended_by {
         EndedBy::Nothing => return Ok(None),
         EndedBy::MissingNewline if is_cut => return Ok(None),
         EndedBy::MissingNewline | EndedBy::NotALine => journal.not_a_line().0,
@@ -148,8 +148,8 @@ fn keep_dropped(
             format!("{why} ({})", refusal.number())
         }
     };
-    let why = format!("line {}: {why}", report.lines + 1);
-    if report.lines == 0 {
+    let why = format!("line {}: {why}", kept_lines.lines + 1);
+    if kept_lines.lines == 0 {
         return Err(format!(
             "{}: {why}. Nothing of this journal would be left, so it isn't touched. Look whether it is a journal, and \
              whether {} are its own inputs",
@@ -158,7 +158,7 @@ fn keep_dropped(
         ));
     }
     let aside = with_ending(path, ".dropped");
-    write_aside(&aside, &bytes[report.kept..]).map_err(|error| {
+    write_aside(&aside, &bytes[kept_lines.kept..]).map_err(|error| {
         format!(
             "{}: can't be written, and what {} would lose isn't dropped without it: {error}. Move an older one away",
             aside.display(),
@@ -178,8 +178,8 @@ fn write_aside(path: &Path, bytes: &[u8]) -> io::Result<()> {
 }
 
 /// What was kept and what was dropped, in words.
-fn kept_text(path: &Path, report: &ResumeReport, why: Option<&str>) -> String {
-    let ResumeReport { lines, kept, dropped, ended_by } = *report;
+fn kept_text(path: &Path, kept_lines: &KeptLines, why: Option<&str>) -> String {
+    let KeptLines { lines, kept, dropped, ended_by } = *kept_lines;
     let mut text = format!("kept            {}: {lines} lines, {kept} bytes", path.display());
     text += &match (ended_by, why) {
         (EndedBy::Nothing, _) => "\ndropped         nothing".into(),
