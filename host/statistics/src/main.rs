@@ -1,8 +1,9 @@
 //! Prints the statistics of the example host's answers: `cargo run --release -p statistics -- --help`.
 
+use random::Random;
 use statistics::cells::{NOISES, Runner, TYPED, lens, typed};
-use statistics::draw::{Kind, between};
-use statistics::measured::Measured;
+use statistics::draw::{Kind, between, draw};
+use statistics::measured::{Measured, covered_by_two_deviations};
 use statistics::summary::Summary;
 use statistics::tally::Share;
 use std::fs;
@@ -15,7 +16,7 @@ const HELP: &str = "statistics [--sets N] [--seed WORD] [--threads N] [--only PA
 Draws views of a plate with known tilts, searches them as `jinnychair search` does, fits them by an independent least
 squares, and prints what comes out as tables. A new seed each time unless one is named; 500 sets of each cell.
 
-parts: clean, exact, centre, lenses, long, typed, large, hard; all unless named
+parts: clean, exact, centre, lenses, long, typed, large, hard, level; all unless named
 --keep writes the views of each set that failed, was called doubtful without a cause, isn't at the optimum, or lies silently
 beyond its bounds
 statistics search ... is jinnychair search ...: to look at them";
@@ -33,6 +34,7 @@ const PARTS: &[(&str, Part)] = &[
     ("typed", all_typed),
     ("large", large),
     ("hard", hard),
+    ("level", level),
 ];
 
 /// What the words ask for.
@@ -125,30 +127,39 @@ fn say_reasons(cells: &[(String, Summary)]) {
     }
 }
 
-/// The head of a table of cells.
+/// The head of the table of cells' shares.
 fn say_head() {
     println!(
-        "| cell | end with 0 | tilts within the ± where it ends with 0 | within the winner's own ± | width | of 95 % below | \
-         errors | winner's errors | residuals |"
+        "| cell | end with 0 | tilts within the ±, where it ends with 0 | within the winner's own ± |"
     );
-    println!("|---|---|---|---|---|---|---|---|---|");
+    println!("|---|---|---|---|");
 }
 
-/// A cell's row.
-fn say_row(cell: &str, s: &Summary, [width, most]: [f64; 2]) {
-    let [error, of_winner] = s.errors;
-    println!(
-        "| {cell} | {} | {} | {} | {width:.3} | {most:.3} | {error:.4} | {of_winner:.4} | {:.6} |",
-        s.good, s.covered, s.winner_covered, s.residuals
-    );
+/// A cell's row in it.
+fn say_row(cell: &str, s: &Summary) {
+    println!("| {cell} | {} | {} | {} |", s.good, s.covered, s.winner_covered);
 }
 
-/// A table of cells whose bounds have a lens in them, and the reasons.
-fn say_cells(cells: &[(String, Summary)]) {
-    say_head();
-    cells.iter().for_each(|(cell, summary)| say_row(cell, summary, summary.width));
+/// The table of what is measured, and the reasons.
+fn say_measures(cells: &[(String, Summary)], width: fn(&Summary) -> [f64; 2]) {
+    println!("\n| cell | width | of 95 % below | errors | winner's errors | residuals |");
+    println!("|---|---|---|---|---|---|");
+    for (cell, s) in cells {
+        let ([width, most], [error, of_winner]) = (width(s), s.errors);
+        let residuals = s.residuals;
+        println!(
+            "| {cell} | {width:.3} | {most:.3} | {error:.4} | {of_winner:.4} | {residuals:.6} |"
+        );
+    }
     println!();
     say_reasons(cells);
+}
+
+/// Both tables of cells whose bounds have a lens in them.
+fn say_cells(cells: &[(String, Summary)]) {
+    say_head();
+    cells.iter().for_each(|(cell, summary)| say_row(cell, summary));
+    say_measures(cells, |summary| summary.width);
 }
 
 /// All cells of views and noise, with these options; then all together, and those of 8 views and more.
@@ -156,7 +167,7 @@ fn by_views_and_noise(asked: &Asked, name: &str, options: &str, width: fn(&Summa
     let (mut cells, mut all) = (vec![], vec![]);
     let mut say = |cell: String, sets: &[Measured]| {
         let summary = Summary::new(sets);
-        say_row(&cell, &summary, width(&summary));
+        say_row(&cell, &summary);
         cells.push((cell, summary));
     };
     say_head();
@@ -174,8 +185,7 @@ fn by_views_and_noise(asked: &Asked, name: &str, options: &str, width: fn(&Summa
     say("all".into(), &all);
     all.retain(|one| one.views >= 8);
     say("8 views and more".into(), &all);
-    println!();
-    say_reasons(&cells);
+    say_measures(&cells, width);
 }
 
 fn clean(asked: &Asked) {
@@ -188,6 +198,29 @@ fn exact(asked: &Asked) {
     println!("\n## Clean views, `--lens exact`\n");
     println!("Width: of the exact covariance without a lens.\n");
     by_views_and_noise(asked, "exact", "lens exact", |summary| summary.plain_width);
+}
+
+/// Whether two deviations cover what their level says: of so many sets that chance is small, fitted without a search.
+fn level(asked: &Asked) {
+    println!("\n## Two deviations by Student's distribution, whose level is 95.45 %\n");
+    println!(
+        "By the independent fit without a lens, {} sets of each cell.\n",
+        40 * asked.runner.sets
+    );
+    println!("| cell | tilts within |");
+    println!("|---|---|");
+    for (views, noise) in [(3, 0.05), (3, 0.3), (4, 0.3), (8, 0.1)] {
+        let covered = |set: usize| {
+            let name = format!("{} level {views} {noise} {set}", asked.runner.seed);
+            let mut random = Random::named(&name);
+            let is_spread = random.below(2) == 0;
+            let kind = Kind { is_spread, ..Kind::clean(views, noise) };
+            covered_by_two_deviations(&draw(&kind, &mut random))
+        };
+        let covered: Vec<_> = (0..40 * asked.runner.sets).filter_map(covered).collect();
+        let share = Share::of(covered.into_iter().flatten());
+        println!("| {views} views, {noise} px | {share}: {:.2} % |", 100.0 * share.part());
+    }
 }
 
 fn centre(asked: &Asked) {

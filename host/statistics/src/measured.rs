@@ -3,6 +3,7 @@
 use crate::answer::{Answer, answer};
 use crate::draw::Drawn;
 use crate::reference::{BENT, Fit, HELD, PLAIN, Problem};
+use crate::tally::two_deviations;
 use tool::views::Plate;
 
 /// What rounding may do to a tilt, in radians: a thousandth of the last digit that is shown.
@@ -49,6 +50,18 @@ fn yardstick(problem: &Problem, free: &[usize], start: Fit) -> Option<(Yardstick
     let (tilts, deviations) = ([fit.shared[2], fit.shared[3]], [deviations[2], deviations[3]]);
     let freedom = problem.freedom(free);
     Some((Yardstick { tilts, deviations, freedom, squares: fit.squares }, fit))
+}
+
+/// Whether each tilt of the independent fit without a lens lies within its two deviations by Student's distribution; nothing
+/// where the fit doesn't end.
+#[must_use]
+pub fn covered_by_two_deviations(drawn: &Drawn) -> Option<[bool; 2]> {
+    let problem = Problem::new(&drawn.plate);
+    let start = problem.start(drawn.shared, &drawn.poses);
+    let (found, _) = yardstick(&problem, PLAIN, start)?;
+    let factor = two_deviations(found.freedom);
+    let off = |i: usize| (found.tilts[i] - drawn.shared[2 + i]).abs();
+    Some([0, 1].map(|i| off(i) <= factor * found.deviations[i]))
 }
 
 impl Measured {

@@ -28,8 +28,8 @@ const MOST_STEPS: usize = 200;
 /// error, which is rounding.
 const LAST: f64 = 1e-19;
 const ROUNDED: f64 = 1e-10;
-/// Sums of squares that differ by less than this part of them are the same.
-const ROUNDING: f64 = 1e-13;
+/// What rounding makes of a pixel's coordinate at most.
+const ROUNDED_PIXEL: f64 = 1e-12;
 
 /// Views with the centre that is held.
 pub struct Problem<'a> {
@@ -147,11 +147,14 @@ impl<'a> Problem<'a> {
         None
     }
 
-    /// The step, halved until the squares don't grow.
+    /// The step, halved until the squares don't grow by more than the pixels' rounding makes them: a part of a step that does
+    /// nothing would be taken again and again.
     fn shorter(&self, free: &[usize], fit: &Fit, step: &Step) -> Option<Fit> {
+        let numbers: usize = self.views.iter().map(|view| 2 * view.dots()).sum();
+        let most = fit.squares + 2.0 * ROUNDED_PIXEL * (numbers as f64 * fit.squares).sqrt();
         let halved = (0..40).map(|halvings| 0.5f64.powi(halvings));
         let mut moved = halved.map(|part| self.moved(free, fit, step, part));
-        moved.find(|next| next.squares <= fit.squares * (1.0 + ROUNDING))
+        moved.find(|next| next.squares <= most)
     }
 
     fn moved(&self, free: &[usize], fit: &Fit, step: &Step, part: f64) -> Fit {
@@ -260,6 +263,18 @@ mod tests {
             let fit = problem.optimum(PLAIN, problem.start(beside, &poses)).unwrap();
             assert!(fit.squares < 1e-15, "{}", fit.squares);
             assert!((fit.shared[2] - shared[2]).hypot(fit.shared[3] - shared[3]) < 1e-7);
+        }
+    }
+
+    /// Sets of three views for which steps were halved until they did nothing, without an end.
+    #[test]
+    fn steps_end_where_rounding_hides_what_they_gain() {
+        for (set, free) in [(104, PLAIN), (219, BENT), (221, BENT)] {
+            let mut random = Random::named(&format!("dff61634 clean 3 0.05 {set}"));
+            let kind = Kind { is_spread: random.below(2) == 0, ..Kind::clean(3, 0.05) };
+            let Drawn { plate, shared, poses } = draw(&kind, &mut random);
+            let problem = Problem::new(&plate);
+            assert!(problem.optimum(free, problem.start(shared, &poses)).is_some(), "{set}");
         }
     }
 

@@ -15,6 +15,7 @@ use crate::plan::Plan;
 use crate::progress::Bar;
 use crate::report;
 use crate::residuals::Fit;
+use crate::rivals;
 use crate::screen::{Screen, aside};
 use crate::solve::{self, Host};
 use crate::stop::Stopper;
@@ -390,7 +391,7 @@ impl Case {
             points.extend(verdict::of_outliers(outliers, fit));
             let (host, lean_of_rest) = outliers.rest(&self.host, lean);
             points.extend(verdict::of_model(host, lean_of_rest));
-            points.extend(verdict::of_rivals(finished, fit, lean));
+            points.extend(verdict::of_rivals(&rivals::of(&self.host, finished, fit, lean)));
         }
         points.extend(verdict::of_limits(winner, open, self.choices.limits()));
         let noise =

@@ -143,8 +143,12 @@ fn summary(record: &Record, winner: Option<&Tried>) -> String {
     let counted =
         |count: usize, name: &str| format!("{count} {name}{}", if count == 1 { "" } else { "s" });
     let tilts = counted(tried.len(), "tilt");
-    let rounds = counted(last_round(tried), "round");
-    format!("{tilts} tried, {skipped} skipped; {rounds} after the first. {won}")
+    let rounds = match (last_round(tried), record.about("stopped")) {
+        (0, Some(_)) => "stopped in the first round".into(),
+        (0, None) => "no round after the first".into(),
+        (rounds, _) => format!("{} after the first", counted(rounds, "round")),
+    };
+    format!("{tilts} tried, {skipped} skipped; {rounds}. {won}")
 }
 
 fn heading(svg: &mut Svg, record: &Record, winner: Option<&Tried>) {

@@ -131,15 +131,23 @@ impl Words {
         Ok(Some(Word::Option(option)))
     }
 
-    /// The value of an option, as a file's name.
-    fn file(&mut self, option: &str) -> Result<OsString, Fault> {
+    fn word(&mut self, option: &str) -> Result<OsString, Fault> {
         let value = self.attached.take().map(|(_, value)| value).or_else(|| self.left.pop_front());
         value.ok_or_else(|| Fault::Usage(format!("{option} lacks a value")))
     }
 
+    /// The value of an option, as a file's name.
+    fn file(&mut self, option: &str) -> Result<OsString, Fault> {
+        let name = self.word(option)?;
+        if name.is_empty() {
+            return Err(Fault::Usage(format!("{option}: the name is empty")));
+        }
+        Ok(name)
+    }
+
     /// The value of an option.
     fn value(&mut self, option: &str) -> Result<String, Fault> {
-        utf8(self.file(option)?)
+        utf8(self.word(option)?)
     }
 
     fn ask_for_help(&self) -> bool {

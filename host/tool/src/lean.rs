@@ -77,11 +77,11 @@ impl Optimum {
         deviations.iter().all(|one| one.is_finite()).then_some(deviations)
     }
 
-    /// How far given tilts lie from these, as the F of two numbers.
+    /// How far two pairs of tilts lie from each other by the covariance, as the F of two numbers.
     #[must_use]
-    pub fn distance(&self, [x, y]: [f64; 2]) -> Option<f64> {
-        let ([[xx, xy], [_, yy]], here) = (inverse_2(&self.covariance?)?, self.tilts());
-        let [x, y] = [x - here[0], y - here[1]];
+    pub fn distance(&self, from: [f64; 2], to: [f64; 2]) -> Option<f64> {
+        let [[xx, xy], [_, yy]] = inverse_2(&self.covariance?)?;
+        let [x, y] = [to[0] - from[0], to[1] - from[1]];
         Some(0.5 * (xx * x * x + 2.0 * xy * x * y + yy * y * y))
     }
 

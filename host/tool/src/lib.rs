@@ -27,6 +27,7 @@
 //! | [`distribution`], [`influence`] | what chance does, and what a fit makes of errors |
 //! | [`outliers`], [`view_test`] | dots and views that disagree with the others |
 //! | [`fit_test`], [`neighbour_test`] | whether one camera explains the views, and whether the errors are noise |
+//! | [`rivals`] | tried tilts elsewhere that fit as well |
 //! | [`next_view`] | which turn of the plate would help most |
 //! | [`verdict`] | what speaks against the winner, and what to do |
 //! | [`report`] | the winner in words |
@@ -76,6 +77,7 @@ pub mod pose;
 pub mod progress;
 pub mod report;
 pub mod residuals;
+pub mod rivals;
 pub mod screen;
 pub mod solve;
 pub mod stop;

@@ -257,9 +257,14 @@ impl<'a> Told<'a> {
     /// The tilts that the verdict is about, in large figures: the lean, or where it isn't known the winner's.
     fn headline(&self, open: &Open) -> String {
         let ([x, y], bounds) = open.headline();
-        let name = if open.lean.is_some() { "lean" } else { "tilt" };
+        // Without views a bound would have the steps and the centre in it, and nothing of noise and lens.
+        let (name, unknown, bounds) = match (open.lean, &self.judged) {
+            (Some(_), _) => ("lean", "not determined", bounds),
+            (None, Some(_)) => ("tilt", "not determined", None),
+            (None, None) => ("tilt", "± not known", None),
+        };
         let tilt = |axis: &str, radians: f64, i: usize| {
-            let bound = bounds.map_or("not determined".into(), |b| format!("± {}°", degrees(b[i])));
+            let bound = bounds.map_or(unknown.into(), |b| format!("± {}°", degrees(b[i])));
             let text = format!("{:+.4}° {bound}", radians.to_degrees());
             let radians = format!("{radians:+.6} rad");
             let [text, radians] = [text, radians].map(|text| text.replace('-', "−"));
@@ -277,9 +282,10 @@ impl<'a> Told<'a> {
             return String::new();
         };
         let mut lean = self.headline(open);
-        let mut about: Vec<Row> = vec![("left open".into(), sum_text(open))];
+        let mut about: Vec<Row> = vec![];
         match &self.judged {
             Some(judged) => {
+                about.push(("left open".into(), sum_text(open)));
                 // The tilts stand above; of one that is held more is said.
                 let is_above =
                     |row: &Row| row.0 == "lean x" || (row.0 == "lean y" && open.held.is_none());
@@ -288,7 +294,7 @@ impl<'a> Told<'a> {
             None => {
                 let unknown =
                     "the lean isn't known without the views: these are the winner's tilts";
-                let not_in_it = "not known without the views: the ± doesn't have it";
+                let not_in_it = "not known without the views";
                 about.push(("lean".into(), unknown.into()));
                 about.push(("  by noise, lens".into(), not_in_it.into()));
                 about.extend(report::centre_rows(open));
@@ -481,14 +487,13 @@ fn no_winner(finished: &Finished, error: RunError) -> String {
     format!("{} ({}): {why}.", error.fault(), error.number())
 }
 
-/// What the bounds of the tilts are made of.
+/// What the bounds of the lean are made of.
 fn sum_text(open: &Open) -> String {
-    let Some([x, y]) = open.headline().1.map(|bounds| bounds.map(degrees)) else {
+    let Some([x, y]) = open.lean_total().map(|bounds| bounds.map(degrees)) else {
         return "more than the views determine".into();
     };
     let y = if open.held.is_some() { String::new() } else { format!(", ±{y}° y") };
-    let is_known = open.lean.is_some() && open.centre_within.is_some();
-    let these = if is_known { "these" } else { "what is known of these" };
+    let these = if open.centre_within.is_some() { "these" } else { "what is known of these" };
     format!("±{x}° x{y}, the sum of {these}")
 }
 

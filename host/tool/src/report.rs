@@ -88,7 +88,11 @@ pub fn winner_rows(
     let of_all = format!("candidate {} of {tried} ({})", winner.number, source.unwrap_or_default());
     let name = if finished.stop.is_some() { "best so far" } else { "winner" };
     let row = |name: &str, value: String| (name.to_owned(), value);
-    let tilt = |radians: f64, bound: f64| tilt_text(radians, Some(bound), is_open);
+    // Without views, or a lean, what noise leaves open isn't known.
+    let tilt = |radians: f64, bound: f64| match open.winner {
+        Some(_) => tilt_text(radians, Some(bound), is_open),
+        None => format!("{:+.4}°, ± not known   ({radians:+.6} rad)", radians.to_degrees()),
+    };
     let tilt_y = match open.held {
         None => tilt(sensor.tilt_y, total[1]),
         Some(_) => "0° (held: one axis)".into(),

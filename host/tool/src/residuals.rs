@@ -128,10 +128,11 @@ impl Fit {
         dots
     }
 
-    /// The sum of all counted errors' squares.
+    /// The sum of the squares of some views' counted errors.
     #[must_use]
-    pub fn squares(&self) -> f64 {
-        self.dots.iter().filter_map(|dot| dot.error).map(|[dx, dy]| dx * dx + dy * dy).sum()
+    pub fn squares_of(&self, views: &[usize]) -> f64 {
+        let dots = self.dots.iter().filter(|dot| views.contains(&dot.view));
+        dots.filter_map(|dot| dot.error).map(|[dx, dy]| dx * dx + dy * dy).sum()
     }
 
     /// The mean length of all counted errors, in pixels.

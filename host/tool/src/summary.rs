@@ -194,13 +194,18 @@ pub fn of_search(
 /// couldn't be run again.
 #[must_use]
 pub fn of_walked(command: &str, walked: &Walked) -> Json {
+    self::walked(head(command), walked)
+}
+
+/// The same behind another head.
+#[must_use]
+pub fn walked(head: Json, walked: &Walked) -> Json {
     let lines = &walked.journal.lines;
     let is_shown = walked.fault().is_none();
     let best = stretch_winner(lines).filter(|_| walked.is_the_runs());
     let stop =
         walked.search.as_ref().and_then(|search| crate::drive::as_it_stands(search, vec![]).stop);
-    head(command)
-        .with("journal", journal(walked))
+    head.with("journal", journal(walked))
         .with("inputs", walked.inputs.as_ref().map(|stored| inputs(&walked.path, stored)))
         .with("counts", Some(counts(&Counts::of(lines))).filter(|_| is_shown))
         .with("stopped", stop.as_ref().filter(|_| is_shown).map(stopped))

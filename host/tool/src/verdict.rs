@@ -2,7 +2,6 @@
 
 use crate::angle::degrees;
 use crate::choices::Choices;
-use crate::distribution::f_above;
 use crate::drive::{Dots, Finished, JOURNAL_END, Stop, Tried, best, last_step, reach};
 use crate::fit_test::{self, misfit};
 use crate::lean::Lean;
@@ -15,10 +14,6 @@ use crate::residuals::Fit;
 use crate::solve::Host;
 use jinnychair::{Options, Outcome, Progress, ScheimpflugParams, SkipReason, Winner};
 
-/// Another tilt fits as well where its squares differ from the lean's by what chance alone does once in a hundred, and where
-/// by the lean's own ± chance alone would put it there less than once in a million.
-const ALIKE_LEVEL: f64 = 0.01;
-const ELSEWHERE_LEVEL: f64 = 1e-6;
 /// The most that noise may leave open, in degrees.
 const MOST_OPEN: f64 = 0.5;
 
@@ -145,26 +140,7 @@ pub fn too_few_counted(tried: &[Tried], options: &Options) -> Option<Point> {
 
 /// Tried tilts that fit the views as well as the lean does, and lie where its ± excludes them: another valley.
 #[must_use]
-pub fn of_rivals(finished: &Finished, fit: &Fit, lean: &Lean) -> Option<Point> {
-    let rows = finished.tried.iter().filter_map(|one| one.dots.map(|dots| dots.counted)).max()?;
-    let solved = 6 * lean.plain.fitted.poses.len() + 4;
-    let freedom = (2 * rows).checked_sub(solved).filter(|left| *left > 0 && lean.has_noise())?;
-    let freedom = freedom.min(lean.plain.freedom) as f64;
-    // A tilt is scored by some of the dots: as far as these are larger than the winner's, all are.
-    let winner = best(finished.tried.iter())?;
-    let at_lean = lean.plain.fitted.squares / fit.squares() * winner.scored?.rms?.powi(2);
-    let is_alike = |one: &&Tried| {
-        let rms = one.scored.and_then(|scored| scored.rms);
-        let f = rms.map(|rms| 0.5 * freedom * (rms * rms / at_lean - 1.0));
-        f.is_some_and(|f| f_above(f, 2.0, freedom) > ALIKE_LEVEL)
-    };
-    // Some of the dots say as much less of where the lean is.
-    let share = rows as f64 / fit.dots.len() as f64;
-    let is_elsewhere = |one: &&Tried| {
-        let away = lean.plain.distance(tilts(one.seed.sensor));
-        away.is_none_or(|f| f_above(share * f, 2.0, freedom) < ELSEWHERE_LEVEL)
-    };
-    let rivals: Vec<_> = finished.tried.iter().filter(is_alike).filter(is_elsewhere).collect();
+pub fn of_rivals(rivals: &[&Tried]) -> Option<Point> {
     let rival = best(rivals.iter().copied())?;
     let what = format!(
         "{} other tilts fit the views as well, by chance's measure, as no. {} at {}, where the lean's ± excludes them",

@@ -156,11 +156,12 @@ impl Walked {
 }
 
 fn state(inputs: &StoredInputs, resumed: &Resumed, journal: &Journal, bytes: &[u8]) -> State {
-    let Resumed { search, report } = resumed;
-    if let Some((line, why)) = journal.bad_line().filter(|(line, _)| *line == report.lines + 1) {
+    let Resumed { search, kept_lines } = resumed;
+    if let Some((line, why)) = journal.bad_line().filter(|(line, _)| *line == kept_lines.lines + 1)
+    {
         return State::NotTheRun { line, why };
     }
-    let why = match report.ended_by {
+    let why = match kept_lines.ended_by {
         EndedBy::Nothing | EndedBy::MissingNewline => {
             return match search.result() {
                 Err(ResultError::NotOver) => State::Unfinished(left(search)),
@@ -174,7 +175,7 @@ fn state(inputs: &StoredInputs, resumed: &Resumed, journal: &Journal, bytes: &[u
             format!("{why} ({}). {}", refusal.number(), refusal.remedy())
         }
     };
-    State::NotTheRun { line: report.lines + 1, why }
+    State::NotTheRun { line: kept_lines.lines + 1, why }
 }
 
 /// What is left of a run that isn't over.

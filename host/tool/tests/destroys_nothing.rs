@@ -133,7 +133,6 @@ fn whether_an_output_can_be_written_is_found_before_the_search() {
             &["--chart=folder"],
             "folder: can't be written: this is a folder's name. Name another place with --chart",
         ),
-        (&["--table="], ": can't be written: this is a folder's name"),
     ] {
         let told = said(&here, &small(words), 1);
         assert!(told.contains(fault) && !told.contains("what is tried"), "{told}");
@@ -146,6 +145,7 @@ fn whether_an_output_can_be_written_is_found_before_the_search() {
     assert_eq!(names(&here), ["folder", "taken.svg"]);
     let words = small(&["--out=x", "--table=y", "--chart=z"]);
     assert_said(&here, &words, 2, &["--out: --table and --chart name both files"]);
+    assert_said(&here, &small(&["--table="]), 2, &["--table: the name is empty"]);
     assert_said(&here, &small(&["--table=t", "--chart=./t"]), 2, &["would both be t"]);
 }
 

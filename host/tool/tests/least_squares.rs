@@ -61,20 +61,17 @@ fn bent(mut plate: Plate, p1: f64) -> Plate {
 
 #[test]
 fn every_typed_tilt_is_solved_for() {
-    for tilt in [[-15.0, 15.0], [12.0, -15.0], [15.0, 15.0], [0.0, -12.0]] {
-        let [x, y] = tilt.map(f64::to_radians);
-        let sensor = ScheimpflugParams { tilt_x: x, tilt_y: y };
-        let host = Host::new(Truth { sensor, ..BUILT_IN }.plate_held(&held(1, 6))).unwrap();
-        for i in 0..25 {
-            let typed = seed(
-                &host,
-                (f64::from(i % 5) * 7.5 - 15.0).to_radians(),
-                (f64::from(i / 5) * 7.5 - 15.0).to_radians(),
-            );
-            assert!(host.solve(&typed).is_some(), "{tilt:?}: {typed:?}");
+    // The i-th of 49 pairs, at every 5° within ±15°.
+    let pair = |i: usize| [i % 7, i / 7].map(|i| (5.0 * i as f64 - 15.0).to_radians());
+    for (tilt, views) in (0..49).zip([3, 4, 6, 5].into_iter().cycle()) {
+        let [tilt_x, tilt_y] = pair(tilt);
+        let sensor = ScheimpflugParams { tilt_x, tilt_y };
+        let host = Host::new(Truth { sensor, ..BUILT_IN }.plate_held(&held(tilt, views))).unwrap();
+        for [x, y] in (0..49).map(pair) {
+            assert!(host.solve(&seed(&host, x, y)).is_some(), "{sensor:?}: {x} {y}");
         }
-        let rms = host.fit(&seed(&host, x, y)).unwrap().rms();
-        assert!((0.06..0.075).contains(&rms), "{tilt:?}: {rms}");
+        let rms = host.fit(&seed(&host, tilt_x, tilt_y)).unwrap().rms();
+        assert!((0.06..0.075).contains(&rms), "{sensor:?}: {rms}");
     }
 }
 

@@ -2,15 +2,18 @@
 #![allow(missing_docs)]
 
 use jinnychair::journal::Views;
-use jinnychair::{FxFyCxCy, Pt2, ScheimpflugParams, Winner};
+use jinnychair::{FxFyCxCy, Pt2, ScheimpflugParams, Seed, Winner};
 use tool::case::{Case, Judged};
 use tool::choices::Choices;
 use tool::drive::Finished;
+use tool::lean::{Lean, Lens};
 use tool::outliers::Outliers;
+use tool::rivals;
 use tool::screen::Screen;
+use tool::solve::Host;
 use tool::synthetic::{BUILT_IN, Truth};
 use tool::verdict::of_rivals;
-use tool::views::Plate;
+use tool::views::{MOST_SCORED, Plate, View};
 
 /// What a search with these options, as lines of a file, says of a plate; of few tilts where it types none.
 fn answered(plate: &Plate, options: &str) -> (Finished, Winner, Judged) {
@@ -85,8 +88,11 @@ fn a_lens_that_turns_a_lean_to_the_other_side_is_told() {
 fn a_lens_that_no_test_finds_lies_within_the_bounds() {
     for p1 in [-0.001, -0.0005, 0.0005, 0.001] {
         let plate = bent(Truth { noise: 0.4, ..BUILT_IN }.plate(), [0.0, p1]);
-        let (_, _, judged) = answered(&plate, "");
-        assert!(!judged.against.is_empty() || covers(&judged, BUILT_IN_TILTS), "{p1}");
+        let open = assert_good(&plate, "", BUILT_IN_TILTS).open;
+        // Stated to be exact, it is left out of the bounds.
+        let exact = answered(&plate, "lens exact").2.open;
+        assert!(exact.lens.is_none() && open.lens.is_some());
+        assert!(exact.lean_total().unwrap()[0] < 0.9 * open.lean_total().unwrap()[0]);
     }
 }
 
@@ -305,25 +311,81 @@ fn without_noise_rounding_lies_within_the_bounds() {
     }
 }
 
+/// The numbers of the tilts that fit as well as the lean, elsewhere.
+fn rivals_of(plate: &Plate, finished: &Finished, judged: &Judged) -> Vec<usize> {
+    let host = Host::new(plate.clone()).unwrap();
+    let rivals = rivals::of(&host, finished, &judged.fit, judged.lean.as_ref().unwrap());
+    rivals.iter().map(|one| one.number).collect()
+}
+
 /// A tilt elsewhere whose errors are no larger than chance makes them.
 #[test]
 fn another_valley_is_told() {
-    let (mut finished, _, judged) = answered(&BUILT_IN.plate(), "");
-    let lean = judged.lean.as_ref().unwrap();
-    assert_eq!(of_rivals(&finished, &judged.fit, lean), None);
+    let plate = BUILT_IN.plate();
+    let (mut finished, _, judged) = answered(&plate, "");
+    let rivals = |finished: &Finished| rivals_of(&plate, finished, &judged);
+    assert_eq!(rivals(&finished), []);
     // Scored by a tenth of the dots, neighbours of the last step aren't told apart, and are no other valley.
     let mut by_few = finished.clone();
     for one in &mut by_few.tried {
         one.dots.as_mut().unwrap().counted = 98;
     }
-    assert_eq!(of_rivals(&by_few, &judged.fit, lean), None);
+    assert_eq!(rivals(&by_few), []);
     let rms = finished.tried[0].scored.unwrap().rms;
     finished.tried[3].scored.as_mut().unwrap().rms = rms;
-    let told = of_rivals(&finished, &judged.fit, lean).unwrap().what;
+    assert_eq!(rivals(&finished), [3]);
+    by_few.tried[3].scored.as_mut().unwrap().rms = rms;
+    assert_eq!(rivals(&by_few), [3]);
+    // Views that are repeated change nothing.
+    let twice = Plate { views: [&plate.views[..], &plate.views[..]].concat(), ..plate.clone() };
+    let (mut doubled, _, judged) = answered(&twice, "min-counted 100");
+    assert_eq!(rivals_of(&twice, &doubled, &judged), []);
+    doubled.tried[3].scored.as_mut().unwrap().rms = doubled.tried[0].scored.unwrap().rms;
+    assert_eq!(rivals_of(&twice, &doubled, &judged), [3]);
+    let told = of_rivals(&[&finished.tried[3]]).unwrap().what;
     assert!(
         told.starts_with("1 other tilts fit the views as well") && told.contains("no. 3 at "),
         "{told}"
     );
+}
+
+/// Eight views, each of as many dots as ten of the built-in plate, with noise of their own; another one for each number.
+fn dense(number: usize) -> Plate {
+    let held = |i: usize| {
+        let (sine, cosine) = (2.4 * (i / 10) as f64).sin_cos();
+        [30.0 * sine, 30.0 * cosine, 8.0 * cosine, 6.0 * sine, 440.0]
+    };
+    let before = (0..number).map(|_| held(0));
+    let all = BUILT_IN.plate_held(&before.chain((0..80).map(held)).collect::<Vec<_>>());
+    let views = all.views[number..].chunks(10).map(|same| View {
+        board: same.iter().flat_map(|view| view.board.clone()).collect(),
+        pixels: same.iter().flat_map(|view| view.pixels.clone()).collect(),
+        name: String::new(),
+    });
+    Plate { centre: all.centre, views: views.collect() }
+}
+
+/// By chance the squares of the scored dots are small where those of all dots aren't.
+#[test]
+fn chance_in_the_scored_dots_is_no_other_valley() {
+    for number in [3, 8, 33] {
+        let plate = dense(number);
+        let host = Host::new(plate.clone()).unwrap();
+        let seed = Seed { reference_k: host.base(), sensor: BUILT_IN.sensor };
+        let lean = Lean::new(&host, &seed, Lens::Open).unwrap();
+        // Beside the lean, just so far that the scored dots' share of its ± excludes a tilt.
+        let share = MOST_SCORED as f64 / plate.dots() as f64;
+        let typed = [0, 1].map(|i| {
+            let middle = lean.tilts();
+            let mut beside = middle;
+            beside[i] += 1e-3;
+            let by = 1e-3 * (14.5 / share / lean.plain.distance(middle, beside).unwrap()).sqrt();
+            [-by, 0.0, by].map(|by| format!("{}rad", middle[i] + by)).join(",")
+        });
+        let [x, y] = typed;
+        let options = format!("no-decomposition\ntilts-x {x}\ntilts-y {y}\nrounds 0");
+        assert_good(&plate, &options, BUILT_IN_TILTS);
+    }
 }
 
 /// A winner that lies farther from the lean than the search explains.

@@ -342,6 +342,20 @@ fn a_stopped_search_says_what_could_be_gained() {
 }
 
 #[test]
+fn the_chart_says_in_which_round_a_search_was_stopped() {
+    let told = |rounds: usize, after: usize| {
+        let finished = stopped(&options(rounds), after, |seed| Some(off_by(K, near(seed, 0.03))));
+        let mut record = record(&finished);
+        let stop = finished.stop.map(|stop| report::stop_place(&stop));
+        stop.iter().for_each(|place| record.add("stopped", place));
+        chart(&record)
+    };
+    assert!(told(3, 20).contains("20 tilts tried, 0 skipped; stopped in the first round. "));
+    assert!(told(3, 45 + 9 + 4).contains("58 tilts tried, 0 skipped; 2 rounds after the first. "));
+    assert!(told(0, 100).contains("45 tilts tried, 0 skipped; no round after the first. "));
+}
+
+#[test]
 fn a_round_that_can_gain_nothing_is_told() {
     let mut options = options(0);
     (options.tilt_x_seeds, options.tilt_y_seeds) = (vec![0.0, 0.1, 0.2], vec![0.0]);

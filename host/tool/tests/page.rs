@@ -217,13 +217,13 @@ fn without_the_views_the_page_says_what_could_not_be_looked_at() {
         &[
             "? NOT WHOLE</p>\n<p>nothing that can be looked at without the views speaks against the winner</p>",
             "The views aren&#39;t at hand: views.txt: can&#39;t be read: ",
-            "±0.031° x, ±0.031° y, the sum of what is known of these",
             "<th scope=\"row\">lean</th><td>the lean isn&#39;t known without the views: these are the winner&#39;s",
-            "by noise, lens</th><td>not known without the views: the ± doesn&#39;t have it</td>",
+            "by noise, lens</th><td>not known without the views</td>",
+            "tilt x</th><td>-1.1942°, ± not known   (-0.020843 rad)</td>",
             "by the steps</th><td>±0.031° x, ±0.031° y</td>",
             // An option stays on one line.
             "tolerance with <span class=\"word\">--centre-within</span> PX</td>",
-            "<span>tilt x</span>−1.1942° ± 0.031°",
+            "<span>tilt x</span>−1.1942° ± not known<span>",
         ],
     );
     assert!(!page.contains("RMS error") && !page.contains("The winner&#39;s errors"));

@@ -42,6 +42,7 @@ fn wrong_words_end_with_2() {
         (&["plate"][..], "what is `plate`?"),
         (&["search", "--centre", "1"], "--centre lacks a value"),
         (&["search", "--centre", "1", "NaN"], "--centre: `NaN` isn't a finite number"),
+        (&["search", "--table", ""], "--table: the name is empty"),
         (&["search", "--speed"], "what is `--speed`?"),
         (&["search", "a", "b"], "what is `b`?"),
         (&["search", "--tilts-x=3"], "--tilts-x: `3` has no unit: write 3deg or 3rad"),

@@ -167,6 +167,8 @@ fn a_journal_that_is_not_the_runs_gives_no_winner() {
     let states: Vec<_> =
         value.at("journals").list().iter().map(|one| one.at("journal.state").text()).collect();
     assert_eq!(states, ["run", "not_the_run"]);
+    // The head stands once.
+    assert_eq!(value.at("journals").list()[0].at("command"), &Value::Null);
     // Without the views, as far as it goes.
     let (value, _) = given(&here, &["report", "night", "--json", "--no-views"], 3);
     assert_eq!(

@@ -48,7 +48,7 @@ fn run(words: Words, screen: &mut Screen) -> Result<End, Fault> {
     if !asked.has("--json") {
         return Ok(end);
     }
-    let journals = [&a, &b].map(|walked| summary::of_walked("compare", walked));
+    let journals = [&a, &b].map(|walked| summary::walked(Json::Object(vec![]), walked));
     let object = summary::head("compare")
         .with("journals", journals.to_vec())
         .with("is_same", found.parted.is_none() && is_compared)
