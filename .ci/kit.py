@@ -20,10 +20,10 @@ def crates_of():
 
 
 def below(crates, crate, found=None):
-    """All crates that the crate rests on."""
+    """All crates of crates.txt that the crate rests on; what it names beside them is the kit's."""
     found = [] if found is None else found
     for it in crates[crate]:
-        if it not in found:
+        if it in crates and it not in found:
             found.append(it)
             below(crates, it, found)
     return found
@@ -37,7 +37,7 @@ def words(crates, crate):
     """What `rattle check` and `rattle build` are told of the crate: its name, its type, and where the libraries lie."""
     said = ["--crate-name", crate, "src/lib.rt", "--extern", f"std={KIT}/rlibs/std.rlib", "-L", f"dependency={KIT}/rlibs"]
     for it in crates[crate]:
-        said += ["--extern", f"{it}={library(it)}/{it}.rlib"]
+        said += ["--extern", f"{it}={library(it) if it in crates else f'{KIT}/rlibs'}/{it}.rlib"]
     for it in below(crates, crate):
         said += ["-L", f"dependency={library(it)}"]
     said += ["--antt-project", f"{KIT}/rattle/logic/antt-project.json", "--logic-built", f"{KIT}/logic_built", "--links", f"{crate}="]

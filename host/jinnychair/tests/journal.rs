@@ -233,19 +233,22 @@ fn damaged_inputs_are_refused_with_their_line() {
             "line 1: read `jinnychair inputs 3`; expected `jinnychair inputs 2`. Name",
         ),
         ("inputs 1", "inputs 2", "expected `host`, its name and its version"),
-        ("views 7", "views 07", "line 6: read `views 07`; expected `views 7`"),
+        ("views 7", "views 07", "line 6: read `views 07`; expected `views` and a whole number"),
         ("views 7", "views x", "line 6: read `views x`; expected `views` and a whole number"),
-        ("3f947ae147ae147b 0.02", "3f947ae147ae147b 0.03", "expected `step 3f947ae147ae147b 0.02`"),
         (
-            "3f947ae147ae147b",
-            "3f947ae147ae147c",
-            "expected `step 3f947ae147ae147c 0.020000000000000004`",
+            "3f947ae147ae147b 0.02",
+            "3f947ae147ae147b 0.03",
+            "expected `step`, 16 hexadecimal digits",
         ),
+        ("3f947ae147ae147b", "3f947ae147ae147c", "expected `step`, 16 hexadecimal digits"),
+        ("3f947ae147ae147b", "3F947AE147AE147B", "expected `step`, 16 hexadecimal digits"),
         ("one-axis yes", "one-axis y", "read `one-axis y`; expected `one-axis` and yes or no"),
-        ("min-counted 50", "min-counted +50", "expected `min-counted 50`"),
+        ("min-counted 50", "min-counted +50", "expected `min-counted` and a whole number"),
         ("base-fy", "base-fz", "expected `base-fy`, 16 hexadecimal digits"),
-        ("NaN", "nan", "expected `base-fx 7ff8000000000000 NaN`"),
+        ("NaN", "nan", "expected `base-fx`, 16 hexadecimal digits"),
         ("views-from file", "views-from", "expected `views-from built-in` or"),
+        ("sha256 ba", "sha256 BA", "expected `views-sha256` and 64 hexadecimal digits"),
+        ("2026", "20\u{7f}26", "expected `date` and its value"),
         ("2026", "2025", "the checksum isn't that of the lines above: the file was changed"),
         ("tilt-x 3fb999999999999a 0.1\n", "", "the checksum isn't that of the lines above"),
         ("seed-cy", "seed-cz", "expected `seed-cy`"),
@@ -260,6 +263,58 @@ fn damaged_inputs_are_refused_with_their_line() {
     }
     assert!(StoredInputs::parse(&(text.clone() + "\n")).is_err());
     assert!(StoredInputs::parse(&text.replace('\n', "\r\n")).is_err());
+}
+
+/// The bits count; decimals that are read back to them may be longer than what is written here.
+#[test]
+fn other_decimals_of_the_same_bits_are_read() {
+    let text = odd().text().replace("3f947ae147ae147b 0.02\n", "3f947ae147ae147b 2.00e-2\n");
+    let above = &text[..text.rfind("sha256 ").unwrap()];
+    let whole = format!("{above}sha256 {}\n", sha256(above.as_bytes()));
+    assert_eq!(StoredInputs::parse(&whole).unwrap().text(), odd().text());
+}
+
+/// The same file and the same changed bytes as in crates/inputs_file/src/tests.rt, whose proved reader names the same lines.
+#[test]
+fn a_changed_byte_is_found_in_its_line() {
+    let mut stored = odd();
+    stored.options.tilt_x_seeds = vec![0.1, -0.0];
+    stored.options.tilt_y_seeds = vec![0.25];
+    stored.decomposition.truncate(1);
+    stored.host = Some(HostVersion { name: "a-host".into(), version: "2 (beta)".into() });
+    let text = stored.text();
+    assert!(
+        text.ends_with(
+            "\nsha256 6faaf204bb9ad1ba484970323fd6c8d29220277f3316d0e3c63329b23d52830a\n"
+        )
+    );
+    let line = |text: &str| StoredInputs::parse(text).unwrap_err().line;
+    for (at, byte, expected) in [
+        (18, b'3', 1),
+        (39, b'-', 3),
+        (61, b'\x7f', 4),
+        (101, b'-', 5),
+        (129, b'B', 6),
+        (200, b'x', 7),
+        (236, b'3', 9),
+        (217, b'F', 9),
+        (276, b't', 11),
+        (290, b'+', 12),
+        (318, b'n', 13),
+        (328, b'z', 14),
+        (502, b'z', 20),
+        (619, b'z', 24),
+        (781, b'N', 29),
+        (64, b'5', 30),
+        (813, b'7', 30),
+    ] {
+        let mut changed = text.clone().into_bytes();
+        changed[at] = byte;
+        assert_eq!(line(&String::from_utf8(changed).unwrap()), Some(expected), "{at}");
+    }
+    assert_eq!(line(""), Some(1));
+    assert_eq!(line(&text[..text.len() - 1]), Some(30));
+    assert_eq!(line(&(text + "\n")), Some(31));
 }
 
 #[test]

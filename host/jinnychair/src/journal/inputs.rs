@@ -1,4 +1,4 @@
-//! What Start was given, in a file of its own beside a journal: docs/INPUTS-FILE.md has its form.
+//! The inputs of Start, in a file of their own beside a journal. docs/JOURNAL.md describes its form.
 
 use super::checksum::sha256;
 use crate::{FxFyCxCy, Inputs, Options, Pt2, Seed};
@@ -83,10 +83,15 @@ fn plain(text: &str) -> String {
     text.chars().map(|c| if c.is_control() { ' ' } else { c }).collect()
 }
 
-/// A real's bits, by which it is read, and its decimals, for the eye. Every NaN is written alike.
-fn real(name: &str, x: f64) -> String {
+/// A real's bits. Every NaN has the same.
+fn bits(x: f64) -> String {
     let bits = if x.is_nan() { 0x7ff8_0000_0000_0000 } else { x.to_bits() };
-    format!("{name} {bits:016x} {x}\n")
+    format!("{bits:016x}")
+}
+
+/// A real's bits and its decimals, the shortest that are read back to these bits.
+fn real(name: &str, x: f64) -> String {
+    format!("{name} {} {x}\n", bits(x))
 }
 
 fn reals<const N: usize>(names: [&str; N], numbers: [f64; N]) -> String {
@@ -176,24 +181,15 @@ impl StoredInputs {
         let mut fields = Fields { lines: text.split('\n').collect(), at: 0 };
         fields.head()?;
         let stored = fields.stored()?;
-        let written = stored.text();
-        for (i, (read, expected)) in text.split('\n').zip(written.split('\n')).enumerate() {
-            if read != expected {
-                return Err(changed(i + 1, read, expected));
-            }
-        }
-        let is_whole = text.len() == written.len();
-        is_whole.then_some(stored).ok_or_else(|| InputsError {
-            line: None,
-            fault: "the file goes on behind its checksum, or ends before it".into(),
-        })
+        fields.checksum(text)?;
+        Ok(stored)
     }
 
     /// Writes the file beside a journal: under another name, then, when it is on the disk, under its own.
     ///
     /// # Errors
     ///
-    /// It can't be written; nothing stays behind.
+    /// It can't be written; no part of it is left.
     pub fn save(&self, journal: &Path) -> io::Result<()> {
         let path = inputs_path(journal);
         let mut hidden = OsString::from(".");
@@ -252,14 +248,32 @@ impl Display for InputsError {
 
 impl Error for InputsError {}
 
-/// A line that isn't what the lines' own values lead to.
-fn changed(line: usize, read: &str, expected: &str) -> InputsError {
-    let fault = if expected.starts_with("sha256 ") {
-        "the checksum isn't that of the lines above: the file was changed. Take the one that the search wrote".into()
-    } else {
-        format!("read `{read}`; expected `{expected}`. Take the file that the search wrote")
-    };
-    InputsError { line: Some(line), fault }
+/// Without a control byte; what follows ASCII is left as it is.
+fn is_plain(text: &str) -> bool {
+    text.bytes().all(|byte| 32 <= byte && byte != 127)
+}
+
+/// Two texts around the first space.
+fn pair(text: &str) -> Option<(&str, &str)> {
+    text.split_once(' ').filter(|(first, second)| is_plain(first) && is_plain(second))
+}
+
+/// A whole number in decimals, without leading zeros or a sign.
+fn whole(text: &str) -> Option<usize> {
+    text.parse().ok().filter(|number: &usize| number.to_string() == text)
+}
+
+/// A real: its bits, and decimals that are read back to these bits.
+fn real_in(text: &str) -> Option<f64> {
+    let (digits, decimals) = text.split_once(' ')?;
+    let x: f64 = decimals.parse().ok()?;
+    let is_spelled = digits == bits(x) && (!x.is_nan() || decimals == "NaN");
+    is_spelled.then_some(x)
+}
+
+/// The digits of a SHA-256.
+fn is_digest(text: &str) -> bool {
+    text.len() == 64 && text.bytes().all(|byte| matches!(byte, b'0'..=b'9' | b'a'..=b'f'))
 }
 
 /// The lines of a file, taken in their order.
@@ -294,7 +308,7 @@ impl<'a> Fields<'a> {
             return Ok(None);
         }
         let form = "`host`, its name and its version";
-        let host = self.peek("host").and_then(|host| host.split_once(' '));
+        let host = self.peek("host").and_then(pair);
         let (name, version) = host.ok_or_else(|| self.fault(form))?;
         self.at += 1;
         Ok(Some(HostVersion { name: name.into(), version: version.into() }))
@@ -306,23 +320,22 @@ impl<'a> Fields<'a> {
     }
 
     fn text(&mut self, name: &str) -> Result<&'a str, InputsError> {
-        let text = self.peek(name).ok_or_else(|| self.fault(&format!("`{name}` and its value")))?;
+        let text = self.peek(name).filter(|text| is_plain(text));
+        let text = text.ok_or_else(|| self.fault(&format!("`{name}` and its value")))?;
         self.at += 1;
         Ok(text)
     }
 
     fn whole(&mut self, name: &str) -> Result<usize, InputsError> {
-        let number = self.peek(name).and_then(|text| text.parse().ok());
+        let number = self.peek(name).and_then(whole);
         let number = number.ok_or_else(|| self.fault(&format!("`{name}` and a whole number")))?;
         self.at += 1;
         Ok(number)
     }
 
     fn real(&mut self, name: &str) -> Result<f64, InputsError> {
-        let bits = self.peek(name).and_then(|text| text.split(' ').next());
-        let bits = bits.and_then(|bits| u64::from_str_radix(bits, 16).ok());
         let form = || format!("`{name}`, 16 hexadecimal digits and the same number in decimals");
-        let number = bits.map(f64::from_bits).ok_or_else(|| self.fault(&form()))?;
+        let number = self.peek(name).and_then(real_in).ok_or_else(|| self.fault(&form()))?;
         self.at += 1;
         Ok(number)
     }
@@ -347,13 +360,17 @@ impl<'a> Fields<'a> {
     fn plate(&mut self) -> Result<Views, InputsError> {
         let form = "`views-from built-in` or `views-from file` and its name";
         let from = self.peek("views-from").ok_or_else(|| self.fault(form))?;
-        let name = from.strip_prefix("file ");
+        let name = from.strip_prefix("file ").filter(|name| is_plain(name));
         if name.is_none() && from != "built-in" {
             return Err(self.fault(form));
         }
         self.at += 1;
         let Some(name) = name else { return Ok(Views::BuiltIn) };
-        Ok(Views::File { name: name.into(), sha256: self.text("views-sha256")?.into() })
+        let form = "`views-sha256` and 64 hexadecimal digits in lower case";
+        let sum = self.peek("views-sha256").filter(|sum| is_digest(sum));
+        let sha256 = sum.ok_or_else(|| self.fault(form))?.into();
+        self.at += 1;
+        Ok(Views::File { name: name.into(), sha256 })
     }
 
     fn flag(&mut self, name: &str) -> Result<bool, InputsError> {
@@ -390,8 +407,7 @@ impl<'a> Fields<'a> {
     fn notes(&mut self) -> Result<Vec<(String, String)>, InputsError> {
         let mut notes = vec![];
         while let Some(note) = self.peek("note") {
-            let (name, text) =
-                note.split_once(' ').ok_or_else(|| self.fault("a name and a text"))?;
+            let (name, text) = pair(note).ok_or_else(|| self.fault("a name and a text"))?;
             notes.push((name.into(), text.into()));
             self.at += 1;
         }
@@ -408,7 +424,6 @@ impl<'a> Fields<'a> {
         options.tilt_x_seeds = self.all_reals("tilt-x")?;
         options.tilt_y_seeds = self.all_reals("tilt-y")?;
         let (decomposition, notes) = (self.seeds()?, self.notes()?);
-        self.text("sha256")?;
         let (base, center) = (FxFyCxCy { fx, fy, cx, cy }, Pt2 { x, y });
         Ok(StoredInputs {
             library,
@@ -422,5 +437,23 @@ impl<'a> Fields<'a> {
             center,
             notes,
         })
+    }
+
+    /// The last line has the checksum of the lines above it, and nothing follows it.
+    fn checksum(&self, text: &str) -> Result<(), InputsError> {
+        let sum = self.peek("sha256").ok_or_else(|| self.fault("`sha256` and its value"))?;
+        let above: usize = self.lines[..self.at].iter().map(|line| line.len() + 1).sum();
+        let fault = |behind: usize, fault: &str| {
+            Err(InputsError { line: Some(self.at + behind), fault: fault.into() })
+        };
+        if sum != sha256(&text.as_bytes()[..above]) {
+            let changed = "the checksum isn't that of the lines above: the file was changed. Take the one that the search wrote";
+            return fault(1, changed);
+        }
+        match self.lines[self.at + 1..] {
+            [] => fault(1, "the file ends before its last newline"),
+            [""] => Ok(()),
+            _ => fault(2, "the file goes on behind its checksum"),
+        }
     }
 }

@@ -1,0 +1,5 @@
+pub mod Grammar
+pub mod Values
+pub mod Reading
+pub mod View
+pub mod Theorem
