@@ -81,27 +81,14 @@ pub fn winner_rows(
     fit: Option<&Fit>,
     open: &Open,
 ) -> Vec<Row> {
-    let (k, sensor) = (winner.camera.k, winner.sensor);
-    let (total, is_open) = (open.winner_total(), open.centre_within.is_none());
+    let k = winner.camera.k;
     let source = finished.tried.get(winner.number).map(|one| source_text(one.source));
     let tried = finished.tried.len();
     let of_all = format!("candidate {} of {tried} ({})", winner.number, source.unwrap_or_default());
     let name = if finished.stop.is_some() { "best so far" } else { "winner" };
     let row = |name: &str, value: String| (name.to_owned(), value);
-    // Without views, or a lean, what noise leaves open isn't known.
-    let tilt = |radians: f64, bound: f64| match open.winner {
-        Some(_) => tilt_text(radians, Some(bound), is_open),
-        None => format!("{:+.4}°, ± not known   ({radians:+.6} rad)", radians.to_degrees()),
-    };
-    let tilt_y = match open.held {
-        None => tilt(sensor.tilt_y, total[1]),
-        Some(_) => "0° (held: one axis)".into(),
-    };
-    let mut rows = vec![
-        row(name, of_all),
-        row("  tilt x", tilt(sensor.tilt_x, total[0])),
-        row("  tilt y", tilt_y),
-    ];
+    let [tilt_x, tilt_y] = won_tilts(open);
+    let mut rows = vec![row(name, of_all), row("  tilt x", tilt_x), row("  tilt y", tilt_y)];
     rows.extend(beside(open));
     let dist = winner.camera.dist;
     if dist.p1 != 0.0 || dist.p2 != 0.0 {
@@ -118,6 +105,20 @@ pub fn winner_rows(
     }
     rows.push(row("score", format!("{:.5}", winner.score)));
     rows
+}
+
+/// The winner's tilts with their bounds. Without views, or a lean, what noise leaves open isn't known.
+fn won_tilts(open: &Open) -> [String; 2] {
+    let (total, is_open) = (open.winner_total(), open.centre_within.is_none());
+    let tilt = |i: usize| {
+        let radians: f64 = open.won[i];
+        match open.winner {
+            Some(_) => tilt_text(radians, Some(total[i]), is_open),
+            None => format!("{:+.4}°, ± not known   ({radians:+.6} rad)", radians.to_degrees()),
+        }
+    };
+    let tilt_y = open.held.map_or_else(|| tilt(1), |_| "0° (held: one axis)".into());
+    [tilt(0), tilt_y]
 }
 
 /// The mean error by which the winner is scored, and where that is of some dots, of all.
@@ -145,7 +146,7 @@ fn beside(open: &Open) -> Vec<Row> {
     vec![("  off the lean".into(), format!("{off}; {explained}"))]
 }
 
-/// How many tilts were scored and how many skipped for each reason, in words, and behind `report` as 02's line.
+/// How many tilts were scored and how many skipped for each reason, in words, and behind `report` as the report's line.
 ///
 /// # Errors
 ///

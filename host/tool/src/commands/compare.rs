@@ -48,17 +48,19 @@ fn run(words: Words, screen: &mut Screen) -> Result<End, Fault> {
     if !asked.has("--json") {
         return Ok(end);
     }
-    let journals = [&a, &b].map(|walked| summary::walked(Json::Object(vec![]), walked));
-    let object = summary::head("compare")
+    give(object([&a, &b], found, is_compared, drift), end, screen)
+}
+
+/// What was found, for programs.
+fn object(both: [&Walked; 2], found: Comparison, is_compared: bool, drift: Option<Drift>) -> Json {
+    let journals = both.map(|walked| summary::walked(Json::Object(vec![]), walked));
+    let drift = drift.map(|drift| Json::Object(summary::tilts(drift.by, Some(drift.within))));
+    summary::head("compare")
         .with("journals", journals.to_vec())
         .with("is_same", found.parted.is_none() && is_compared)
         .with("parted", found.parted)
         .with("compared", found.said)
-        .with(
-            "drift",
-            drift.map(|drift| Json::Object(summary::tilts(drift.by, Some(drift.within)))),
-        );
-    give(object, end, screen)
+        .with("drift", drift)
 }
 
 /// How far the lean has moved from the first to the second, or why that isn't known.
@@ -99,7 +101,7 @@ fn have_the_same_views(walked: [&Walked; 2]) -> bool {
     views[0].is_some() && views[0] == views[1]
 }
 
-/// Compares the inputs where both have them; what is missing or damaged was told.
+/// Compares the inputs where both have them; what is missing or damaged was reported before.
 fn compare_inputs(a: &Walked, b: &Walked, found: &mut Comparison, screen: &mut Screen) -> bool {
     match (&a.inputs, &b.inputs) {
         (Some(a), Some(b)) => {
