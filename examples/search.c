@@ -8,11 +8,11 @@
 #define DOTS 35
 static const double X_TILTS[] = {-0.16, -0.12, -0.08, -0.04, 0.0, 0.04, 0.08, 0.12, 0.16};
 static const double Y_TILTS[] = {-0.04, -0.02, 0.0, 0.02, 0.04};
-/* A host keeps its journal in a file, and each line there before the next seed is asked for. */
+/* A host keeps its journal in a file, and writes each line there before it asks for the next seed. */
 static uint8_t journal[JC_MOST_ANSWERS * JC_LINE_LEN];
 enum { X_COUNT = sizeof X_TILTS / sizeof *X_TILTS, Y_COUNT = sizeof Y_TILTS / sizeof *Y_TILTS };
 
-/* Of tilts up to 0.5 radians; of others the number is 27 and the value 0. */
+/* For tilts up to 0.5 radians. For others the number is 27 and the value 0. */
 static jc_trig trig_of(double tilt_x, double tilt_y) {
     jc_trig trig = {jc_sine(tilt_x).value, jc_cosine(tilt_x).value, jc_sine(tilt_y).value, jc_cosine(tilt_y).value};
     return trig;
@@ -72,12 +72,12 @@ int main(void) {
     printf("no. %zu of %zu won: %+.4f %+.4f, %.3f px\n", winner.number, jc_progress(run).answered_in_run, winner.sensor.tilt_x,
            winner.sensor.tilt_y, winner.mean_reproj_error);
 
-    /* The morning report: how many were scored, how many skipped for each reason, and all of them. */
+    /* The report: how many were scored, how many were skipped for each reason, and the total. */
     uint8_t report[JC_REPORT_LEN];
     jc_write_flat written = jc_write_report(jc_counts(run), report, JC_REPORT_LEN);
     fwrite(report, 1, written.len, stdout);
 
-    /* Support has the journal and what Start was given, and no host. */
+    /* Support has the journal and the inputs of Start, and no host. */
     jc_replay_flat again = jc_replay(3, options, X_TILTS, X_COUNT, Y_TILTS, Y_COUNT, X_TILTS, 0, k, center, journal, journal_len, list, list_len);
     if (again.number != 0 || !again.is_over) return printf("line %zu: %d\n", again.line_number, again.number), 1;
     printf("no. %zu won, by the %zu bytes of the journal\n", again.candidate, journal_len);

@@ -1,27 +1,27 @@
-/* The proved sensor-tilt search and its geometry: the functions of libcapi.a, which is for x86-64 Linux. C11 or later, or C++11 or later.
+/* The proved sensor-tilt search and its geometry: the functions of libcapi.a, for x86-64 Linux. They need C11 or C++11, or later.
  *
  *     cc -std=c11 search.c $(pkg-config --cflags --libs jinnychair)           (a release: PKG_CONFIG_PATH=.../lib/pkgconfig)
  *     cc -std=c11 search.c -Iinclude target/staticlib/libcapi.a               (this repository)
  *
- * examples/search.c is a whole search. Call jc_is_compatible() first: an archive of another version has other structs.
+ * examples/search.c shows a whole search. Call jc_is_compatible() first: the structs of another version may differ.
  *
- * Slices. A slice is a pointer and a length in numbers. The pointer is not NULL, also where the length is 0 (give any array); it is aligned
- * for its type and valid for the length, for reading, and where it is not const also for writing. What a call may write to overlaps nothing
- * else that it is given. Nothing else is asked of a caller: every number is taken, and every function returns.
+ * Slices. A slice is a pointer and a length in numbers. The pointer is not NULL, even where the length is 0 (pass any array); it is aligned for
+ * its type and valid for the length, for reading, and where it is not const for writing too. Memory that a call may write to overlaps none of its
+ * other arguments. A caller has to see to nothing else: every number is accepted, and every function returns.
  *
- * Replies. A number of 0 means that nothing is refused; the others are JC_TOO_FEW_VIEWS and so on below, and NUMBERS.md says what to do.
- * After a refusal nothing that was lent is changed, but for 29, 30 and 11 of jc_replay, and fields of a reply that have no value are 0. Where
- * several refusals apply, the first of those that the function's comment names is given.
+ * Replies. The number 0 means that the call was accepted. The other numbers are JC_TOO_FEW_VIEWS and so on below, and NUMBERS.md says what to do
+ * about each. A function's comment has the numbers that it can give. Where several refusals apply, the one that the comment names first is given.
+ * After a refusal nothing that was lent has changed, except after 29, 30 and 11 of jc_replay, and fields of a reply that have no value are 0.
  *
  * Flags of records and replies are read as 0 or not 0, and written as 0 or 1. The flags of rows are 0 or 1, and any other is refused.
  *
- * Lists of points have x then y; seed lists have fx, fy, cx, cy, tilt x, tilt y. Where a list is written, it goes to the front of its
- * destination, and the rest stays as it was. Angles are in radians, pixels and focal lengths in pixels.
+ * Lists of points hold x, then y; seed lists hold fx, fy, cx, cy, tilt x, tilt y. A list is written to the front of its destination, and the rest
+ * of the destination stays as it was. Angles are in radians, pixels and focal lengths in pixels.
  *
- * Threads. Every call is a function of its arguments alone; nothing is kept between calls, and threads need no lock.
+ * Threads. Every call is a function of its arguments alone. Nothing is kept between calls, and threads need no lock.
  *
- * Floats. The processor rounds to nearest and keeps subnormal numbers, as every thread starts. Under another rounding mode (fesetround) or
- * with subnormals flushed to zero (-ffast-math at link time sets this) results have other bits.
+ * Floats. The processor has to round to nearest and to keep subnormal numbers, which is how every thread starts. Under another rounding mode
+ * (fesetround), or with subnormals flushed to zero (-ffast-math at link time sets this), results have different bits.
  */
 #ifndef JINNYCHAIR_H
 #define JINNYCHAIR_H
@@ -46,10 +46,10 @@ extern "C" {
 /* The version that this header is for: 65,536 times the major, 256 times the minor, and the patch number, here 0.12.0. */
 #define JC_VERSION 0x0c00u
 
-/* That of the linked archive. */
+/* The version of the linked archive. */
 uint32_t jc_version(void);
 
-/* 1 where they are the same; 0 where the archive is to be replaced before anything else is called. */
+/* 1 where the two versions are the same; 0 where the archive has to be replaced before anything else is called. */
 static inline int jc_is_compatible(void) { return jc_version() == JC_VERSION; }
 
 /* ---- numbers ---- */
@@ -100,15 +100,15 @@ enum {
     JC_SKIP_NO_NUMBER = 4    /* the score isn't a number */
 };
 
-/* What ended the lines that jc_resume keeps; else JC_NOT_A_LINE or JC_NOT_THE_RUN. */
+/* What ended the lines that jc_resume keeps. The other two causes are JC_NOT_A_LINE and JC_NOT_THE_RUN. */
 enum {
-    JC_ENDED_BY_NOTHING = 0,        /* nothing stands behind them */
+    JC_ENDED_BY_NOTHING = 0,        /* nothing follows them */
     JC_ENDED_BY_MISSING_NEWLINE = 1 /* a line without its newline */
 };
 
 /* Limits. */
 enum {
-    JC_MOST_POINTS = 400,   /* of a list of points, but for the line test and the centre */
+    JC_MOST_POINTS = 400,   /* of a list of points, except for the line test and the centre */
     JC_MOST_ROWS = 1024,    /* of an answer */
     JC_MOST_TILTS = 16,     /* of a tilt list */
     JC_MOST_SEEDS = 256,    /* of the decomposition */
@@ -158,7 +158,7 @@ typedef struct {
     double tilt_x, tilt_y;
 } jc_scheimpflug_params;
 
-/* Sine and cosine of each tilt, for the geometry: those of jc_sine and jc_cosine have the same bits on every machine. */
+/* Sine and cosine of each tilt, for the geometry. jc_sine and jc_cosine give the same bits on every machine. */
 typedef struct {
     double sin_x, cos_x, sin_y, cos_y;
 } jc_trig;
@@ -187,10 +187,10 @@ typedef struct {
     double mean_reproj_error, score;
 } jc_candidate;
 
-/* What a search is asked for, beside the tilts of its grid: how many rounds follow round 0, each around the best candidate of the round
- * before; the first of these rounds' step, in radians, which halves from round to round; the bound on either tilt, in radians, at most 0.5;
- * whether the module leans about the x axis alone: where one_axis is not 0 every tilt y is 0, and a later round has at most three seeds, tilt x
- * minus the step, tilt x, and tilt x plus the step; and how much of an answer's rows has to count, a whole per cent, at most 100. With 0 one row
+/* The options of a search. refine_rounds: how many rounds follow round 0, each around the best candidate of the round before. refine_step: the
+ * step of the first of these rounds, in radians; it halves from round to round. max_abs_tilt: the bound on either tilt, in radians, at most 0.5.
+ * one_axis: not 0 where the module leans about the x axis alone; then every tilt y is 0, and a later round has at most three seeds, with tilt x
+ * minus the step, tilt x, and tilt x plus the step. min_counted: how many per cent of an answer's rows have to count, at most 100; with 0 one row
  * that counts is enough. */
 typedef struct {
     size_t refine_rounds;
@@ -252,8 +252,8 @@ typedef struct {
     jc_pt2 center;
 } jc_center_reply;
 
-/* How far a run has come: the numbers that the list must have, the round, the step of its list, its seeds, how many of them are answered,
- * the next candidate's number, and whether the run is over. */
+/* How far a run has come: how many numbers the list must have, the round, the step of its list, how many seeds the list has, how many of them are
+ * answered, the next candidate's number, and whether the run is over. */
 typedef struct {
     size_t demand, round;
     double step;
@@ -273,9 +273,9 @@ typedef struct {
     jc_candidate candidate;
 } jc_best_record;
 
-/* A line of the journal: an answered candidate's number, the round that it was handed out in, its seed, and what came of it. Where skipped is 0
- * it was scored, and score, mean error, focal lengths, centre and tangential distortion are those of the scored camera; else skipped is
- * JC_SKIP_..., and the numbers behind it are not read, and 0 where a line was read. */
+/* A line of the journal: an answered candidate's number, the round in which it was handed out, its seed, and its outcome. Where skipped is 0 the
+ * candidate was scored, with this score and mean error, and focal lengths, centre and tangential distortion are those of the scored camera.
+ * Otherwise skipped is JC_SKIP_..., and the numbers after it are not read; in a line that was read they are 0. */
 typedef struct {
     size_t number, round;
     jc_candidate_seed seed;
@@ -291,12 +291,12 @@ typedef struct {
     jc_line line;
 } jc_last_line_record;
 
-/* How many candidates were scored, and how many skipped for each reason, JC_SKIP_... in their order. */
+/* How many candidates were scored, and how many were skipped for each reason, in the order of JC_SKIP_... */
 typedef struct {
     size_t scored, host_failed, bad_camera, no_mean, no_number;
 } jc_count_record;
 
-/* A run. The caller keeps it and hands it on unchanged from call to call; it may be copied and stored. Nothing in it is a pointer. */
+/* A run. The caller keeps it and passes it unchanged from one call to the next. It may be copied and stored, and has no pointers. */
 typedef struct {
     jc_options options;
     jc_pt2 center;
@@ -313,14 +313,14 @@ typedef struct {
     jc_run_record run;
 } jc_start_flat;
 
-/* 0 and a candidate's number; 0 and over, 1; or a refusal. */
+/* 0 and a candidate's number; 0 and over = 1; or a refusal. */
 typedef struct {
     uint8_t number, over;
     size_t candidate;
     jc_run_record run;
 } jc_next_flat;
 
-/* 0 and a score, where skipped is 0; 0 and JC_SKIP_...; or a refusal. */
+/* 0 and a score, where skipped is 0; 0 and skipped = JC_SKIP_...; or a refusal. */
 typedef struct {
     uint8_t number, skipped;
     double score;
@@ -333,15 +333,15 @@ typedef struct {
     jc_candidate candidate;
 } jc_result_flat;
 
-/* How far a run has come, as a progress bar shows it: the round, the rounds asked for after round 0, of this round's list the answered seeds and
- * all of them, and the answered seeds of the whole run. */
+/* How far a run has come, as a progress bar shows it: the round, how many rounds follow round 0, how many seeds of this round's list are answered,
+ * how many it has, and how many seeds of the whole run are answered. */
 typedef struct {
     size_t round, rounds, answered, total, answered_in_run;
 } jc_progress_reply;
 
-/* 0, and what a stopped run has: the best so far, where has_best is 1; where has_floor is 1 the lowest tilt penalty among the seeds of this
- * round's list that are not answered yet, where it is 0 none is left; and no_gain 1 where that isn't below the best's score, so that this
- * round can't find a better one. Or a refusal. */
+/* 0 and what a stopped run has, or a refusal. best: the best so far, where has_best is 1. floor: where has_floor is 1, the lowest tilt penalty
+ * among the seeds of this round's list that are not answered yet; where has_floor is 0 there are none. no_gain: 1 where the floor isn't below the
+ * best's score, so that this round can't find a better one. */
 typedef struct {
     uint8_t number, has_best, has_floor, no_gain;
     jc_candidate best;
@@ -354,8 +354,8 @@ typedef struct {
     size_t len;
 } jc_write_flat;
 
-/* 0 and a line; 0 and end, 1; or a refusal and the line's number, from 1. The next line is read at next: behind a line that was read, and
- * else at the position that was asked for. */
+/* 0 and a line; 0 and end = 1; or a refusal and the line's number, from 1. next is where to read on: behind the line that was read, and otherwise
+ * the position that was passed. */
 typedef struct {
     uint8_t number, end;
     size_t line_number;
@@ -363,7 +363,7 @@ typedef struct {
     size_t next;
 } jc_read_flat;
 
-/* 0 and, where is_over is 1, the winner's number and score, else the seed that comes next; or a refusal of jc_start's; or JC_NOT_A_LINE or
+/* 0 and, where is_over is 1, the winner's number and score, otherwise the seed that comes next; or one of jc_start's refusals; or JC_NOT_A_LINE or
  * JC_NOT_THE_RUN and the line's number, from 1; or JC_NOTHING_SCORED. */
 typedef struct {
     uint8_t number, is_over;
@@ -373,7 +373,7 @@ typedef struct {
 } jc_replay_flat;
 
 /* 0, how many lines and bytes are kept, how many bytes aren't, what ended the kept ones (JC_ENDED_BY_..., JC_NOT_A_LINE, JC_NOT_THE_RUN), and the
- * run; or a refusal of jc_start's. */
+ * run; or one of jc_start's refusals. */
 typedef struct {
     uint8_t number, ended_by;
     size_t lines, kept, dropped;
@@ -399,16 +399,17 @@ double jc_determinant(jc_matrix m);
 jc_inverse_reply jc_inverse(jc_matrix m);
 /* A point under a homography: h (x, y, 1), its first two numbers divided by the third. A third number that isn't above 1e-12 counts as 1e-12. */
 jc_pt2 jc_apply_homography(jc_matrix h, jc_pt2 p);
-/* The same for the inverse of a homography, where a third number below -1e-12 is divided by too. */
+/* The same for the inverse of a homography. Here a third number below -1e-12 divides as well. */
 jc_pt2 jc_apply_homography_inverse(jc_matrix h_inv, jc_pt2 p);
-/* The distorted point. The numbers travel one by one: in registers, which is faster than a struct. */
+/* The distorted point. The numbers are passed one by one, in registers, which is faster than a struct. */
 jc_pt2 jc_distort_numbers(double k1, double k2, double k3, double p1, double p2, double x, double y);
 static inline jc_pt2 jc_distort(jc_distortion b, jc_pt2 p) { return jc_distort_numbers(b.k1, b.k2, b.k3, b.p1, b.p2, p.x, p.y); }
 jc_distorted_point jc_distort_with_jacobian(jc_distortion b, jc_pt2 p);
-/* The point that is distorted to this one, by Newton's method with at most iters steps; 0 means 20. Numbers that aren't a lens's may need all
- * steps, so that a call with iters near 2^32 can take long. */
+/* The point that is distorted to this one, by Newton's method with at most iters steps; 0 means 20. With numbers that no lens has, all steps may
+ * be needed, so a call with iters near 2^32 can take long. */
 jc_pt2 jc_undistort(jc_distortion b, uint32_t iters, jc_pt2 p);
-/* Zhang's closed form: focal lengths and centre of the camera whose conic this is. 16 where none has it; a camera that is not finite passes. */
+/* Zhang's closed form: focal lengths and centre of the camera whose conic this is. 16 where no camera has it; a camera that is not finite isn't
+ * refused. */
 jc_camera_reply jc_conic_to_camera(jc_conic b);
 /* Six numbers from which jc_conic_to_camera gives k back exactly; a zero may have the other sign. 34 where the four are not whole
  * numbers (focal lengths 1 to 256, centre -256 to 256) times one power of two from 1 to 256. */
@@ -423,8 +424,9 @@ uint8_t jc_ideal_points(jc_pinhole_camera camera, uint32_t iters, jc_trig trig, 
                         double *to, size_t to_len);
 /* The points moved and scaled so that their centroid is the origin and their mean distance from it is the root of 2. 17, 18, 19. */
 jc_normalize_reply jc_normalize_points_2d(const double *points, size_t points_len, double *to, size_t to_len);
-/* Whether all points lie on a line: the one through the first point and the next that is farther than 1e-9 from it. A point is beside it where
- * its cross product with these two is above 1e-6 in size. Points all in one place lie on a line, fewer than three don't. 17 for an odd length. */
+/* Whether all points lie on a line: the one through the first point and the next that is farther than 1e-9 from it. A point is off the line where
+ * its cross product with these two is above 1e-6 in size. Points all in one place lie on a line; fewer than three points don't. 17 for an odd
+ * length. */
 jc_line_reply jc_points_are_collinear(const double *points, size_t points_len);
 /* The design matrix of the homography h from source to destination, both normalised: for each pair of points (x, y) and (u, v) two rows of
  * nine numbers, -x, -y, -1, 0, 0, 0, u x, u y, u and 0, 0, 0, -x, -y, -1, v x, v y, v, whose products with h, row by row, should be 0.
@@ -437,7 +439,7 @@ jc_center_reply jc_observed_pixel_center(const double *pixels, size_t pixels_len
 
 /* ---- what a score is made of: mean error + distortion + tilt + centre ---- */
 
-/* The distortion as it is scored: k1, k2, k3 become 0, p1 and p2 are brought within 0.05 in size. */
+/* The distortion as it is scored: k1, k2, k3 become 0, and p1 and p2 are clamped to 0.05 in size. */
 jc_distortion jc_damp_seed_distortion(jc_distortion distortion);
 /* 0.25 (k1^2 + k2^2 + 0.25 k3^2 + p1^2 + p2^2). */
 double jc_distortion_complexity(jc_distortion distortion);
@@ -446,89 +448,91 @@ double jc_tilt_complexity(jc_scheimpflug_params sensor);
 /* 0 times the squared distance between the camera's centre and the observed one, in focal lengths: 0, or NaN where that isn't finite. */
 double jc_principal_point_complexity(jc_intrinsics k, jc_pt2 center);
 /* The mean distance between projected and seen pixels. The camera is used as given, not damped. Rows have x, y (ideal point), u, v (seen pixel);
- * only rows with the flag 1 and a finite error count, and where none does the mean is infinity. It ends at the shorter of the two lists, and
- * refuses nothing: a tilt whose determinant is 0 has some mean here. */
+ * only rows with the flag 1 and a finite error count, and where none does the mean is infinity. The rows end at the shorter of the two lists.
+ * Nothing is refused: a tilt whose determinant is 0 has some mean here. */
 double jc_mean_reproj_error(jc_pinhole_camera camera, jc_trig trig, const double *rows, size_t rows_len, const uint8_t *flags,
                             size_t flags_len);
-/* What the mean of an answer divides: the sum of the errors that count, and how many there are. jc_answer scores these: the camera is damped here,
- * and sines and cosines are those of the tilts, by the library's own series. 13, 27. */
+/* What the mean of an answer divides: the sum of the errors that count, and how many there are, as jc_answer has them. The camera is damped here,
+ * and sines and cosines of the tilts come from the library's own series. 13, 27. */
 jc_error_count_reply jc_count_errors(jc_pinhole_camera solved, jc_scheimpflug_params sensor, const double *rows, size_t rows_len,
                                      const uint8_t *flags, size_t flags_len);
 
 /* ---- the search ---- */
 
 /* Starts a run and writes round 0's seeds to the front of the list: the decomposition's, then the grid of the tilts (radians) with the base
- * camera. 0, or 1 to 8, or 27, 31, 32, 33. The list needs JC_LIST_LEN numbers, and the calls below are lent as many (10). A decomposition
- * without seeds is any array with the length 0. */
+ * camera. The list needs JC_LIST_LEN numbers, and the calls below have to be lent as many, or they refuse with 10. Where there are no
+ * decomposition seeds, pass any array with the length 0. 0, or 1 to 8, or 27, 31, 32, 33. */
 jc_start_flat jc_start(size_t views, jc_options options, const double *tilt_x_seeds, size_t tilt_x_seeds_len,
                        const double *tilt_y_seeds, size_t tilt_y_seeds_len, const double *decomposition, size_t decomposition_len,
                        jc_intrinsics base, jc_pt2 center, double *list, size_t list_len);
 /* Hands out the list's next seed, as a candidate; or says that the run is over and has a result. 9, 10, 11. */
 jc_next_flat jc_next(jc_run_record run, const double *list, size_t list_len);
-/* Copies the waiting seed's six numbers to the front of `to`, and returns 6; 0 where no seed waits, or the list is too short. A `to` with fewer
- * than six places is no question: it returns 0 then too, writes nothing, and says nothing about the run. */
+/* Copies the waiting seed's six numbers to the front of `to`, and returns 6; 0 where no seed waits, or the list is too short. Where `to` has fewer
+ * than six places it also returns 0, writes nothing, and says nothing about the run. */
 size_t jc_seed(jc_run_record run, const double *list, size_t list_len, double *to, size_t to_len);
-/* Takes what the host found for the waiting seed; a round's last answer writes the next list. 12, 10, 13, 27. is_solved 0: the host failed, and
- * neither solved nor rows nor flags are read. Sines and cosines are those of the seed's tilts, by the library's own series.
- * A row's flag is 1 for a point in front of the camera, else 0.
- * Of all rows, those with the flag 0 among them, min_counted per cent have to count, or the candidate is skipped with JC_SKIP_NO_MEAN. */
+/* Takes the host's finding for the waiting seed. A round's last answer writes the next round's list. With is_solved 0 the host failed, and solved,
+ * rows and flags are not read. Sines and cosines of the seed's tilts come from the library's own series. A row's flag is 1 for a point in front of
+ * the camera, and otherwise 0. Of all rows, including those with the flag 0, min_counted per cent have to count, or the candidate is skipped with
+ * JC_SKIP_NO_MEAN. 12, 10, 13, 27. */
 jc_answer_flat jc_answer(jc_run_record run, uint8_t is_solved, jc_pinhole_camera solved, const double *rows, size_t rows_len,
                          const uint8_t *flags, size_t flags_len, double *list, size_t list_len);
 /* The best candidate of a run that is over. 14, 11. */
 jc_result_flat jc_result(jc_run_record run);
 /* How far the run has come; once it is over, the last round's numbers. After round 0, with a step of this round from 1e-11 to 1, the total is
- * exactly the number of x tilts times the number of y tilts that lie within the bound, of x - s, x, x + s and y - s, y, y + s around the best
- * of the round before, each sum rounded. Refuses nothing; of a record that no call returned all numbers are 0. */
+ * exactly the number of x tilts times the number of y tilts within the bound, out of x - s, x, x + s and y - s, y, y + s around the best of the
+ * round before, each sum rounded. Nothing is refused; for a record that no call returned all numbers are 0. */
 jc_progress_reply jc_progress(jc_run_record run);
 /* The best so far, as jc_result gives it, and the floor: no candidate from the seeds left in this round can score below it, whichever camera the
- * host finds. Later rounds aren't covered. May be called at any time, also while a seed waits and after the end; the run goes on unchanged. The
- * waiting seed counts as the run keeps it, the others as they stand in the list now, a penalty that isn't a number as infinity. 10. */
+ * host finds. It says nothing of later rounds. The call may be made at any time, while a seed waits and after the end too, and the run goes on
+ * unchanged. The waiting seed counts as the run keeps it, the others as they stand in the list now; a penalty that isn't a number counts as
+ * infinity. 10. */
 jc_stop_flat jc_stop(jc_run_record run, const double *list, size_t list_len);
-/* How many candidates were scored so far, and how many skipped for each reason: as many as the run's journal has lines with S, H, C, E and N.
- * The waiting seed counts nowhere, nor does a refused call. Refuses nothing; of a record that no call returned all numbers are 0. */
+/* How many candidates were scored so far, and how many were skipped for each reason: as many as the run's journal has lines with S, H, C, E and N.
+ * Neither the waiting seed nor a refused call is counted. Nothing is refused; for a record that no call returned all numbers are 0. */
 jc_count_record jc_counts(jc_run_record run);
 
 /* ---- the journal: a line for each answered candidate ---- */
 
-/* The last answered candidate's line, if there is one. The run keeps one only: write it before the next jc_answer. */
+/* The last answered candidate's line, if there is one. The run keeps only one, so write it before the next jc_answer. */
 jc_last_line_record jc_last_line(jc_run_record run);
-/* Writes the line to the front of `to`: 124 to 247 bytes, 17 fields with commas between them and a newline at the end: number, round, the
- * seed's six numbers, S or the skip's letter (H, C, E, N for 1 to 4), score, mean, fx, fy, cx, cy, p1, p2. Number and round are decimal, the
- * others the 16 hexadecimal digits of their bits, with 7ff8000000000000 for every NaN; behind a skip's letter each field is a minus sign. 28
- * where `to` has less than JC_LINE_LEN bytes, the number is above 655, the round above 16, skipped above 4, or the score of a scored line NaN. */
+/* Writes the line to the front of `to`: 124 to 247 bytes, 17 fields with commas between them and a newline at the end: number, round, the seed's
+ * six numbers, S or the skip's letter (H, C, E, N for 1 to 4), score, mean, fx, fy, cx, cy, p1, p2. Number and round are decimal, the others the
+ * 16 hexadecimal digits of their bits, with 7ff8000000000000 for every NaN; after a skip's letter each field is a minus sign. 28 where `to` has
+ * less than JC_LINE_LEN bytes, the number is above 655, the round above 16, skipped above 4, or the score of a scored line NaN. */
 jc_write_flat jc_write_line(jc_line line, uint8_t *to, size_t to_len);
-/* Writes a report to the front of `to`: 12 to 24 bytes, six decimal numbers with commas between them and a newline at the end: scored, the
- * skipped for reasons 1 to 4, and the total. 28 where `to` has less than JC_REPORT_LEN bytes or the total is above JC_MOST_ANSWERS. */
+/* Writes a report to the front of `to`: 12 to 24 bytes, six decimal numbers with commas between them and a newline at the end: how many were
+ * scored, how many were skipped for each of the reasons 1 to 4, and the total. 28 where `to` has less than JC_REPORT_LEN bytes or the total is
+ * above JC_MOST_ANSWERS. */
 jc_write_flat jc_write_report(jc_count_record counts, uint8_t *to, size_t to_len);
-/* Reads the line at a position of a journal; at its end, and behind it, end is 1. 29 where the bytes there aren't, byte for byte, a line that
- * jc_write_line writes. */
+/* Reads the line at a position of a journal. At the journal's end, and beyond it, end is 1. 29 where the bytes there aren't, byte for byte, a line
+ * that jc_write_line writes. */
 jc_read_flat jc_read_line(const uint8_t *bytes, size_t bytes_len, size_t at);
 
-/* Runs a journal again from jc_start's arguments, without a host: who won, or the seed that comes next, as it would be after these answers.
+/* Runs a journal again from jc_start's arguments, without a host, and gives the winner, or the seed that comes next after these answers.
  *
- * Each line is held against the run: number, round and the seed's six numbers bit by bit (any NaN is any other); of a scored one also the
- * camera (finite, focal lengths above 0), p1 and p2 (at most 0.05 in size), the mean (finite, not below 0), and that the score is, bit by bit,
- * the one that they give. fx, fy, cx and cy of a line enter the score with weight 0, and of a skip nothing more is asked: a journal isn't
- * authenticated by this.
+ * Each line is compared with the run: number, round and the seed's six numbers, bit by bit (any NaN equals any other). Of a scored line the camera
+ * is checked too (finite, focal lengths above 0), p1 and p2 (at most 0.05 in size), the mean (finite, not below 0), and the score, which has to
+ * be, bit by bit, the one that these numbers give. fx, fy, cx and cy of a line enter the score with weight 0, and of a skipped line nothing more
+ * is checked: this doesn't authenticate a journal.
  *
- * jc_start's refusals, which leave the list; line by line, with the line's number, 29 where the bytes aren't a line, then 30 where the line isn't
- * the run's next answer or follows the end, both with the list as the lines before left it; 11 where the run ended with nothing scored. After 11
- * and without a refusal the list is as all lines left it. */
+ * It gives jc_start's refusals, after which the list is as it was lent. Then, line by line and with the line's number, it gives 29 where the bytes
+ * aren't a line, and 30 where the line isn't the run's next answer or follows the end; after both the list is as the lines before left it. It
+ * gives 11 where the run ended with nothing scored. After 11 and without a refusal the list is as all lines left it. */
 jc_replay_flat jc_replay(size_t views, jc_options options, const double *tilt_x_seeds, size_t tilt_x_seeds_len,
                          const double *tilt_y_seeds, size_t tilt_y_seeds_len, const double *decomposition, size_t decomposition_len,
                          jc_intrinsics base, jc_pt2 center, const uint8_t *bytes, size_t bytes_len, double *list, size_t list_len);
-/* Goes on from a journal that stops anywhere, as a power loss leaves it: keeps the longest front of whole lines that jc_replay would take, and gives
- * the run and the list as they leave them, no seed waiting. Hand them to jc_next. Cut the file to the kept bytes before a line is added. A run that
- * is over is given back too. jc_start's refusals, which leave the list. */
+/* Goes on from a journal that stops anywhere, as a power loss leaves it. It keeps the longest front of whole lines that jc_replay accepts, and
+ * gives the run and the list as these lines leave them, with no seed waiting. Pass them to jc_next. Cut the file to the kept bytes before you add
+ * a line. A run that is over is given back too. jc_start's refusals, after which the list is as it was lent. */
 jc_resume_flat jc_resume(size_t views, jc_options options, const double *tilt_x_seeds, size_t tilt_x_seeds_len,
                          const double *tilt_y_seeds, size_t tilt_y_seeds_len, const double *decomposition, size_t decomposition_len,
                          jc_intrinsics base, jc_pt2 center, const uint8_t *bytes, size_t bytes_len, double *list, size_t list_len);
-/* The winner of two stretches of a run, the earlier one first: the one with the lower score, of equal scores the first; where found is 0 the other,
- * and a score that is NaN loses to every number. However a run's answers are cut into stretches, and however these are grouped, the winner of their
- * winners is the run's. */
+/* The winner of two stretches of a run, from the winner of each, the earlier stretch first. The lower score wins, and of equal scores the first.
+ * Where found is 0 in one, the other wins; a score that is NaN loses to every number. However a run's answers are cut into stretches, and however
+ * these are grouped, the winner of their winners is the run's. */
 jc_best_record jc_winner(jc_best_record first, jc_best_record second);
 
-/* ---- for tests only: each struct as it came, to see that both sides lay it out alike ---- */
+/* ---- for tests only: each returns its struct unchanged, so that a test sees whether both sides lay it out alike ---- */
 
 jc_pt2 jc_echo_pt2(jc_pt2 x);
 jc_intrinsics jc_echo_intrinsics(jc_intrinsics x);

@@ -1,4 +1,4 @@
-/* What the header says in words, tried: compiled as C11 and as C++17, and run. */
+/* What the header says in words, tested: compiled as C11 and as C++17, and run. */
 #include "jinnychair.h"
 #include <math.h>
 #include <stdio.h>
@@ -390,7 +390,7 @@ static void winners(void) {
     claim(won.candidate.number == jc_result(j.run).candidate.number, "over all lines it is the run's winner");
 }
 
-/* Each limit is taken, and one more is refused. */
+/* Each limit is accepted, and one more is refused. */
 static void limits(void) {
     static double list[JC_MOST_LIST], numbers[JC_ROW_NUMBERS * (JC_MOST_ROWS + 1)];
     static uint8_t flags[JC_MOST_ROWS + 1];

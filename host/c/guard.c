@@ -80,7 +80,7 @@ static void give_back(void) {
     for (int i = 0; i < lent_count; i++) {
         lent_slice slice = lent[i];
         if (slice.to) memcpy(slice.to, slice.copy, slice.size);
-        /* Numbers that the caller never set may be lent, and a tool that watches the heap takes comparing them for a fault. */
+        /* Numbers that the caller never set may be lent, and a tool that watches the heap reports a comparison of them as a fault. */
         if (!slice.to && !on_heap && memcmp(slice.of, slice.copy, slice.size)) fail("writes to what it may only read");
         if (on_heap) free(slice.copy);
     }

@@ -1,4 +1,4 @@
-//! Compiles the plain C that the benchmark and the soak set the library beside, with the system's gcc.
+//! Compiles, with the system's gcc, the plain C that the benchmark and the soak compare the library with.
 
 use std::env;
 use std::path::Path;

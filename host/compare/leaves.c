@@ -1,5 +1,5 @@
-/* 01's leaf operations in plain C, written from its text, with the machine's root: what the soak and the benchmark set the library beside. Points are x then
- * y, matrices nine numbers row by row. Compiled by build.rs with gcc -O3. */
+/* The leaf operations of docs/SPECIFICATION.md, chapters 2 to 5, in plain C with the machine's root. The soak and the benchmark compare the library with
+ * them. Points are x then y, matrices nine numbers row by row. Compiled by build.rs with gcc -O3. */
 #include <math.h>
 #include <stddef.h>
 #include <stdint.h>
@@ -205,7 +205,7 @@ int leaf_design_rows(const point *from, size_t count, const point *onto, size_t 
     if (count != others) return 23;
     if (leaf_collinear(from, count)) return 24;
     if (leaf_collinear(onto, others)) return 25;
-    /* 02, E7: these can't fail. */
+    /* These can't fail after the line tests. */
     if (leaf_normalize(from, count, a, unused) || leaf_normalize(onto, others, b, unused)) return 26;
     for (size_t i = 0; i < count; i++) {
         double x = a[i].x, y = a[i].y, u = b[i].x, v = b[i].y, *first = to + 18 * i, *second = first + 9;
@@ -270,7 +270,7 @@ double leaf_centre_penalty(const double *k, point centre) {
     return 0.0 * (dx * dx + dy * dy);
 }
 
-/* Whether one power of two makes whole numbers in 02's ranges of all four. */
+/* Whether one power of two makes whole numbers in the ranges of all four (docs/SPECIFICATION.md, 3.16). */
 int leaf_has_plate(const double *k) {
     for (int power = 1; power <= 256; power *= 2) {
         int met = 1;
@@ -284,8 +284,8 @@ int leaf_has_plate(const double *k) {
     return 0;
 }
 
-/* The same with structs by value, as the library's interface has them: what the benchmark sets small operations beside, so that all
- * sides make the copy that a call needs. */
+/* The same with structs by value, as the library's interface has them. The benchmark compares small operations with these, so that
+ * all sides make the copy that a call needs. */
 typedef struct { double m[9]; } matrix;
 typedef struct { double k[4]; } intrinsics;
 typedef struct { double t[4]; } trig;

@@ -1,5 +1,5 @@
-/* The mean error of the rows by the formulas of the library's definitions, in plain C with the machine's root: what the benchmark
- * sets the library beside. Compiled by build.rs with gcc -O3. */
+/* The mean error of the rows by the formulas of the library's definitions, in plain C with the machine's root. The benchmark
+ * compares the library with it. Compiled by build.rs with gcc -O3. */
 #include <math.h>
 #include <stddef.h>
 #include <stdint.h>

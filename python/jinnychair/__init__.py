@@ -1,4 +1,4 @@
-"""Finds the tilt of a camera's sensor from views of a plate: tries every tilt that it is told to try and keeps the best, which is proved.
+"""Finds the tilt of a camera's sensor from views of a plate. The search tries every given tilt and keeps the best, which is proved.
 
     import jinnychair as jc
 
@@ -6,8 +6,8 @@
     found = jc.search(views, centre=(655.0, 470.0))
     print(found.tilts.degrees(), found.uncertainty().degrees())
 
-`Search` is the search itself, for a host of one's own; `geometry` the proved geometry below it, `journal` what is kept of
-a run. The library is loaded by the first call that needs it.
+`Search` is the search itself, for a host of your own. `geometry` has the proved geometry, and `journal` the journal of a
+run. The library is loaded by the first call that needs it.
 """
 
 from . import errors, formats, geometry, host, journal, photographs, pictures

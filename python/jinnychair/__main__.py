@@ -15,13 +15,13 @@ from .views import Views, write_new
 _DESCRIPTION = "From photographs of a plate to the program's report, chart and page; and views in other programs' forms."
 
 _PHOTOGRAPHS = """\
-Finds the plate in each photograph, writes the views to NAME-views.txt, and has the program search them. What isn't
-named here is handed to `jinnychair search`, as --tilts-x, --rounds or --centre-within. Exit codes are the program's: 0
+Finds the plate in each photograph, writes the views to NAME-views.txt, and has the program search them. Other
+options, such as --tilts-x, --rounds or --centre-within, are passed to `jinnychair search`. Exit codes are the program's: 0
 good, 1 failed, 2 wrong words, 3 doubtful.
 """
 
 _CONVERT = """\
-Reads views of any of these forms, and writes them in another one. The form is told by the file's name: .csv a table;
+Reads views of any of these forms, and writes them in another one. The file's name gives the form: .csv a table;
 .yml, .yaml and .xml OpenCV's FileStorage; .json calibration-rs, or OpenCV's where the file is one; any other the
 program's. Several tables are views of one plate. No file is written over.
 """
@@ -75,7 +75,7 @@ def _parser() -> argparse.ArgumentParser:
 
 def _photographs(words: argparse.Namespace, others: list[str]) -> int:
     if not words.views_only:
-        program.find()  # said before the photographs are looked through
+        program.find()  # fails before the photographs are looked through
     how = {"kind": words.kind, "marker": words.marker, "dictionary": words.dictionary, "drawn": words.found}
     views = find(words.files, words.grid, words.pitch, centre=words.centre, **how)
     for line in views.left_out:

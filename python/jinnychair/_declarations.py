@@ -15,7 +15,7 @@ writable_octets = ndpointer(uint8, ndim=1, flags=["C_CONTIGUOUS", "ALIGNED", "WR
 VERSION = 0xc00
 VERSION_TEXT = "0.12.0"
 
-MOST_POINTS = 400  # of a list of points, but for the line test and the centre
+MOST_POINTS = 400  # of a list of points, except for the line test and the centre
 MOST_ROWS = 1024  # of an answer
 MOST_TILTS = 16  # of a tilt list
 MOST_SEEDS = 256  # of the decomposition
@@ -188,7 +188,7 @@ class jc_scheimpflug_params(Structure):
 
 
 class jc_trig(Structure):
-    """Sine and cosine of each tilt, for the geometry: those of jc_sine and jc_cosine have the same bits on every machine."""
+    """Sine and cosine of each tilt, for the geometry. jc_sine and jc_cosine give the same bits on every machine."""
 
     _fields_ = [
         ("sin_x", c_double),
@@ -240,7 +240,7 @@ class jc_candidate(Structure):
 
 
 class jc_options(Structure):
-    """What a search is asked for, beside the tilts of its grid: how many rounds follow round 0, each around the best candidate of the round before; the first of these rounds' step, in radians, which halves from round to round; the bound on either tilt, in radians, at most 0.5; whether the module leans about the x axis alone: where one_axis is not 0 every tilt y is 0, and a later round has at most three seeds, tilt x minus the step, tilt x, and tilt x plus the step; and how much of an answer's rows has to count, a whole per cent, at most 100. With 0 one row that counts is enough."""
+    """The options of a search. refine_rounds: how many rounds follow round 0, each around the best candidate of the round before. refine_step: the step of the first of these rounds, in radians; it halves from round to round. max_abs_tilt: the bound on either tilt, in radians, at most 0.5. one_axis: not 0 where the module leans about the x axis alone; then every tilt y is 0, and a later round has at most three seeds, with tilt x minus the step, tilt x, and tilt x plus the step. min_counted: how many per cent of an answer's rows have to count, at most 100; with 0 one row that counts is enough."""
 
     _fields_ = [
         ("refine_rounds", c_size_t),
@@ -343,7 +343,7 @@ class jc_center_reply(Structure):
 
 
 class jc_place_record(Structure):
-    """How far a run has come: the numbers that the list must have, the round, the step of its list, its seeds, how many of them are answered, the next candidate's number, and whether the run is over."""
+    """How far a run has come: how many numbers the list must have, the round, the step of its list, how many seeds the list has, how many of them are answered, the next candidate's number, and whether the run is over."""
 
     _fields_ = [
         ("demand", c_size_t),
@@ -375,7 +375,7 @@ class jc_best_record(Structure):
 
 
 class jc_line(Structure):
-    """A line of the journal: an answered candidate's number, the round that it was handed out in, its seed, and what came of it. Where skipped is 0 it was scored, and score, mean error, focal lengths, centre and tangential distortion are those of the scored camera; else skipped is JC_SKIP_..., and the numbers behind it are not read, and 0 where a line was read."""
+    """A line of the journal: an answered candidate's number, the round in which it was handed out, its seed, and its outcome. Where skipped is 0 the candidate was scored, with this score and mean error, and focal lengths, centre and tangential distortion are those of the scored camera. Otherwise skipped is JC_SKIP_..., and the numbers after it are not read; in a line that was read they are 0."""
 
     _fields_ = [
         ("number", c_size_t),
@@ -400,7 +400,7 @@ class jc_last_line_record(Structure):
 
 
 class jc_count_record(Structure):
-    """How many candidates were scored, and how many skipped for each reason, JC_SKIP_... in their order."""
+    """How many candidates were scored, and how many were skipped for each reason, in the order of JC_SKIP_..."""
 
     _fields_ = [
         ("scored", c_size_t),
@@ -412,7 +412,7 @@ class jc_count_record(Structure):
 
 
 class jc_run_record(Structure):
-    """A run. The caller keeps it and hands it on unchanged from call to call; it may be copied and stored. Nothing in it is a pointer."""
+    """A run. The caller keeps it and passes it unchanged from one call to the next. It may be copied and stored, and has no pointers."""
 
     _fields_ = [
         ("options", jc_options),
@@ -436,7 +436,7 @@ class jc_start_flat(Structure):
 
 
 class jc_next_flat(Structure):
-    """0 and a candidate's number; 0 and over, 1; or a refusal."""
+    """0 and a candidate's number; 0 and over = 1; or a refusal."""
 
     _fields_ = [
         ("number", c_uint8),
@@ -447,7 +447,7 @@ class jc_next_flat(Structure):
 
 
 class jc_answer_flat(Structure):
-    """0 and a score, where skipped is 0; 0 and JC_SKIP_...; or a refusal."""
+    """0 and a score, where skipped is 0; 0 and skipped = JC_SKIP_...; or a refusal."""
 
     _fields_ = [
         ("number", c_uint8),
@@ -467,7 +467,7 @@ class jc_result_flat(Structure):
 
 
 class jc_progress_reply(Structure):
-    """How far a run has come, as a progress bar shows it: the round, the rounds asked for after round 0, of this round's list the answered seeds and all of them, and the answered seeds of the whole run."""
+    """How far a run has come, as a progress bar shows it: the round, how many rounds follow round 0, how many seeds of this round's list are answered, how many it has, and how many seeds of the whole run are answered."""
 
     _fields_ = [
         ("round", c_size_t),
@@ -479,7 +479,7 @@ class jc_progress_reply(Structure):
 
 
 class jc_stop_flat(Structure):
-    """0, and what a stopped run has: the best so far, where has_best is 1; where has_floor is 1 the lowest tilt penalty among the seeds of this round's list that are not answered yet, where it is 0 none is left; and no_gain 1 where that isn't below the best's score, so that this round can't find a better one. Or a refusal."""
+    """0 and what a stopped run has, or a refusal. best: the best so far, where has_best is 1. floor: where has_floor is 1, the lowest tilt penalty among the seeds of this round's list that are not answered yet; where has_floor is 0 there are none. no_gain: 1 where the floor isn't below the best's score, so that this round can't find a better one."""
 
     _fields_ = [
         ("number", c_uint8),
@@ -501,7 +501,7 @@ class jc_write_flat(Structure):
 
 
 class jc_read_flat(Structure):
-    """0 and a line; 0 and end, 1; or a refusal and the line's number, from 1. The next line is read at next: behind a line that was read, and else at the position that was asked for."""
+    """0 and a line; 0 and end = 1; or a refusal and the line's number, from 1. next is where to read on: behind the line that was read, and otherwise the position that was passed."""
 
     _fields_ = [
         ("number", c_uint8),
@@ -513,7 +513,7 @@ class jc_read_flat(Structure):
 
 
 class jc_replay_flat(Structure):
-    """0 and, where is_over is 1, the winner's number and score, else the seed that comes next; or a refusal of jc_start's; or JC_NOT_A_LINE or JC_NOT_THE_RUN and the line's number, from 1; or JC_NOTHING_SCORED."""
+    """0 and, where is_over is 1, the winner's number and score, otherwise the seed that comes next; or one of jc_start's refusals; or JC_NOT_A_LINE or JC_NOT_THE_RUN and the line's number, from 1; or JC_NOTHING_SCORED."""
 
     _fields_ = [
         ("number", c_uint8),
@@ -526,7 +526,7 @@ class jc_replay_flat(Structure):
 
 
 class jc_resume_flat(Structure):
-    """0, how many lines and bytes are kept, how many bytes aren't, what ended the kept ones (JC_ENDED_BY_..., JC_NOT_A_LINE, JC_NOT_THE_RUN), and the run; or a refusal of jc_start's."""
+    """0, how many lines and bytes are kept, how many bytes aren't, what ended the kept ones (JC_ENDED_BY_..., JC_NOT_A_LINE, JC_NOT_THE_RUN), and the run; or one of jc_start's refusals."""
 
     _fields_ = [
         ("number", c_uint8),

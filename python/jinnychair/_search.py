@@ -92,7 +92,7 @@ class Inputs:
     decomposition: Any = ()
 
     def _lent(self) -> tuple[tuple[Any, ...], Floats]:
-        """The arguments of a start, and a list of the length that it demands."""
+        """The arguments of a start, and a list of the length that it needs."""
         options = self.options
         record = c.jc_options(
             count(options.refine_rounds, "refine_rounds"),
@@ -105,7 +105,7 @@ class Inputs:
         seeds = [numbers(flat(tuple(seed)), (c.SEED_NUMBERS,), "a decomposition seed") for seed in self.decomposition]
         decomposition = np.concatenate(seeds) if seeds else np.empty(0)
         base, center = struct(c.jc_intrinsics, self.base, "base"), struct(c.jc_pt2, self.center, "center")
-        # Lists that are too long for a grid are refused whatever room there is.
+        # Lists that are too long for a grid are refused, however long the lent list is.
         room = max(54, 6 * (len(seeds) + min(xs.size * ys.size, 256)))
         views = count(self.views, "views")
         lists = (xs, xs.size, ys, ys.size, decomposition, decomposition.size)
@@ -155,7 +155,7 @@ class Stopped(NamedTuple):
         No candidate from the seeds that the round has left can score below this, whichever camera the host finds. Later rounds
         can. None where no seed is left.
     no_gain : bool
-        Whether there is a best whose score the floor isn't below: then the round can gain nothing.
+        Whether there is a best, and the floor isn't below its score: then the round can gain nothing.
     """
 
     best: Winner | None
@@ -164,7 +164,7 @@ class Stopped(NamedTuple):
 
 
 class Tried(NamedTuple):
-    """A tried seed, as it is shown to who watches a search; `progress` is that before its answer."""
+    """A tried seed, as `run` shows it; `progress` is the one before its answer."""
 
     number: int
     round: int
@@ -363,15 +363,15 @@ class Search:
         Parameters
         ----------
         solve : callable
-            Is asked for a `Solution` at each `Seed`, or for None where it finds no camera. What it raises goes through;
-            then its seed goes on waiting, and another `run` begins with it.
+            Gives a `Solution` for each `Seed`, or None where it finds no camera. What it raises is passed on; its seed
+            then goes on waiting, and another `run` begins with it.
         watch : callable, optional
-            Is shown each `Tried` seed.
+            Gets each `Tried` seed.
 
         Raises
         ------
         Refused
-            11 where nothing was scored; 13 where a solution isn't taken, whose seed goes on waiting.
+            11 where nothing was scored; 13 where a solution is refused; its seed goes on waiting.
         """
 
         def goes_on(tried: Tried) -> bool:
@@ -384,12 +384,12 @@ class Search:
         return ended
 
     def run_until(self, solve: Host, goes_on: Callable[[Tried], bool]) -> Winner | Stopped:
-        """As `run`; where `goes_on` is false of a tried seed, the search is stopped behind it. Another `run` goes on.
+        """As `run`; where `goes_on` returns false for a tried seed, the search stops after it. Another `run` goes on.
 
         Returns
         -------
         Winner or Stopped
-            A stop behind the last answer stops nothing.
+            A stop after the last answer stops nothing.
         """
         with self._running():
             while (tried := self._try(solve)) is not None:
@@ -401,7 +401,7 @@ class Search:
             return self.result()
 
     def _try(self, solve: Host) -> Tried | None:
-        """One seed from its handing out, or where it waits, to its outcome; None where the run is over."""
+        """Takes a new seed, or the waiting one, to its outcome; None where the run is over."""
         waiting = self.waiting()
         handed = self.next() if waiting is None else Handed(self.progress().answered_in_run, waiting)
         if handed is None:

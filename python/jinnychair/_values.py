@@ -106,8 +106,8 @@ class Counts(NamedTuple):
 
 
 class Progress(NamedTuple):
-    """How far a run has come: the round, the rounds asked for after round 0, of this round's list the answered seeds and all of
-    them, and the answered seeds of the whole run."""
+    """How far a run has come: the round, how many rounds follow round 0, how many seeds of this round's list are answered, how
+    many it has, and how many seeds of the whole run are answered."""
 
     round: int
     rounds: int
@@ -131,7 +131,7 @@ def numbers(value: ArrayLike, shape: tuple[int | None, ...] | None, what: str) -
     value : array_like
         Real numbers; neither text, nor objects, nor truth values.
     shape : tuple or None
-        The lengths that it must have, with None for any; None where any shape will do.
+        The lengths that it must have, with None for any; None where any shape is right.
     what : str
         What it is, for the error.
 
@@ -175,7 +175,7 @@ def flags(value: ArrayLike, count: int) -> NDArray[np.uint8]:
 
 
 def rows_and_flags(rows: ArrayLike, in_front: ArrayLike | None) -> tuple[Floats, NDArray[np.uint8]]:
-    """The rows of an answer, flat, and a flag for each; all in front where nothing is said."""
+    """The rows of an answer, flat, and a flag for each; all points are in front where no flags are given."""
     array = np.asarray(rows)
     array = np.empty((0, 4)) if array.size == 0 and array.ndim == 1 else numbers(rows, (None, 4), "rows")
     front = np.ones(len(array), np.uint8) if in_front is None else flags(in_front, len(array))

@@ -22,7 +22,7 @@ class JinnychairError(Exception):
 
 
 class Refused(JinnychairError, ValueError):
-    """The library refuses a call. Nothing that was lent to it is changed, but for a replay's 29, 30 and 11.
+    """The library refuses a call. Nothing that was lent to it is changed, except after a replay's 29, 30 and 11.
 
     Attributes
     ----------
@@ -31,7 +31,7 @@ class Refused(JinnychairError, ValueError):
     name : str
         The number's name, as ``"TOO_FEW_VIEWS"``.
     line : int or None
-        The line of a journal that isn't taken, from 1.
+        The line of a journal that is refused, from 1.
     """
 
     def __init__(self, number: int, line: int | None = None) -> None:

@@ -53,10 +53,10 @@ def _view(board: Any, pixels: Any, name: str, source: object) -> View:
 def read_calibration_rs(path: str | os.PathLike[str]) -> Views:
     """Views from JSON as calibration-rs (and its users' programs) writes it with serde.
 
-    Read are a `PlanarDataset` (``{"views": [...]}``), a list of `View` (``{"obs": ..., "meta": ...}``) or of
+    It reads a `PlanarDataset` (``{"views": [...]}``), a list of `View` (``{"obs": ..., "meta": ...}``) or of
     `CorrespondenceView` (``{"points_3d": [[x, y, z], ...], "points_2d": [[u, v], ...]}``). A view's name is taken from
-    ``meta``, where that is a text or has a ``name``. ``cov_px`` weights dots, which this search doesn't do: views that
-    have it are refused rather than weighted otherwise.
+    ``meta``, where that is a text or has a ``name``. ``cov_px`` weights dots, which this search doesn't do, so views that
+    have it are refused.
 
     Raises
     ------
@@ -103,7 +103,7 @@ _VIEW_COLUMNS = ("view", "image", "file", "name")
 
 
 def read_csv(paths: Any) -> Views:
-    """Views from tables parted by commas, semicolons, tabs or spaces.
+    """Views from tables separated by commas, semicolons, tabs or spaces.
 
     Parameters
     ----------
@@ -193,7 +193,7 @@ def write_csv(views: Views, path: str | os.PathLike[str]) -> None:
 def read_opencv(path: str | os.PathLike[str]) -> Views:
     """Views from a FileStorage: yml, xml or json, packed (.gz) or not.
 
-    Read are what `write_opencv` writes; what OpenCV's sample program ``calibration`` writes (``image_points`` with
+    It reads what `write_opencv` writes; what OpenCV's sample program ``calibration`` writes (``image_points`` with
     ``grid_points``, or with ``board_width``, ``board_height`` and ``square_size``); and ``image_points`` with ``object_points``,
     each a matrix with two and three (or two) channels, or a list with one for each view.
 

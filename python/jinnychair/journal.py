@@ -1,7 +1,7 @@
 """The journal of a run: its lines, running it again, going on from it, its counts and the winners of its stretches.
 
 A journal has a line for each answered candidate, every number bit by bit. `JournalWriter` has each on the disk before the
-next seed is asked for, so that a search that is switched off goes on to the same end:
+next seed is handed out, so that a search that is switched off goes on to the same end:
 
     with JournalWriter.create("night.journal") as journal:
         winner = search.run(solve, lambda tried: journal.write(tried.line))
@@ -45,7 +45,7 @@ EndedBy = c.EndedBy
 
 
 class Replayed(NamedTuple):
-    """What a journal that is run again comes to.
+    """The result of running a journal again.
 
     Attributes
     ----------
@@ -117,7 +117,7 @@ def resume(inputs: Inputs, journal: bytes) -> Resumed:
 
 
 def write_report(counts: Counts) -> bytes:
-    """The line of a report: scored, skipped for each reason in their order, and the total, parted by commas.
+    """The line of a report: scored, skipped for each reason in their order, and the total, separated by commas.
 
     Raises
     ------

@@ -41,7 +41,7 @@ def mapped(matrix, points):
 
 
 def seen(board, tilts, noise, rng, held=HELD, camera=CAMERA):
-    """The pixels of the dots in each view, with Gaussian noise of so many px along each axis."""
+    """The pixels of the dots in each view, with Gaussian noise of this many px along each axis."""
     middle = (board.min(axis=0) + board.max(axis=0)) / 2
     return [mapped(to_pixels(h, middle, tilts, camera), board) + noise * rng.normal(size=board.shape) for h in held]
 

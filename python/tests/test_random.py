@@ -1,4 +1,4 @@
-"""10^5 random calls, in right and wrong orders, beside the reference model, and the journals of these runs run again."""
+"""10^5 random calls, in right and wrong orders, compared with the reference model, and the journals of these runs run again."""
 
 import math
 import random
@@ -14,7 +14,7 @@ CALLS = 100_000
 
 
 def bits(numbers):
-    """The bits of numbers; any NaN is any other."""
+    """The bits of numbers; any NaN equals any other."""
     return [struct.pack(">d", math.nan if math.isnan(x) else x) for x in numbers]
 
 

@@ -1,4 +1,4 @@
-"""Every stored answer of oracle/stored is the package's, bit by bit; oracle/PROTOCOL.md lays down words, operations and files."""
+"""Every stored answer of oracle/stored is the package's, bit by bit; oracle/PROTOCOL.md describes words, operations and files."""
 
 import unittest
 

@@ -1,4 +1,4 @@
-//! Whole lists of calls, in right and wrong orders, on the library and on the plain book.
+//! Whole lists of calls, in right and wrong orders, on the library and on the reference model.
 
 use crate::findings::Sent;
 use crate::inputs::{for_library, on_one_axis};
@@ -76,7 +76,7 @@ pub(crate) struct Pair {
     pub(crate) lent: Vec<f64>,
     /// Whether the host has written to the list.
     pub(crate) is_changed: bool,
-    /// All answers that were taken so far.
+    /// All answers that were accepted so far.
     pub(crate) answers: Vec<Sent>,
     /// Their lines.
     pub(crate) journal: Vec<u8>,
@@ -312,7 +312,7 @@ impl Pair {
         (handed_words(library), book)
     }
 
-    /// The errors of the rows are compared on their way, also of an answer that is refused.
+    /// The errors of the rows are compared as well, even where the answer is refused.
     fn answer(
         &mut self,
         lent: usize,

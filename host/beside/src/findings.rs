@@ -40,7 +40,7 @@ impl Sent {
         }
     }
 
-    /// For the book.
+    /// For the reference model.
     pub fn for_book(&self) -> (book::Finding, book::Rows<'_>) {
         match self {
             Self::Failed => (book::Finding::Failed, book::Rows { numbers: &[], flags: &[] }),
@@ -56,7 +56,7 @@ impl Sent {
         }
     }
 
-    /// What the mean of a solved camera rests on at these tilts, as the library and as the book count it: 0, the sum and the
+    /// What the mean of a solved camera rests on at these tilts, as the library and as the reference model count it: 0, the sum and the
     /// count, or a refusal's number.
     pub fn errors(&self, [tilt_x, tilt_y]: [f64; 2]) -> Option<[Vec<u64>; 2]> {
         let Finding::Solved { camera, rows } = self.finding() else { return None };

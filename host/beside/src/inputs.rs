@@ -1,11 +1,11 @@
-//! What Start is given, drawn, and as either side takes it.
+//! Drawn inputs of Start, in the form of each side.
 
 use book::Inputs;
 use jinnychair::record;
 use jinnychair::{FxFyCxCy, Inputs as SearchInputs, Options, Pt2, Seed};
 use random::Random;
 
-/// Inputs that Start mostly takes, of a run on one axis once in three.
+/// Inputs that Start mostly accepts; one in three is for a one-axis run.
 #[must_use]
 pub fn draw(random: &mut Random) -> Inputs {
     let inputs = draw_two_axes(random);
@@ -60,7 +60,7 @@ fn draw_two_axes(random: &mut Random) -> Inputs {
     }
 }
 
-/// The share of counted rows that is demanded, in per cent: the Rust's rule half of the time; rarely one that is refused.
+/// The share, in per cent: 0, the published Rust's rule, half of the time; rarely one that is refused.
 #[must_use]
 pub fn share(random: &mut Random) -> usize {
     if random.once_in(2) { 0 } else { random.below(102) }

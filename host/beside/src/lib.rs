@@ -1,5 +1,5 @@
-//! The proved library beside the plain book of 01: whole lists of calls in any order, with good and bad inputs, changed lists and
-//! records that no search can have made. Nothing here needs the published files.
+//! The proved library beside the reference model (`book`): whole lists of calls in any order, with good and bad inputs, changed lists
+//! and records that no search can have made. Nothing here needs the published files.
 
 pub mod calls;
 pub mod findings;

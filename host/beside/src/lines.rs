@@ -20,7 +20,7 @@ pub struct LineTally {
 /// What stands behind a line in a buffer.
 const UNTOUCHED: u8 = 0xa5;
 
-/// The bytes that the library writes to a buffer of so many; nothing for 28. The rest of the buffer must stay.
+/// The bytes that the library writes to a buffer of this length; nothing for 28. The rest of the buffer must stay.
 fn written(line: &Line, room: usize) -> Result<Option<Vec<u8>>, String> {
     let mut buffer = vec![UNTOUCHED; room];
     let reply = write_line(line, &mut buffer);
@@ -36,7 +36,7 @@ fn written(line: &Line, room: usize) -> Result<Option<Vec<u8>>, String> {
 ///
 /// # Errors
 ///
-/// The two sides have other lines, or write them otherwise.
+/// The two sides have different lines, or write them differently.
 pub fn add(run: &Run, book: &Book, journal: &mut Vec<u8>) -> Result<(), String> {
     let entry = book.entries().last().ok_or("no entry for an answer")?;
     let line = last_line(run).ok_or("no line for an answer")?;

@@ -1,4 +1,4 @@
-//! A run's record as words, from the library and as the book says that it must be.
+//! A run's record as words, from the library and as the reference model says that it must be.
 
 use book::{Book, Entry, Outcome, Seed as BookSeed, Winner as BookWinner};
 use jinnychair::record::{Best, Counts, FlatLine, Progress, Run};
@@ -31,12 +31,12 @@ pub fn of_counts(counts: &Counts) -> Vec<u64> {
     [scored, host_failed, bad_camera, no_mean, no_number].map(|count| count as u64).to_vec()
 }
 
-/// The same as the book counts them.
+/// The same as the reference model counts them.
 pub fn of_book_counts(counts: &book::Counts) -> Vec<u64> {
     counts.numbers().map(|count| count as u64).to_vec()
 }
 
-/// Every number of a line; zeros stand for what a skipped candidate hasn't.
+/// Every number of a line; with zeros for what a skipped candidate doesn't have.
 pub fn of_line(line: &FlatLine) -> Vec<u64> {
     let k = line.k;
     let mut words = vec![line.number as u64, line.round as u64];
@@ -46,7 +46,7 @@ pub fn of_line(line: &FlatLine) -> Vec<u64> {
     words
 }
 
-/// The same of an entry.
+/// The same for an entry.
 pub fn of_entry(entry: &Entry) -> Vec<u64> {
     let mut words = vec![entry.number as u64, entry.round as u64];
     words.extend(float_words(&entry.seed.numbers()));
@@ -73,7 +73,7 @@ pub fn of_candidate(c: &Winner) -> Vec<u64> {
     [vec![c.number as u64], float_words(&camera), float_words(&others)].concat()
 }
 
-/// A reply of the stop call, with zeros for what it hasn't.
+/// A reply of the stop call, with zeros for what it doesn't have.
 pub fn of_stopped(stopped: &Stopped) -> Vec<u64> {
     let best = stopped.best.as_ref();
     let best = best.map_or(vec![0; 15], |best| [vec![1], of_candidate(best)].concat());
@@ -81,7 +81,7 @@ pub fn of_stopped(stopped: &Stopped) -> Vec<u64> {
     [&best[..], &floor, &[stopped.no_gain.into()]].concat()
 }
 
-/// The record that a run with this book must have.
+/// The record that a run with this model must have.
 pub fn of_book(book: &Book) -> Vec<u64> {
     let inputs = book.inputs();
     let mut words = vec![inputs.rounds as u64, inputs.one_axis.into(), inputs.min_counted as u64];
@@ -105,14 +105,14 @@ fn of_winner(winner: Option<BookWinner>) -> Vec<u64> {
     winner.map_or(vec![0; 15], |winner| [vec![1], of_book_candidate(&winner)].concat())
 }
 
-/// Every number of a candidate that the book has scored.
+/// Every number of a candidate that the reference model has scored.
 pub fn of_book_candidate(w: &BookWinner) -> Vec<u64> {
     let (c, s) = (w.scored.camera, w.scored);
     let numbers = [&c.k[..], &c.radial, &c.tangential, &w.tilts, &[s.mean, s.score]].concat();
     [vec![w.number as u64], float_words(&numbers)].concat()
 }
 
-/// The book's reply when it is stopped.
+/// The reference model's reply when it is stopped.
 pub fn of_book_stopped(stopped: &book::Stopped) -> Vec<u64> {
     let floor = stopped.floor.map_or([0; 2], |floor| [1, word(floor)]);
     [&of_winner(stopped.best)[..], &floor, &[stopped.no_gain.into()]].concat()
@@ -123,7 +123,7 @@ pub fn of_progress(p: Progress) -> Vec<u64> {
     [p.round, p.rounds, p.answered, p.total, p.answered_in_run].map(|number| number as u64).to_vec()
 }
 
-/// The same as the book counts them.
+/// The same as the reference model counts them.
 pub fn of_book_progress(p: book::Progress) -> Vec<u64> {
     [p.round, p.rounds, p.answered, p.total, p.answered_in_run].map(|number| number as u64).to_vec()
 }

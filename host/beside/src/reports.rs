@@ -1,4 +1,4 @@
-//! The morning report on both sides: of runs, of their journals, and of any five numbers.
+//! The report on both sides: of runs, of their journals, and of any five numbers.
 
 use crate::calls::differ;
 use crate::record_words::{of_book_counts, of_counts};
@@ -11,7 +11,7 @@ use random::Random;
 /// What stands behind a report in a buffer.
 const UNTOUCHED: u8 = 0xa5;
 
-/// The bytes that the library writes to a buffer of so many; nothing for 28. The rest of the buffer must stay.
+/// The bytes that the library writes to a buffer of this length; nothing for 28. The rest of the buffer must stay.
 fn written(counts: &Counts, room: usize) -> Result<Option<Vec<u8>>, String> {
     let mut buffer = vec![UNTOUCHED; room];
     let reply = write_report(counts, &mut buffer);
@@ -23,7 +23,7 @@ fn written(counts: &Counts, room: usize) -> Result<Option<Vec<u8>>, String> {
     Ok(reply.is_ok().then_some(buffer))
 }
 
-/// The report of a run is the book's, and its counts are those of the journal's lines.
+/// The report of a run is the reference model's, and its counts are those of the journal's lines.
 ///
 /// # Errors
 ///

@@ -1,4 +1,4 @@
-//! How many candidates had which outcome, and the morning report (02, E6).
+//! How many candidates had which outcome, and the report (docs/SPECIFICATION.md, 6.10 and 8.5).
 
 use crate::{Book, Entry, Outcome};
 

@@ -1,4 +1,4 @@
-//! The journal (02, E2): a line for each answered candidate, its writer and its reader.
+//! The journal (docs/SPECIFICATION.md, 8.1 to 8.3): a line for each answered candidate, its writer and its reader.
 
 use crate::{Camera, Entry, Outcome, Scored, Seed};
 

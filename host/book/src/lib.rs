@@ -1,6 +1,6 @@
-//! The search as a plain book, written from 01 and 02 alone: vectors, no lent memory but the list,
-//! and every best looked up among the entries. It is slow and easy to check, and the differential
-//! runs hold the proved library to it, calls in wrong orders and changed lists included.
+//! The reference model (docs/SPECIFICATION.md, chapter 7), written from the rules alone: vectors, no lent memory but the list, and
+//! every best looked up among the entries. It is slow and easy to check. The proved library is compared with it call by call, with
+//! calls in wrong orders and changed lists as well.
 
 mod counts;
 mod journal;

@@ -22,7 +22,7 @@ pub enum Finding {
     Solved(Camera),
 }
 
-/// The rows beside a finding: x, y, u, v each, and a flag each.
+/// The rows that come with a finding: x, y, u, v and a flag for each.
 #[derive(Clone, Copy, Debug)]
 pub struct Rows<'a> {
     /// Four numbers a row: the ideal point, then the seen pixel.

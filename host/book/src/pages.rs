@@ -103,7 +103,7 @@ pub(crate) fn best<'a>(entries: impl Iterator<Item = &'a Entry>) -> Option<Winne
 }
 
 impl Book {
-    /// Opens the book and writes round 0's list to the front of the lent list.
+    /// Opens the model and writes round 0's list to the front of the lent list.
     ///
     /// # Errors
     ///
@@ -226,7 +226,7 @@ impl Book {
         Ok(Stopped { best, floor, no_gain })
     }
 
-    /// How far the run has come. The total of a later round is the book's own count.
+    /// How far the run has come. The total of a later round is the model's own count.
     pub fn progress(&self) -> Progress {
         let (round, rounds, answered) = (self.round, self.inputs.rounds, self.position());
         let total = match self.centre() {

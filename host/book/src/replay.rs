@@ -1,4 +1,4 @@
-//! A journal run again (02, E5).
+//! Running a journal again (docs/SPECIFICATION.md, 8.6).
 
 use crate::{Book, Entry, Inputs, Outcome, Reading, Seed, read_line};
 

@@ -1,4 +1,4 @@
-//! Going on after a power loss (02, E13).
+//! Going on from a journal (docs/SPECIFICATION.md, 8.9).
 
 use crate::{Book, Inputs, Reading, read_line};
 

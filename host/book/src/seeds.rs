@@ -157,8 +157,8 @@ impl Inputs {
         list
     }
 
-    /// How many seeds the list of the given round, at least 1, has, counted without the list where 02 says how: with a
-    /// step from 1e-11 to 1 the admissible tilts about x times those about y, else by the merging rule.
+    /// How many seeds the list of the given round, at least 1, has, counted without the list where docs/SPECIFICATION.md, 4.9,
+    /// gives a product: with a step from 1e-11 to 1 the admissible tilts about x times those about y, else by the merging rule.
     pub(crate) fn next_len(&self, round: usize, k: [f64; 4], around: [f64; 2]) -> usize {
         if !(1e-11..=1.0).contains(&self.step(round)) {
             return self.next_list(round, k, around).len();

@@ -1,4 +1,4 @@
-//! Winners of stretches (02, E14).
+//! Winners of stretches (docs/SPECIFICATION.md, 10.1).
 
 use crate::pages::best;
 use crate::{Entry, Winner};

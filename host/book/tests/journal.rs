@@ -1,4 +1,4 @@
-//! The journal's lines by 02's words: what is written, what is read back, and what isn't a line.
+//! The journal's lines by docs/SPECIFICATION.md, chapter 8: what is written, what is read back, and what isn't a line.
 #![allow(missing_docs)]
 
 use book::{Camera, Entry, Outcome, Reading, Scored, Seed, read_line, write_line};

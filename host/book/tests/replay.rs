@@ -1,4 +1,4 @@
-//! A journal run again, by 02's words: what is taken, what is 29 and what is 30.
+//! Running a journal again, by docs/SPECIFICATION.md, 8.6: what is accepted, what is 29 and what is 30.
 #![allow(missing_docs)]
 
 mod common;

@@ -1,4 +1,4 @@
-//! Going on after a power loss, by 02's words.
+//! Going on from a journal, by docs/SPECIFICATION.md, 8.9.
 #![allow(missing_docs)]
 
 mod common;

@@ -1,4 +1,4 @@
-//! Winners of stretches, by 02's words.
+//! Winners of stretches, by docs/SPECIFICATION.md, 10.1.
 #![allow(missing_docs)]
 
 mod common;

@@ -1,4 +1,4 @@
-//! 01's own values, and runs of a few calls that can be followed by hand.
+//! Values that were worked out by hand, and runs of a few calls that can be followed by hand.
 #![allow(missing_docs)]
 
 use book::{

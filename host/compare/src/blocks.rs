@@ -1,5 +1,5 @@
 //! Rows whose errors are zeros, subnormal, at the ends of the numbers, infinite, NaN, or next to whole numbers, in each place of a block, and
-//! random ones: the library's blocks beside the plain loop.
+//! random ones: the library's blocks compared with the plain loop.
 
 use crate::plain::plain_c;
 use jinnychair::{BrownConrady5, FxFyCxCy, PinholeCamera, Rows, TiltTrig, geometry};

@@ -5,7 +5,7 @@ use std::sync::atomic::{AtomicUsize, Ordering};
 use std::thread;
 use std::time::{Duration, Instant};
 
-/// How often is said how far it has come.
+/// How often progress is shown.
 const PAUSE: Duration = Duration::from_secs(15);
 
 /// Says on stderr how far it has come, from time to time.

@@ -23,7 +23,7 @@ pub struct Tally {
 ///
 /// # Errors
 ///
-/// Says what a call did that it mustn't.
+/// Says what a call did that it must not do.
 pub fn compare(random: &mut Random, tally: &mut Tally) -> Result<(), String> {
     let inputs = draw(random);
     let mut list = vec![0.25; inputs.demand().min(100_000)];

@@ -1,4 +1,4 @@
-//! The journal's line and the report's in plain Rust, as one would write them: the benchmark sets the library beside them.
+//! The journal's line and the report's in plain Rust, as one would write them. The benchmark compares the library with them.
 
 use jinnychair::journal::{Line, Recorded, ScoredFields};
 use jinnychair::{FxFyCxCy, ScheimpflugParams, Seed, SkipReason};

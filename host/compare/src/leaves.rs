@@ -1,4 +1,4 @@
-//! Leaf operations on hostile numbers: the library beside 01's formulas in plain C (`leaves.c`).
+//! Leaf operations on hostile numbers: the library beside the specification's formulas in plain C (`leaves.c`).
 
 use crate::plain::{
     leaf_apply_homography, leaf_apply_homography_inverse, leaf_centre, leaf_centre_penalty,

@@ -1,6 +1,6 @@
 //! The proved library beside the oracle, which is the published Rust text, for each operation and for searches in order, and beside
 //! the plain loop in C, for the rows that the library takes in blocks; and the benchmark. The crate `stored` has the library's answers in the oracle's
-//! words, the crate `beside` the lists of calls that it and the plain book are given.
+//! words, the crate `beside` the lists of calls that it and the reference model are given.
 
 pub mod bench;
 pub mod blocks;

@@ -1,4 +1,4 @@
-//! Compares the library with the oracle, with the book and, for rows in blocks, with the plain loop, and prints what was compared and every difference with its input.
+//! Compares the library with the oracle, with the reference model and, for rows in blocks, with the plain loop, and prints what was compared and every difference with its input.
 //!
 //!     compare [LEAF CASES] [SEARCHES] [SEED]
 

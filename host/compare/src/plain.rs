@@ -1,4 +1,4 @@
-//! 01's formulas in plain C with the machine's root (`plain.c`, `leaves.c`), safe to call. A reply of a whole number is the refusal's, or 0.
+//! The specification's formulas in plain C with the machine's root (`plain.c`, `leaves.c`), safe to call. A reply of a whole number is the refusal's, or 0.
 
 use jinnychair::geometry::{Conic, DistortedPoint, Matrix3};
 use jinnychair::{BrownConrady5, FxFyCxCy, Pt2, TiltTrig};

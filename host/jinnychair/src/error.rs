@@ -1,5 +1,5 @@
-//! Why an operation refuses. Each enum names one operation's refusals; `number` gives the number that the C boundary and the documents
-//! have for it, and `Display` says the cause and what to do.
+//! Why an operation refuses. Each enum has one operation's refusals; `number` gives the number that the C boundary and the documents
+//! have for each, and `Display` says the cause and what to do.
 
 use std::error::Error;
 use std::fmt::{Display, Formatter, Result as FmtResult};
@@ -53,8 +53,8 @@ macro_rules! part {
 }
 pub(crate) use part;
 
-/// Declares an enum of numbers, whose texts are those of the macro named before it. Where two operations have other words for one
-/// number, the word after `of` says which they are.
+/// Declares an enum of numbers, whose texts are those of the macro named before it. Where two operations have
+/// different texts for one number, the word after `of` says which they are.
 macro_rules! numbered {
     ($texts:ident $(#[$doc:meta])* $name:ident { $($variant:ident = $number:tt $(of $which:ident)?;)+ }) => {
         $(#[$doc])*
@@ -154,7 +154,7 @@ refusals! {
 }
 
 refusals! {
-    /// Why an answer isn't taken. The seed goes on waiting.
+    /// Why an answer is refused. The seed goes on waiting.
     AnswerError {
         NoSeedWaiting = 12;
         ListShortened = 10;
@@ -193,7 +193,7 @@ refusals! {
 }
 
 refusals! {
-    /// Why a line of a journal isn't taken.
+    /// Why a line of a journal is refused.
     LineRefusal {
         NotALine = 29;
         NotTheRun = 30;
@@ -217,7 +217,7 @@ refusals! {
 }
 
 refusals! {
-    /// Why errors aren't counted: as an answer isn't taken.
+    /// Why errors aren't counted: an answer would be refused for the same reason.
     CountError {
         BadRows = 13;
         TiltTooLarge = 27;
@@ -322,7 +322,7 @@ impl From<StartError> for ReplayError {
 pub enum RunError {
     /// No seed is handed out.
     Next(NextError),
-    /// The solution isn't taken, and its seed goes on waiting.
+    /// The solution is refused, and its seed goes on waiting.
     Answer(AnswerError),
     /// There is no result.
     Result(ResultError),

@@ -1,4 +1,4 @@
-//! The operations beside the search: root, camera, tilt, distortion, lists of points, and the parts of a score.
+//! The operations that a host needs besides the search: root, camera, tilt, distortion, lists of points, and the parts of a score.
 //!
 //! Where a list is written, it goes to the front of the destination, and the rest of the destination is unchanged; after a
 //! refusal all of it is.
@@ -96,7 +96,7 @@ pub fn sine(x: f64) -> Result<f64, TrigError> {
     TrigError::check(reply.number).map(|()| reply.value)
 }
 
-/// The cosine, likewise.
+/// The cosine of a number of at most 0.5 in size, by a series of its own.
 ///
 /// # Errors
 ///
@@ -192,7 +192,7 @@ impl BrownConrady5 {
 
     /// The point that is distorted to this one, by Newton's method with at most `iters` steps; 0 means 20.
     ///
-    /// Numbers that aren't a lens's may need all of them, so that a call with `iters` near 2³² can take long.
+    /// With numbers that no lens has, all of them may be needed, so a call with `iters` near 2³² can take long.
     /// [`BrownConrady5::undistorted`] takes 20 at most.
     #[inline]
     #[must_use]
@@ -260,7 +260,7 @@ pub struct ErrorCount {
 ///
 /// # Errors
 ///
-/// As an answer with these rows to a seed with these tilts is refused.
+/// An answer with these rows, to a seed with these tilts, would be refused for the same reason.
 pub fn count_errors(
     solved: PinholeCamera,
     sensor: ScheimpflugParams,
@@ -321,9 +321,9 @@ pub fn normalize_points_2d(
     Ok(Normalization { scale: reply.t00, offset_x: reply.t02, offset_y: reply.t12 })
 }
 
-/// Whether all points lie on a line, as nearly as the test sees. The line goes through the first point and the next one that is
-/// farther than 1e-9 from it; a point is beside it where its cross product with these two is above 1e-6 in size. Points all in one
-/// place lie on a line, fewer than three don't.
+/// Whether all points lie on a line. The line goes through the first point and the next one that is farther than 1e-9 from it; a
+/// point is off the line where its cross product with these two is above 1e-6 in size. Points all in one place lie on a line;
+/// fewer than three points don't.
 ///
 /// ```
 /// use jinnychair::{Pt2, geometry::points_are_collinear};

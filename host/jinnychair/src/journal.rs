@@ -1,13 +1,13 @@
-//! The journal of a run: a line for each answered candidate, with every number bit by bit, and beside it a file with what Start
-//! was given.
+//! The journal of a run: a line for each answered candidate, with the bits of every number, and beside it a file with the
+//! inputs of Start.
 //!
-//! [`Line`], [`write_line`] and [`lines`] are the lines themselves. [`JournalWriter`] writes them to a file as a search goes on, each
-//! one on the disk before the next seed is asked for; [`StoredInputs`] is the file beside it. After a power loss
+//! [`Line`], [`write_line`] and [`lines`] are the lines themselves. [`JournalWriter`] writes them to a file as a search goes on: each
+//! line is on the disk before the next seed is handed out. [`StoredInputs`] is the file beside it. After a power loss
 //! [`JournalWriter::resume`] goes on with the search from both.
 //!
-//! A journal and its inputs tell of a run without its host: [`replay`] gives the winner, or says which line isn't the run's, and
-//! [`what_differs`] why; [`crate::Counts::of`] and [`write_report`] make the morning report; [`stretch_winner`] and [`round_winners`]
-//! give the winners of its parts.
+//! A journal and its inputs are enough to examine a run without its host. [`replay`] gives the winner, or the line that isn't the
+//! run's, and [`what_differs`] says why it isn't. [`crate::Counts::of`] and [`write_report`] make the report. [`stretch_winner`] and
+//! [`round_winners`] give the winners of its parts.
 //!
 //! ```
 //! use jinnychair::{journal, *};

@@ -35,7 +35,7 @@ mod tests {
         numbers.any(|n| f64::from(n * unit) == x)
     }
 
-    /// Whether 02 gives this camera six numbers.
+    /// Whether there are six numbers for this camera.
     fn has_plate(k: FxFyCxCy) -> bool {
         (0..=8).map(|power| 1 << power).any(|unit| {
             [k.fx, k.fy].iter().all(|&x| times(x, unit, 1..=256))

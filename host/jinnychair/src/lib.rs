@@ -1,12 +1,12 @@
 //! The proved sensor-tilt search, as safe Rust over its static library (x86-64 Linux).
 //!
-//! [`Search`] runs a search one seed at a time: the host solves for a camera at each tilt that it is handed, and the search
-//! scores, compares and refines. [`geometry`] has the operations that a host needs beside it. [`journal`] keeps every answer in a
+//! [`Search`] runs a search one seed at a time: the host solves for a camera at each tilt that it is given, and the search
+//! scores, compares and refines. [`geometry`] has the operations that a host needs besides it. [`journal`] keeps every answer in a
 //! file, from which a search goes on after a power loss, and by which it can be run again without its host. [`record`] has the same
 //! search for a host that keeps the run's record itself.
 //!
 //! What these functions compute is proved: each equals a definition that is written down in the repository's `specs/`
-//! folders, for all inputs. What stands in this crate is not proved: it passes numbers on, and names them.
+//! folders, for all inputs. The code of this crate is not proved: it passes numbers on, and names them.
 //!
 //! ```
 //! use jinnychair::*;
@@ -34,13 +34,13 @@
 //!
 //! [`Search::run_watched`] also shows each tried seed, with how far the search has come, and [`Search::run_until`] can be stopped
 //! between two answers. [`Search::next`], [`Search::answer`], [`Search::progress`] and [`Search::stop`] are for a host with a
-//! loop of its own. [`Search::counts`] is for the morning report, [`winner`] for who looks at a run in stretches. Angles are in
+//! loop of its own. [`Search::counts`] is for the report, and [`winner`] for looking at a run in stretches. Angles are in
 //! radians, pixels and focal lengths in pixels.
 //!
 //! # What is assumed of the machine
 //!
-//! Rounding to nearest, and subnormal numbers kept, as Rust and C start every thread with. Where a program has changed the
-//! processor's rounding mode or asked it to flush subnormals to zero, results have other bits.
+//! The processor rounds to nearest and keeps subnormal numbers, which is how Rust and C start every thread. Where a program has
+//! changed the rounding mode, or has subnormals flushed to zero, results have different bits.
 //!
 //! Every call is a function of its arguments alone: threads need no lock, and a [`Search`] may move between them.
 
@@ -51,8 +51,8 @@ mod error;
 pub mod geometry;
 pub mod journal;
 mod known_plate;
-// Not for users: its few public functions are for tests, which give the library what the functions above can't say, such as an odd
-// number of coordinates.
+// Not for users: its few public functions are for tests, which give the library inputs that the functions above can't express,
+// such as an odd number of coordinates.
 #[doc(hidden)]
 pub mod raw;
 pub mod record;

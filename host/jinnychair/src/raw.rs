@@ -447,7 +447,7 @@ pub fn answer(
     }
 }
 
-/// What is passed beside Failed; it isn't read.
+/// What is passed with Failed; it isn't read.
 pub(crate) const NOT_SOLVED: PinholeCamera = PinholeCamera {
     k: FxFyCxCy { fx: 0.0, fy: 0.0, cx: 0.0, cy: 0.0 },
     dist: BrownConrady5 { k1: 0.0, k2: 0.0, k3: 0.0, p1: 0.0, p2: 0.0 },

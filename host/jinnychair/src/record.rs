@@ -1,7 +1,7 @@
 //! The search over a record that the caller keeps: each call takes the record and the seed list, and gives the record back.
 //!
 //! Any record and any list are answered: a record that no search can have made is answered as a run that ended with nothing
-//! scored. But the theorem about whole runs speaks of a record and a list that are handed on as the calls before left them.
+//! scored. But the theorem about whole runs speaks of a record and a list that are passed on as the calls before left them.
 //! [`crate::Search`] keeps both where nothing else reaches them.
 
 use crate::journal::{EndedBy, KeptLines, Line, Replayed};
@@ -10,7 +10,7 @@ use crate::{
     Rows, Seed, SkipReason, StartError, StopError, Stopped, Winner, check_version, raw,
 };
 
-/// The numbers of a search's options; the tilts of its grid stand beside them.
+/// The numbers of a search's options. The tilts of its grid are passed separately.
 #[derive(Clone, Copy, Debug, PartialEq)]
 #[repr(C)]
 pub struct Options {
@@ -76,7 +76,7 @@ pub struct FlatLine {
     pub round: usize,
     /// Its seed.
     pub seed: Seed,
-    /// 0 where it was scored, else the reason; the numbers below are then 0.
+    /// 0 where it was scored; otherwise the reason, and the numbers below are 0.
     pub skipped: u8,
     /// Its score.
     pub score: f64,
@@ -120,7 +120,7 @@ pub struct Counts {
 #[derive(Clone, Copy, Debug, PartialEq)]
 #[repr(C)]
 pub struct Run {
-    /// What was asked for.
+    /// The options.
     pub options: Options,
     /// The observed centre.
     pub center: Pt2,
@@ -224,7 +224,7 @@ pub fn seed(run: &Run, list: &[f64]) -> Option<[f64; 6]> {
 ///
 /// # Errors
 ///
-/// The answer isn't taken; the run and the list are as they were.
+/// The answer is refused; the run and the list are as they were.
 pub fn answer(run: &mut Run, finding: &Finding, list: &mut [f64]) -> Result<Outcome, AnswerError> {
     let (is_solved, solved, rows) = match *finding {
         Finding::Failed => (0, raw::NOT_SOLVED, Rows { numbers: &[], flags: &[] }),
@@ -283,11 +283,11 @@ pub fn counts(run: &Run) -> Counts {
     raw::jc_counts(*run)
 }
 
-/// Runs a journal again: its lines stand for the host's answers.
+/// Runs a journal again: its lines take the place of the host's answers.
 ///
 /// # Errors
 ///
-/// The inputs are refused, and the list is as it was; or a line isn't taken, and the list is as the lines before left it.
+/// The inputs are refused, and the list is as it was; or a line is refused, and the list is as the lines before left it.
 ///
 /// # Panics
 ///
@@ -306,7 +306,7 @@ pub fn replay(inputs: &Inputs, journal: &[u8], list: &mut [f64]) -> Result<Repla
     }
 }
 
-/// Goes on with the run of a journal that may be cut off: gives the run as the longest front of lines that [`replay`] takes leaves
+/// Goes on with the run of a journal that may be cut off: gives the run as the longest front of lines that [`replay`] accepts leaves
 /// it, with no seed waiting, and says what was kept and what was dropped. The list is then that run's.
 ///
 /// # Errors

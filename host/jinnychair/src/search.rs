@@ -61,7 +61,7 @@ impl Default for Options {
 }
 
 impl Options {
-    /// Those beside the tilts of the grid.
+    /// The options' numbers, without the tilts of the grid.
     fn numbers(&self) -> record::Options {
         record::Options {
             refine_rounds: self.refine_rounds,
@@ -89,7 +89,7 @@ pub struct Inputs<'a> {
 }
 
 impl Inputs<'_> {
-    /// Lends them to a call, with a list of the length that it demands, and gives the list back beside the reply.
+    /// Lends them to a call, with a list of the length that the call needs, and returns the list with the reply.
     pub(crate) fn lent<T>(
         &self,
         call: impl FnOnce(&record::Inputs, &mut [f64]) -> T,
@@ -98,7 +98,7 @@ impl Inputs<'_> {
         let decomposition: Vec<f64> =
             self.decomposition.iter().flat_map(|seed| seed.numbers()).collect();
         let (xs, ys) = (options.tilt_x_seeds.len(), options.tilt_y_seeds.len());
-        // Lists that are too long for a grid are refused whatever room there is.
+        // Lists that are too long for a grid are refused, however long the lent list is.
         let room = 54.max(6 * (self.decomposition.len() + xs.saturating_mul(ys).min(256)));
         let mut list = vec![0.0; room];
         let inputs = record::Inputs {
@@ -128,7 +128,7 @@ pub struct Rows<'a> {
 pub enum Finding<'a> {
     /// No camera.
     Failed,
-    /// A camera and the rows to score it by. The search knows the seed's tilts, and takes their sines and cosines itself.
+    /// A camera and the rows to score it by. The search knows the seed's tilts, and works out their sines and cosines itself.
     Solved {
         /// The solved camera.
         camera: PinholeCamera,
@@ -224,7 +224,7 @@ pub enum Handed {
     Over,
 }
 
-/// A tried seed, as it is shown to who watches a search.
+/// A tried seed, as [`Search::run_watched`] shows it.
 #[derive(Clone, Copy, Debug, PartialEq)]
 #[non_exhaustive]
 pub struct Tried<'a> {
@@ -244,7 +244,7 @@ pub struct Tried<'a> {
     pub line: Line,
 }
 
-/// How a search stands when it is stopped between two answers. It speaks of the current round: later rounds can score below
+/// How a search stands when it is stopped between two answers. It covers the current round alone: later rounds can score below
 /// the floor.
 #[derive(Clone, Copy, Debug, PartialEq)]
 pub struct Stopped {
@@ -253,7 +253,7 @@ pub struct Stopped {
     /// No candidate from the seeds that the round has left can score below this, whichever camera the host finds: the lowest
     /// tilt penalty among them. Nothing where no seed is left, which is once the search is over.
     pub floor: Option<f64>,
-    /// Whether there is a best whose score the floor isn't below: then the round can gain nothing.
+    /// Whether there is a best, and the floor isn't below its score: then the round can gain nothing.
     pub no_gain: bool,
 }
 
@@ -270,9 +270,9 @@ pub enum Ended {
 /// A search that is under way.
 ///
 /// It owns its record and its seed list, and only its own calls change them. So each call gets both as the calls before
-/// left them, which is the condition of the theorem about whole runs: the replies are those of the plain book that the project's
-/// scope document lays down, every seed that its rules name was handed out, every typed tilt within the bound was tried, and the
-/// winner has the lowest score, the earliest of equal ones.
+/// left them, which is the condition of the theorem about whole runs: the replies are those of the reference
+/// model (docs/SPECIFICATION.md, chapter 7), every seed that the rules name was handed out, every typed tilt within the bound was
+/// tried, and the winner has the lowest score, the earliest of equal ones.
 #[derive(Clone, Debug)]
 #[must_use = "a search tries nothing before it is run"]
 pub struct Search {
@@ -300,11 +300,11 @@ impl Search {
         Self { run, list }
     }
 
-    /// Runs the search to its end: `solve` is asked for a solution at each seed, or for nothing where it finds none.
+    /// Runs the search to its end: `solve` gives a solution for each seed, or nothing where it finds none.
     ///
     /// # Errors
     ///
-    /// Nothing was scored, or a solution isn't taken. Its seed then goes on waiting, and another `run` begins with it.
+    /// Nothing was scored, or a solution is refused. Its seed then goes on waiting, and another `run` begins with it.
     pub fn run(
         &mut self,
         solve: impl FnMut(&Seed) -> Option<Solution>,
@@ -312,7 +312,7 @@ impl Search {
         self.run_watched(solve, |_| ())
     }
 
-    /// As [`Search::run`]; `watch` is shown each tried seed.
+    /// As [`Search::run`]; `watch` gets each tried seed.
     ///
     /// # Errors
     ///
@@ -408,7 +408,7 @@ impl Search {
     ///
     /// # Errors
     ///
-    /// The finding isn't taken, and the seed goes on waiting.
+    /// The finding is refused, and the seed goes on waiting.
     pub fn answer(&mut self, finding: &Finding) -> Result<Outcome, AnswerError> {
         record::answer(&mut self.run, finding, &mut self.list)
     }
@@ -428,7 +428,7 @@ impl Search {
         record::result(&self.run)
     }
 
-    /// The current round; the one after the last seed's once the round has ended.
+    /// The current round; once a round has ended, the next one.
     #[must_use]
     pub fn round(&self) -> usize {
         self.run.place.round

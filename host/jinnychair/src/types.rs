@@ -53,7 +53,7 @@ pub struct ScheimpflugParams {
     pub tilt_y: f64,
 }
 
-/// Sine and cosine of both tilts, for [`crate::geometry`]. Those of the proved series come from tilts by `TiltTrig::try_from`.
+/// Sine and cosine of both tilts, for [`crate::geometry`]. `TiltTrig::try_from` works them out by the proved series.
 #[derive(Clone, Copy, Debug, PartialEq)]
 #[repr(C)]
 pub struct TiltTrig {

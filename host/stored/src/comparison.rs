@@ -91,7 +91,7 @@ impl Said {
 #[must_use]
 pub fn compare(path: &Path) -> Said {
     match std::fs::read(path) {
-        // A byte that is no text is no digit either, and is told as its line's damage.
+        // A byte that is no text is no digit either, and is reported as its line's damage.
         Ok(bytes) => compare_text(&String::from_utf8_lossy(&bytes)),
         Err(_) => Said::Absent,
     }

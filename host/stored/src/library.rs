@@ -18,7 +18,7 @@ type Words = Vec<u64>;
 pub enum Fault {
     /// It hasn't the operation's form.
     Malformed(String),
-    /// The library does what 01 forbids and no word of an answer would show: to lent memory, or between calls.
+    /// The library does what docs/SPECIFICATION.md, 12.1, excludes and no word of an answer would show: to lent memory, or between calls.
     Wrong(String),
 }
 
@@ -56,7 +56,7 @@ impl Operation {
     ///
     /// # Errors
     ///
-    /// The input has another form, or the library does what 01 forbids.
+    /// The input has another form, or the library does what docs/SPECIFICATION.md, 12.1, excludes.
     pub fn answer(self, input: &[u64]) -> Answer {
         let mut reader = Reader::new(input);
         let words = self.0(&mut reader)?;

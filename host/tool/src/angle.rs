@@ -23,7 +23,7 @@ pub fn parse(text: &str) -> Result<f64, String> {
     }
 }
 
-/// Angles parted by commas.
+/// Angles separated by commas.
 ///
 /// # Errors
 ///
@@ -32,7 +32,7 @@ pub fn parse_list(text: &str) -> Result<Vec<f64>, String> {
     text.split(',').map(parse).collect()
 }
 
-/// Degrees of radians, without a unit: as many digits as tell neighbours of the last step apart.
+/// Degrees of radians, without a unit: as many digits as distinguish neighbours of the last step.
 #[must_use]
 pub fn degrees(radians: f64) -> String {
     let degrees = radians.to_degrees();

@@ -6,7 +6,7 @@ use crate::views::{Plate, View};
 use jinnychair::geometry::apply_homography;
 use jinnychair::{ScheimpflugParams, Seed};
 
-/// So many times the usual error of the views' own maps, and more than so many pixels, isn't noise.
+/// An error of more than this many times the usual one of the views' own maps, and of more than this many pixels, isn't noise.
 const FAR: f64 = 20.0;
 const LEAST: f64 = 1.0;
 

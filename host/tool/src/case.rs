@@ -69,7 +69,7 @@ pub fn this_host() -> HostVersion {
     HostVersion { name: solve::NAME.into(), version: solve::VERSION.into() }
 }
 
-/// Holds the stated centre, or else the file's, and gives the file's where it is another.
+/// Holds the stated centre, or otherwise the file's, and gives the file's where the two differ.
 fn hold_centre(plate: &mut Plate, stated: Option<[f64; 2]>) -> Option<[f64; 2]> {
     let of_file = plate.centre;
     plate.centre = stated.or(of_file);
@@ -370,7 +370,7 @@ impl Case {
         Ok(Judged { fit, lean: Some(lean), open, outliers: Some(outliers), next, against })
     }
 
-    /// All that speaks against a result, in the order in which it is told.
+    /// All that speaks against a result, in the order in which it is shown.
     fn against(
         &self,
         finished: &Finished,

@@ -1,6 +1,6 @@
 //! A search as a picture, in SVG: every tried tilt, two enlarged parts around the winner, the score along lines through
 //! it, and what was asked and found, so that the sheet can be filed. A search on one axis is drawn as the score over tilt
-//! x. Each mark tells more when it is pointed at.
+//! x. Each mark shows more when it is pointed at.
 
 mod legend;
 mod one_axis;
@@ -204,7 +204,7 @@ fn notes(svg: &mut Svg, record: &Record, plots: f64) -> f64 {
     y
 }
 
-/// Lines of at most so many letters, parted at spaces where there are any.
+/// Lines of at most this many letters, split at spaces where there are any.
 fn wrapped(text: &str, most: usize) -> Vec<String> {
     let mut lines = vec![String::new()];
     for word in text.split(' ') {

@@ -330,7 +330,7 @@ fn above_0(value: f64) -> Result<f64, String> {
     if value > 0.0 { Ok(value) } else { Err("it isn't above 0".into()) }
 }
 
-/// The library's own limit, told before anything is planned.
+/// The library's own limit, checked before anything is planned.
 fn bound(text: &str) -> Result<f64, String> {
     let bound = above_0(angle::parse(text)?)?;
     if bound <= MAX_BOUND {

@@ -29,7 +29,7 @@ impl Comparison {
 }
 
 /// The lines of an inputs file that say what was searched. Neither the version nor the date nor the views' name does, nor
-/// what is told about them.
+/// what is said about them.
 const NAMES: &[&str] = &[
     "views-sha256",
     "views",
@@ -56,7 +56,7 @@ const NAMES: &[&str] = &[
     "note choice",
 ];
 
-/// Compares what two searches started from. Versions are told, but of the same search they needn't differ in anything.
+/// Compares what two searches started from. Versions are shown, but with different versions the same search needn't differ in anything.
 pub fn inputs(a: &StoredInputs, b: &StoredInputs, found: &mut Comparison) {
     if a.library != b.library {
         found.say("versions", &format!("{} and {}", a.library, b.library));

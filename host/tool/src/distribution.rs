@@ -4,7 +4,7 @@
 /// What a bound covers: two standard deviations of a normal number.
 pub const COVERED: f64 = 0.9545;
 
-/// Beyond so many terms a continued fraction isn't followed: those of a million dots need a few thousand.
+/// A continued fraction isn't followed beyond this many terms: those of a million dots need a few thousand.
 const MOST_TERMS: u32 = 100_000;
 
 /// The chance of a number above f, where chance alone divides the mean squares of `of` and `to` degrees of freedom.

@@ -89,7 +89,7 @@ const FOREIGN: &[(&[u8], &str, &str)] = &[
     (b"\xfe\xff", "text in UTF-16", "Save it as UTF-8"),
 ];
 
-/// What bytes are that aren't this program's, told by how they begin, and the command that reads them.
+/// What bytes are that aren't this program's, by how they begin, and the command that reads them.
 fn foreign(bytes: &[u8]) -> Option<String> {
     let text = bytes.strip_prefix(b"\xef\xbb\xbf").unwrap_or(bytes);
     let (_, what, remedy) = FOREIGN.iter().find(|(head, ..)| text.starts_with(head))?;

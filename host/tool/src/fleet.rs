@@ -20,7 +20,7 @@ use std::thread;
 const HEAD_LEN: u64 = 512;
 
 /// The journals below a folder, in the order of their names: files with inputs beside them, or that begin as a journal. Inputs
-/// whose journal is missing stand for it, so that it is told. Links to folders aren't followed.
+/// whose journal is missing take its place, so that it is reported. Links to folders aren't followed.
 ///
 /// # Errors
 ///

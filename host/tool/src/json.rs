@@ -22,7 +22,7 @@ pub enum Json {
 }
 
 impl Json {
-    /// The value at names parted by dots; nothing where there is none.
+    /// The value at names separated by dots; nothing where there is none.
     #[must_use]
     pub fn at(&self, path: &str) -> Option<&Self> {
         path.split('.').try_fold(self, |value, name| match value {

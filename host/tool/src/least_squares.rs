@@ -169,7 +169,7 @@ impl<const N: usize> Equations<N> {
         self
     }
 
-    /// Their inverse: the covariance of the shared numbers, but for the variance of a pixel. Nothing where they don't
+    /// Their inverse: the covariance of the shared numbers, without the variance of a pixel. Nothing where they don't
     /// determine them.
     #[must_use]
     pub fn covariance(&self) -> Option<[[f64; N]; N]> {

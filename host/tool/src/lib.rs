@@ -1,11 +1,11 @@
-//! The program `jinnychair`, an example host of the proved tilt search: what 01 leaves to the host, in plain Rust.
+//! The program `jinnychair`, an example host of the proved tilt search: what the library leaves to the host, in plain Rust.
 //!
 //! | module | does |
 //! |---|---|
 //! | [`commands`] | the sub-commands, their words and what they end with |
 //! | [`choices`] | what a lab chooses: tilts, bound, step, rounds, seeds, limits |
-//! | [`case`] | a search with all that it starts from: run, gone on with, and judged |
-//! | [`plan`] | what will be tried and what can be missed, told before the search |
+//! | [`case`] | a search with all that it starts from; it runs it, goes on with it, and gives its verdict |
+//! | [`plan`] | what will be tried and what can be missed, shown before the search |
 //! | [`views`] | reads the views of a plate from a text file |
 //! | [`synthetic`] | makes views of a plate seen by a known camera |
 //! | [`linear`] | eigenvectors and least squares, as far as needed here |
@@ -17,7 +17,7 @@
 //! | [`solve`] | base camera, decomposition seed, and the solved camera of each tilt |
 //! | [`drive`] | runs the search and keeps every tried tilt |
 //! | [`progress`] | how far the search has come, and the time left |
-//! | [`stop`], [`system`] | stops it after some minutes, by Enter or Ctrl-C; what the system tells |
+//! | [`stop`], [`system`] | stops it after some minutes, by Enter or Ctrl-C; what the system says |
 //! | [`journal`] | reads a journal, and what stands beside it |
 //! | [`stretches`] | winners of a journal's stretches and rounds |
 //! | [`compare`], [`drift`] | where two journals part, and whether the sensor has moved between them |

@@ -90,7 +90,7 @@ fn turn<const N: usize>(a: &mut [[f64; N]; N], vectors: &mut [[f64; N]; N], p: u
     for row in vectors.iter_mut() {
         (row[p], row[q]) = rotated(row[p], row[q]);
     }
-    // Zero but for rounding.
+    // Zero except for rounding.
     (a[p][q], a[q][p]) = (0.0, 0.0);
 }
 

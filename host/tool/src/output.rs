@@ -197,7 +197,7 @@ fn cant(name: &Path, option: &str, error: &io::Error) -> String {
     )
 }
 
-/// Who reads a pipe may have read enough.
+/// The reader of a pipe may have read enough.
 fn quietly(written: io::Result<()>) -> io::Result<()> {
     match written {
         Err(error) if error.kind() == io::ErrorKind::BrokenPipe => Ok(()),

@@ -45,7 +45,7 @@ pub enum Kind {
     Failed,
 }
 
-/// All that a page tells.
+/// All that a page shows.
 pub struct Told<'a> {
     name: String,
     /// Its checksum, its length, and that of its inputs' file.
@@ -69,7 +69,7 @@ pub struct Told<'a> {
 }
 
 impl<'a> Told<'a> {
-    /// Gathers what a page tells from a journal that was run again and, where they are asked for and at hand, its views.
+    /// Gathers what a page shows from a journal that was run again and, where they are asked for and at hand, its views.
     ///
     /// # Errors
     ///
@@ -527,7 +527,7 @@ fn won(name: &str, parts: &[Won]) -> String {
     list(&[name, "Winner", "#Score", "#Tilt x °", "#Tilt y °"], &rows, true)
 }
 
-/// A line of text as it is shown, parted into its name and its value; some have no name.
+/// A line of text as it is shown, split into its name and its value; some have no name.
 fn columns(line: &str) -> Row {
     let letters: Vec<char> = line.chars().collect();
     let text = |letters: &[char]| letters.iter().collect::<String>().trim().to_owned();

@@ -1,10 +1,10 @@
-//! What a search will try, and what it can miss: told before it starts.
+//! What a search will try, and what it can miss: shown before it starts.
 
 use crate::angle::degrees;
 use crate::drive::{Source, last_step, reach};
 use jinnychair::{Options, Seed};
 
-/// Nearer than this, in radians, two tilts of a list are one: 01's rule of merging.
+/// Nearer than this, in radians, two tilts of a list are one: the rule of merging (docs/SPECIFICATION.md, 4.4).
 const NEAR: f64 = 1e-12;
 
 /// The tilts of one axis.

@@ -65,7 +65,7 @@ impl Bar {
         }
     }
 
-    /// The search has ended, or was stopped, after so many tilts.
+    /// The search has ended, or was stopped, after this many tilts.
     pub fn end(&mut self, tried: usize) {
         if self.is_terminal {
             let text = format!("{tried} tilts tried, {}", best_text(self.best));

@@ -70,7 +70,7 @@ impl Screen {
         }
     }
 
-    /// Why not everything was shown. Who reads a pipe may have read enough.
+    /// Why not everything was shown. The reader of a pipe may have read enough.
     #[must_use]
     pub fn fault(&self) -> Option<String> {
         let fault = self.fault.as_ref().filter(|error| error.kind() != io::ErrorKind::BrokenPipe);

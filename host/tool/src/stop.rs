@@ -21,7 +21,7 @@ pub struct Stopper {
 }
 
 impl Stopper {
-    /// A search begins, with at most so many minutes.
+    /// A search begins, with at most this many minutes.
     #[must_use]
     pub fn new(minutes: Option<f64>) -> Self {
         system::note_interrupt();

@@ -190,7 +190,7 @@ pub fn of_search(
         .with("views_missing", Json::Null)
 }
 
-/// A journal as far as it can be told without the views: what isn't known is null, and so is the winner of a journal that
+/// A journal as far as it can be described without the views: what isn't known is null, and so is the winner of a journal that
 /// couldn't be run again.
 #[must_use]
 pub fn of_walked(command: &str, walked: &Walked) -> Json {
@@ -269,7 +269,7 @@ pub fn heads() -> String {
     COLUMNS.iter().map(|column| column.0).collect::<Vec<_>>().join(",")
 }
 
-/// An object as a row (RFC 4180). What isn't known is empty; reasons are their codes, parted by spaces.
+/// An object as a row (RFC 4180). What isn't known is empty; reasons are their codes, separated by spaces.
 #[must_use]
 pub fn row(object: &Json) -> String {
     let field = |path: &str| match object.at(path) {

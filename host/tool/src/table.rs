@@ -1,4 +1,4 @@
-//! A search as a table: what it was asked, then a line for each tried tilt, fields parted by commas.
+//! A search as a table: what it was asked, then a line for each tried tilt, fields separated by commas.
 
 use crate::drive::{Dots, Scored, Source, Tried};
 use crate::typed::shown;

@@ -422,7 +422,7 @@ pub fn of_noise(noise: Option<[f64; 2]>, is_held: bool, next: Option<&NextView>)
     })
 }
 
-/// What speaks against a winner as far as a journal and its inputs tell.
+/// What speaks against a winner as far as a journal and its inputs show it.
 #[must_use]
 pub fn without_views(
     finished: &Finished,

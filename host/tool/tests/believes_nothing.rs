@@ -264,7 +264,7 @@ fn text_of_every_kind_is_read_and_shown_short() {
     .unwrap();
     let by_file = said(&here, &["search", "views.txt", "--options=lab.txt", "--force"], 0);
     let by_words = said(&here, &small(&["views.txt"]), 0);
-    // The time that is left may be told otherwise.
+    // The time that is left may be shown differently.
     let without_progress = |text: &str| -> Vec<String> {
         text.lines().filter(|line| !line.starts_with("round ")).map(String::from).collect()
     };
@@ -302,7 +302,7 @@ fn a_name_that_is_no_text_is_found_again() {
         0,
         &["views           caf\\xe9\\x0a1.txt: those that the search began"],
     );
-    // Also where both were moved.
+    // Where both were moved, too.
     let moved = folder("no-utf8-moved");
     fs::create_dir(moved.join("below")).unwrap();
     for name in [name.as_os_str(), OsStr::new("night"), OsStr::new("night.inputs")] {
@@ -316,8 +316,8 @@ fn ctrl_c_shows_the_best_so_far_and_says_how_to_go_on() {
     let alone = folder("interrupt-alone");
     let words = [
         "search",
-        "--tilts-x=-6deg,-4deg,-2deg,-1deg,0,1deg",
-        "--tilts-y=-3deg,-2deg,-1deg,0,1deg",
+        "--tilts-x=-8deg,-7deg,-6deg,-5deg,-4deg,-3deg,-2deg,-1deg,0,1deg,2deg,3deg,4deg,5deg,6deg,7deg",
+        "--tilts-y=-8deg,-7deg,-6deg,-5deg,-4deg,-3deg,-2deg,-1deg,0,1deg,2deg,3deg,4deg,5deg,6deg,7deg",
         "--rounds=16",
     ];
     let dated = |here: &Path, words: &[&str]| {
@@ -331,12 +331,26 @@ fn ctrl_c_shows_the_best_so_far_and_says_how_to_go_on() {
     let with_journal = [&words[..], &["--journal=night"]].concat();
     let code = dated(&alone, &with_journal).output().unwrap().status.code();
     let here = folder("interrupt");
-    let child = dated(&here, &with_journal).spawn().unwrap();
+    // Where the tests run in the background, Ctrl-C is ignored, and the program would leave it so.
+    let mut interruptible = Command::new("env");
+    interruptible
+        .args(["--default-signal=INT", env!("CARGO_BIN_EXE_jinnychair")])
+        .args(&with_journal)
+        .current_dir(&here)
+        .env("SOURCE_DATE_EPOCH", "1798761599")
+        .stdin(Stdio::null())
+        .stdout(Stdio::piped())
+        .stderr(Stdio::piped());
+    let child = interruptible.spawn().unwrap();
+    // A shell that waits for the end of its input: on a busy machine a search may be over before another program has started.
+    let interrupt = format!("read -r line; kill -INT {}", child.id());
+    let mut shell =
+        Command::new("sh").args(["-c", &interrupt]).stdin(Stdio::piped()).spawn().unwrap();
     while fs::metadata(here.join("night")).map_or(0, |about| about.len()) == 0 {
         std::thread::yield_now();
     }
-    let status = Command::new("kill").args(["-INT", &child.id().to_string()]).status().unwrap();
-    assert!(status.success());
+    drop(shell.stdin.take());
+    assert!(shell.wait().unwrap().success());
     let ended = child.wait_with_output().unwrap();
     let told = String::from_utf8(ended.stdout).unwrap();
     assert_eq!(ended.status.code(), Some(3), "{told}");

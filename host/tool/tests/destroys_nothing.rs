@@ -243,7 +243,7 @@ fn a_closed_pipe_ends_quietly() {
         assert_eq!(ended.status.code(), Some(0), "{words:?}: {told}");
         assert!(!told.contains("jinnychair:") && !told.contains("panicked"), "{told}");
     }
-    // A disk without room is told.
+    // A disk without room is reported.
     let full = File::options().write(true).open("/dev/full").unwrap();
     let ended = program(&here, &["show", "night"]).stdout(full).output().unwrap();
     assert_eq!(ended.status.code(), Some(1));

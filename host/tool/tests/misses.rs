@@ -325,7 +325,7 @@ fn another_valley_is_told() {
     let (mut finished, _, judged) = answered(&plate, "");
     let rivals = |finished: &Finished| rivals_of(&plate, finished, &judged);
     assert_eq!(rivals(&finished), []);
-    // Scored by a tenth of the dots, neighbours of the last step aren't told apart, and are no other valley.
+    // Scored by a tenth of the dots, neighbours of the last step can't be distinguished, and are no other valley.
     let mut by_few = finished.clone();
     for one in &mut by_few.tried {
         one.dots.as_mut().unwrap().counted = 98;

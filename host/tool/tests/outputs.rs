@@ -84,7 +84,7 @@ fn on_one_axis(rounds: usize) -> (Finished, Record) {
     (finished, record)
 }
 
-/// Every tried tilt is in the chart and tells its number, the skipped ones are counted, and the picture is well formed.
+/// Every tried tilt is in the chart and shows its number, the skipped ones are counted, and the picture is well formed.
 fn assert_drawn(svg: &str, finished: &Finished) {
     for (_, letter, words) in table::SKIPS {
         let skipped = finished.tried.iter().filter(|t| table::letter(&t.outcome) == *letter);
@@ -291,7 +291,7 @@ fn what_is_no_table_is_named_with_its_line() {
     }
 }
 
-/// A search that is stopped after so many tilts.
+/// A search that is stopped after this many tilts.
 fn stopped(
     options: &Options,
     after: usize,

@@ -242,7 +242,7 @@ fn without_the_views_the_page_says_what_could_not_be_looked_at() {
         &["other.txt: these aren't the views that the search began with"],
     );
     assert!(!here.join("night.html").exists());
-    // Points that need no views are told without them.
+    // Points that need no views are shown without them.
     let from = searched("page-from-limits", &["--max-tilt=1deg"]);
     fs::remove_file(from.join("views.txt")).unwrap();
     let points =
@@ -326,7 +326,7 @@ fn a_hinged_module_and_a_resumed_search_have_a_page() {
         "every lean about y: it is held at 0",
     ];
     assert_has(&whole, &parts);
-    // Cut and gone on with, it has the same page but for the date.
+    // Cut and gone on with, it has the same page except for the date.
     let journal = file(here.join("night"));
     fs::write(here.join("night"), &journal[..journal.len() / 3]).unwrap();
     said(&here, &["resume", "night"], 3);

@@ -657,7 +657,7 @@ fn a_closed_or_full_screen_loses_nothing() {
         let status = program(&here, words).stdout(closed()).stderr(Stdio::null()).status();
         assert_eq!(status.unwrap().code(), Some(0));
     }
-    // Without a place for progress and faults the exit code still tells.
+    // Without a place for progress and faults the exit code is still right.
     for screen in [full(), closed()] {
         assert_eq!(
             program(&here, &small(&[])).stderr(screen).output().unwrap().status.code(),

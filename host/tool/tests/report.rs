@@ -63,7 +63,7 @@ fn each_reason_is_counted_for_itself() {
         "  skipped N     4: the score is not a number\n",
         "report          42,1,2,3,4,52\n",
     ];
-    // A reason can't be told from a forged one, but a score in a line is gone, so that later rounds lie elsewhere.
+    // A reason can't be distinguished from a forged one, but a score in a line is gone, so that later rounds lie elsewhere.
     assert_said(&here, &["report", "night", "--unchecked"], 3, &expected);
 }
 

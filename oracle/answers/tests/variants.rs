@@ -1,4 +1,4 @@
-//! 01's distortion lines and 02's rule for NaN scores beside the published ones.
+//! The specification's distortion lines and its rule for NaN scores beside the published ones.
 
 use oracle::operations::answer;
 use std::path::Path;
@@ -15,8 +15,9 @@ fn both(operation: &str, input: &[u64]) -> [Vec<u64>; 2] {
 
 #[test]
 fn the_tangential_parts_differ() {
-    let [scope, published] = both("distort", &float_words(&[0.0, 0.0, 0.0, 0.2, 0.0, 0.1, 0.6]));
-    assert_eq!(scope, [0x3fbf_be76_c8b4_3959, 0x3fea_2d0e_5604_1893]);
+    let [specified, published] =
+        both("distort", &float_words(&[0.0, 0.0, 0.0, 0.2, 0.0, 0.1, 0.6]));
+    assert_eq!(specified, [0x3fbf_be76_c8b4_3959, 0x3fea_2d0e_5604_1893]);
     assert_eq!(published, [0x3fbf_be76_c8b4_3958, 0x3fea_2d0e_5604_1893]);
 }
 
@@ -28,9 +29,9 @@ fn the_derivatives_agree() {
     for case in stored.lines().filter(|line| !line.starts_with('#')) {
         let (input, _) = case.split_once(" = ").expect("two sides");
         let input = parse(input.split(' ')).expect("words");
-        let [scope, published] = both("distort_with_jacobian", &input);
-        assert_eq!(scope[2..], published[2..], "{case}");
-        other_points += u32::from(scope[..2] != published[..2]);
+        let [specified, published] = both("distort_with_jacobian", &input);
+        assert_eq!(specified[2..], published[2..], "{case}");
+        other_points += u32::from(specified[..2] != published[..2]);
     }
     assert!(other_points > 0);
 }

@@ -1,5 +1,5 @@
-//! The journal's line, by 02's words: fields are cut at their commas and tested one by one. The crates that are judged make a line
-//! by place and compare what they would write.
+//! The journal's line, by docs/SPECIFICATION.md, 8.1: fields are cut at their commas and tested one by one. The library, which is
+//! compared with this, makes a line by position and compares what it would write.
 
 /// The fields of a line, reals as their bits.
 #[derive(Clone, Copy, Debug, PartialEq)]

@@ -1,5 +1,5 @@
 //! Writes the stored cases of the journal and of the report: `journal [FOLDER]`, by default `oracle/stored`. What a line's text is,
-//! and whether bytes are one, is worked out in `form.rs` from 02's words, what a report's text is in `report.rs`; no published file
+//! and whether bytes are one, is worked out in `form.rs` from docs/SPECIFICATION.md, what a report's text is in `report.rs`; no published file
 //! is needed. Each run writes the same bytes.
 
 mod damage;
@@ -16,7 +16,7 @@ use words::{STORED, file};
 fn main() -> Result<(), String> {
     let folder = PathBuf::from(std::env::args().nth(1).unwrap_or_else(|| STORED.to_owned()));
     std::fs::create_dir_all(&folder).map_err(|e| format!("{}: {e}", folder.display()))?;
-    let made_by = "oracle/journal: lines as 02's words have them; draws named journal";
+    let made_by = "oracle/journal: lines as the specification has them; draws named journal";
     for (operation, cases) in [
         ("write_line", writing::cases()),
         ("read_line", reading::cases()),

@@ -1,4 +1,4 @@
-//! Reports of five counts (02, E6): some that are written, and counts and buffers that are refused.
+//! Reports of five counts (docs/SPECIFICATION.md, 8.5): some that are written, and counts and buffers that are refused.
 
 use crate::writing::answer;
 use random::Random;

@@ -1,5 +1,5 @@
 //! Writes the stored cases of every refusal of every call: `refusals [FOLDER]`, by default
-//! `oracle/stored`. Each reply is written down here from the paragraphs of 01 and 02, none is
+//! `oracle/stored`. Each reply is written down here from docs/SPECIFICATION.md, none is
 //! computed by the code that it judges; no published file is needed. Each run writes the same
 //! bytes.
 
@@ -50,7 +50,7 @@ fn main() -> Result<(), String> {
 
 /// Each file's name and text.
 fn files() -> Vec<(String, String)> {
-    let made_by = "oracle/refusals: the replies as the paragraphs of 01 and 02 give them";
+    let made_by = "oracle/refusals: the replies as the specification gives them";
     let text = |(name, operation, cases): &(&str, &str, Vec<Case>)| {
         let lines: Vec<String> = cases.iter().map(Case::line).collect();
         (format!("{name}.txt"), file(operation, made_by, &lines))

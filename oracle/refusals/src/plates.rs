@@ -1,5 +1,6 @@
-//! Plates with a known answer (02, E12): which cameras get six numbers, and what the closed form gives back from these: the
-//! camera itself, in which a zero is stored as 0, whichever its sign. The six numbers aren't stored: 02 leaves them free.
+//! Plates with a known answer (docs/SPECIFICATION.md, 3.16): which cameras get six numbers, and what the closed form gives back from
+//! these: the camera itself, in which a zero is stored as 0, whichever its sign. The six numbers aren't stored: what is asked of them
+//! is that the camera comes back.
 
 use crate::Case;
 use std::f64::{INFINITY, NAN, NEG_INFINITY};

@@ -120,7 +120,7 @@ fn ending(points: &[f64], last: f64) -> Vec<f64> {
     [&points[..points.len() - 1], &[last]].concat()
 }
 
-/// Source, destination points, length of the destination and number, each refusal by itself.
+/// Source, destination points, length of the destination and number, each refusal alone.
 fn row_refusals() -> Vec<(Vec<f64>, Vec<f64>, usize, u64)> {
     let good = SQUARE.to_vec();
     let line = LINE.to_vec();
@@ -145,7 +145,7 @@ fn row_refusals() -> Vec<(Vec<f64>, Vec<f64>, usize, u64)> {
     ]
 }
 
-/// The same where two hold at once: the one that 01 names first wins.
+/// The same where two hold at once: the one that is named first wins.
 fn row_pairs() -> Vec<(Vec<f64>, Vec<f64>, usize, u64)> {
     let good = SQUARE.to_vec();
     let line = LINE.to_vec();

@@ -1,4 +1,4 @@
-//! Refusals of Start, Next, Answer and Result, and what the seed call gives beside them.
+//! Refusals of Start, Next, Answer and Result, and what the seed call gives after them.
 
 use crate::{Case, lent, list};
 use words::{float_words as floats, word};
@@ -468,7 +468,7 @@ fn tilts() -> Vec<Case> {
     cases
 }
 
-// ---- runs about one axis (02, E8)
+// ---- runs about one axis (docs/SPECIFICATION.md, 4.7)
 
 /// The number above 0.
 const LEAST: f64 = 5e-324;

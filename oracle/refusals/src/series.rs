@@ -1,4 +1,4 @@
-//! Sine and cosine where 02 states the answer itself: 27, and a zero gives itself and exactly 1.
+//! Sine and cosine where the rules state the answer itself: 27, and a zero gives itself and exactly 1.
 
 use crate::Case;
 use words::float_words as floats;

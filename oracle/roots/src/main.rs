@@ -135,7 +135,7 @@ mod tests {
     }
 
     #[test]
-    fn values_of_the_scope() {
+    fn values_worked_out_by_hand() {
         assert_eq!(answer(4.0), 2.0_f64.to_bits());
         assert_eq!(answer(2.0), 0x3ff6_a09e_667f_3bcd);
         assert_eq!(answer(-0.0), (-0.0_f64).to_bits());

@@ -1,6 +1,6 @@
-//! Sine and cosine of a tilt as 02 says: eight coefficients ±1/n!, each rounded to nearest; the sum
+//! Sine and cosine of a tilt (docs/SPECIFICATION.md, 2.6): eight coefficients ±1/n!, each rounded to nearest; the sum
 //! starts at the last one, then times x·x plus the one before; the sine ends times x. Every product
-//! and every sum rounds. The tests hold both against exact fractions.
+//! and every sum rounds. The tests compare both with exact fractions.
 
 #[cfg(test)]
 mod exact;
@@ -10,7 +10,7 @@ mod natural;
 /// The largest tilt, in radians, that has a sine and a cosine here.
 pub const MOST: f64 = 0.5;
 
-/// 02's number for a tilt that is NaN or beyond [`MOST`] in size.
+/// The number for a tilt that is NaN or beyond [`MOST`] in size.
 pub const BEYOND: u64 = 27;
 
 pub fn is_beyond(x: f64) -> bool {

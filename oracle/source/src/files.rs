@@ -17,8 +17,8 @@ pub const CORE: &str = "vision-calibration-core";
 pub const GEOMETRY: &str = "vision-geometry";
 pub const LINEAR: &str = "vision-calibration-linear";
 
-/// Every file that is compiled. The distortion models are compiled twice: with the lines that 01
-/// gives, which judge, and as published, which show the difference.
+/// Every file that is compiled. The distortion models are compiled twice: with the
+/// specification's lines, which give the answers, and as published, which show the difference.
 pub const FILES: &[PublishedFile] = &[
     PublishedFile {
         krate: CORE,

@@ -9,12 +9,12 @@ use crate::files::{CORE, GEOMETRY, LINEAR};
 /// Why a text is changed.
 #[derive(Clone, Copy, Debug, PartialEq, Eq)]
 pub enum Purpose {
-    /// 01 leaves the part out, or it needs a file that isn't published; nothing compared uses it.
+    /// The library doesn't have the part, or it needs a file that isn't published; nothing compared uses it.
     LeftOut,
-    /// 01 fixes other arithmetic or other inputs than the published lines have.
-    Scope,
-    /// 02 asks for another rule than the published lines have; a search may still be played by theirs.
-    Request,
+    /// The specification has other arithmetic or other inputs than the published lines.
+    Arithmetic,
+    /// The specification has another rule than the published lines; a search may still be played by theirs.
+    Rule,
     /// The host's part of a search (estimates, poses, rows) comes from the case.
     Scripted,
     /// Tells the record of a search what happens, and changes nothing else.
@@ -43,8 +43,8 @@ pub struct Patch {
     pub edit: Edit,
 }
 
-/// 01's derivatives, each sum and product from the left.
-const SCOPE_JACOBIAN: &str = "\
+/// The specification's derivatives, each sum and product from the left.
+const SPECIFIED_JACOBIAN: &str = "\
 fn radial_tangential_jacobian<T: RealField>(x: T, y: T, radial: T, d: T, p1: T, p2: T) -> [[T; 2]; 2] {
     let two = || T::from_f64(2.0).unwrap();
     let six = || T::from_f64(6.0).unwrap();
@@ -58,8 +58,8 @@ fn radial_tangential_jacobian<T: RealField>(x: T, y: T, radial: T, d: T, p1: T, 
 
 ";
 
-/// 01's radial factor and tangential parts, each sum and product from the left.
-const SCOPE_TERMS: &str = "\
+/// The specification's radial factor and tangential parts, each sum and product from the left.
+const SPECIFIED_TERMS: &str = "\
 fn brown_conrady_terms<T: RealField>(x: &T, y: &T, k: [&T; 3], p1: &T, p2: &T) -> (T, T, T, T) {
     let two = || T::from_f64(2.0).unwrap();
     let [k1, k2, k3] = k.map(|k| || k.clone());
@@ -137,7 +137,7 @@ pub const PATCHES: &[Patch] = &[
     Patch {
         krate: CORE,
         module: "sensor",
-        purpose: Purpose::Scope,
+        purpose: Purpose::Arithmetic,
         edit: Edit::Replace {
             old: "tilt_projection_matrix(self.tilt_x, self.tilt_y);",
             new: "crate::given_tilt::current().matrix();",
@@ -146,7 +146,7 @@ pub const PATCHES: &[Patch] = &[
     Patch {
         krate: CORE,
         module: "sensor",
-        purpose: Purpose::Scope,
+        purpose: Purpose::Arithmetic,
         edit: Edit::Replace {
             old: "(tau_x: T, tau_y: T)",
             new: "(s_tx: T, c_tx: T, s_ty: T, c_ty: T)",
@@ -155,7 +155,7 @@ pub const PATCHES: &[Patch] = &[
     Patch {
         krate: CORE,
         module: "sensor",
-        purpose: Purpose::Scope,
+        purpose: Purpose::Arithmetic,
         edit: Edit::Span {
             from: "    let s_tx = tau_x",
             until: "    let zero = T::zero();",
@@ -173,25 +173,25 @@ pub const PATCHES: &[Patch] = &[
             new: "",
         },
     },
-    // core/models/distortion.rs: the lines that 01 gives for two functions.
+    // core/models/distortion.rs: the specification's lines for two functions.
     Patch {
         krate: CORE,
         module: "distortion",
-        purpose: Purpose::Scope,
+        purpose: Purpose::Arithmetic,
         edit: Edit::Span {
             from: "fn radial_tangential_jacobian",
             until: "/// Brown-Conrady radial and tangential terms",
-            new: SCOPE_JACOBIAN,
+            new: SPECIFIED_JACOBIAN,
         },
     },
     Patch {
         krate: CORE,
         module: "distortion",
-        purpose: Purpose::Scope,
+        purpose: Purpose::Arithmetic,
         edit: Edit::Span {
             from: "fn brown_conrady_terms",
             until: "/// Brown-Conrady 5-parameter",
-            new: SCOPE_TERMS,
+            new: SPECIFIED_TERMS,
         },
     },
     Patch {
@@ -206,11 +206,11 @@ pub const PATCHES: &[Patch] = &[
         purpose: Purpose::Access,
         edit: Edit::Child { file: "distortion_access.rs" },
     },
-    // geometry/homography.rs: `hypot` by 01's root, and the rows instead of what follows them.
+    // geometry/homography.rs: `hypot` as the root of the sum of squares, and the rows instead of what follows them.
     Patch {
         krate: GEOMETRY,
         module: "homography",
-        purpose: Purpose::Scope,
+        purpose: Purpose::Arithmetic,
         edit: Edit::Replace {
             old: "(p2.x - p0.x).hypot(p2.y - p0.y)",
             new: "f64::sqrt((p2.x - p0.x) * (p2.x - p0.x) + (p2.y - p0.y) * (p2.y - p0.y))",
@@ -228,13 +228,13 @@ pub const PATCHES: &[Patch] = &[
     Patch {
         krate: GEOMETRY,
         module: "homography",
-        purpose: Purpose::Scope,
+        purpose: Purpose::Arithmetic,
         edit: Edit::Replace { old: "Result<Mat3>", new: "Result<DMatrix<f64>>" },
     },
     Patch {
         krate: GEOMETRY,
         module: "homography",
-        purpose: Purpose::Scope,
+        purpose: Purpose::Arithmetic,
         edit: Edit::Tail { from: "    // Solve `A h = 0` via", new: "    Ok(a)\n}\n" },
     },
     Patch {
@@ -267,7 +267,7 @@ pub const PATCHES: &[Patch] = &[
     Patch {
         krate: LINEAR,
         module: "zhang_intrinsics",
-        purpose: Purpose::Scope,
+        purpose: Purpose::Arithmetic,
         edit: Edit::Span {
             from: "    pub fn from_homographies(",
             until: "        let b11 = b[0];",
@@ -277,7 +277,7 @@ pub const PATCHES: &[Patch] = &[
     Patch {
         krate: LINEAR,
         module: "zhang_intrinsics",
-        purpose: Purpose::Scope,
+        purpose: Purpose::Arithmetic,
         edit: Edit::Replace { old: "views: m,", new: "views: 0," },
     },
     // linear/scheimpflug_init.rs: what the left-out files and decompositions need.
@@ -347,11 +347,11 @@ pub const PATCHES: &[Patch] = &[
             new: "mean_reproj_error(&crate::script::rows(), &camera, sensor, &poses);",
         },
     },
-    // 02, E3: a score that isn't a number is no candidate's.
+    // A candidate whose score isn't a number is skipped.
     Patch {
         krate: LINEAR,
         module: "scheimpflug_init",
-        purpose: Purpose::Request,
+        purpose: Purpose::Rule,
         edit: Edit::Replace {
             old: "    Ok(Candidate {\n        init:",
             new: "    if crate::script::loses(score) {\n        return Err(Error::numerical(\"the score isn't a number\"));\n    }\n    Ok(Candidate {\n        init:",
@@ -407,25 +407,25 @@ pub const PATCHES: &[Patch] = &[
     Patch {
         krate: LINEAR,
         module: "scheimpflug_init",
-        purpose: Purpose::Scope,
+        purpose: Purpose::Arithmetic,
         edit: Edit::Replace { old: "min_x.min(p.x)", new: "crate::first_kept::min(min_x, p.x)" },
     },
     Patch {
         krate: LINEAR,
         module: "scheimpflug_init",
-        purpose: Purpose::Scope,
+        purpose: Purpose::Arithmetic,
         edit: Edit::Replace { old: "min_y.min(p.y)", new: "crate::first_kept::min(min_y, p.y)" },
     },
     Patch {
         krate: LINEAR,
         module: "scheimpflug_init",
-        purpose: Purpose::Scope,
+        purpose: Purpose::Arithmetic,
         edit: Edit::Replace { old: "max_x.max(p.x)", new: "crate::first_kept::max(max_x, p.x)" },
     },
     Patch {
         krate: LINEAR,
         module: "scheimpflug_init",
-        purpose: Purpose::Scope,
+        purpose: Purpose::Arithmetic,
         edit: Edit::Replace { old: "max_y.max(p.y)", new: "crate::first_kept::max(max_y, p.y)" },
     },
     Patch {

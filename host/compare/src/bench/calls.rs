@@ -1,4 +1,4 @@
-//! The calls of a run beside Start and Answer, beside plain Rust over the same record.
+//! The calls of a run other than Start and Answer, compared with plain Rust over the same record.
 
 use super::Bench;
 use super::operation::{Same, called, returned, written};

@@ -1,4 +1,4 @@
-//! The operations beside the search, each beside the published Rust and plain C.
+//! The operations other than the search, each compared with the published Rust and plain C.
 
 use super::Bench;
 use super::operation::{Same, called, returned, written};
@@ -325,7 +325,7 @@ pub fn lenses(random: &mut Random) -> Vec<BrownConrady5> {
     (0..FEW).map(&mut draw).collect()
 }
 
-/// What a score is made of beside the mean.
+/// The parts of a score other than the mean.
 fn penalties(bench: &mut Bench) {
     let lenses = lenses(&mut bench.random);
     let for_rust = each(&lenses, published_lens);

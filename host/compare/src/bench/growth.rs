@@ -15,7 +15,7 @@ fn time(turn: impl FnMut()) -> f64 {
     medians(2e8, [Side::new(turn)])[0]
 }
 
-/// A table of times by size: each also beside the row above, and for one unit of its work.
+/// A table of times by size, each also compared with the row above, and for one unit of its work.
 fn table(
     [what, size, unit]: [&str; 3],
     sizes: &[usize],

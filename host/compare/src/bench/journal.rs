@@ -138,7 +138,7 @@ fn resumed<'a>(inputs: &'a record::Inputs, journal: &'a [u8]) -> Tried<'a> {
     Tried::new(&answer, Side::new(turn))
 }
 
-/// Runs a journal again and goes on from it, beside plain Rust that reads so.
+/// Runs a journal again and goes on from it, compared with plain Rust that reads in the same way.
 fn beside_rust(
     bench: &mut Bench,
     (for_library, for_book, journal): (&record::Inputs, &book::Inputs, &[u8]),
@@ -157,7 +157,7 @@ fn best_of(walk: &Walk) -> Option<(usize, u64)> {
     walk.run_best.map(|best| (best.number, best.score.to_bits()))
 }
 
-/// Runs a journal again and goes on from it, beside plain Rust and beside the book.
+/// Runs a journal again and goes on from it, compared with plain Rust and with the reference model.
 fn replays(bench: &mut Bench, inputs: &Inputs, journal: &[u8]) {
     let (for_library, for_book) = (library_inputs(inputs), book_inputs(inputs));
     let run = (&for_library, &for_book, journal);

@@ -1,7 +1,7 @@
-//! The benchmark: the library beside the published Rust (the oracle's build of it), or plain Rust where there is none, and beside plain
-//! C (`plain.c`, `leaves.c`): same inputs, same answers, same process, release builds. docs/SPEED.md says how it measures.
+//! The benchmark: the library is compared with the published Rust (the oracle's build of it), or plain Rust where there is none, and
+//! with plain C (`plain.c`, `leaves.c`): same inputs, same answers, same process, release builds. docs/PERFORMANCE.md says how it measures.
 //!
-//! Each program of the table (`src/bin/pad_*.rs`) is the same but for some bytes in front of its code. `src/bin/bench.rs` runs them and
+//! Each program of the table (`src/bin/pad_*.rs`) is the same except for some bytes in front of its code. `src/bin/bench.rs` runs them and
 //! makes one table of theirs.
 
 mod calls;

@@ -69,7 +69,7 @@ pub fn cosine_in_rust(x: f64) -> Option<f64> {
     series(0, x)
 }
 
-/// A series beside the same loop in Rust and in C, and beside the machine's maths library, which rounds otherwise.
+/// A series compared with the same loop in Rust and in C, and with the machine's maths library, which rounds differently.
 fn series_beside(
     bench: &mut Bench,
     name: &str,

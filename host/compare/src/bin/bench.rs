@@ -1,11 +1,11 @@
 //! The benchmark in one command: builds the programs of the table, has each compare its sides' answers and take their times, counts
-//! instructions where valgrind is installed, and prints one table. docs/SPEED.md says how it measures.
+//! instructions where valgrind is installed, and prints one table. docs/PERFORMANCE.md says how it measures.
 //!
 //!     cargo run --release --bin bench -- [PART] [--milliseconds N]
 //!     cargo run --release --bin bench -- answers [PART] | instructions [PART] | growth
 //!
 //! A part is one of scorings, runs, lists, calls, journal, geometry, distortions, sines, roots, values. A row takes 250 milliseconds in
-//! each program if nothing else is said. `answers` compares alone, `instructions` counts alone; `growth` stands by itself: the library's
+//! each program unless another time is given. `answers` compares alone, `instructions` counts alone; `growth` stands by itself: the library's
 //! times by the size of their work. Linux only, for its clock of a thread's time.
 
 use compare::bench::PADS;

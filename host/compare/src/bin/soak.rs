@@ -1,5 +1,5 @@
 //! Hostile cases through the C boundary, as many as wanted, in one command: roots beside the machine's and the C library's; leaf
-//! operations and rows beside plain C; runs, lines, reports, winners, and journals that were cut or damaged beside the plain book; forged
+//! operations and rows beside plain C; runs, lines, reports, winners, and journals that were cut or damaged beside the reference model; forged
 //! records by what no call may do. Prints what was tried and every difference, and ends with 1 on any.
 //!
 //!     soak [--only PART] [--roots N] [--leaves N] [--rows N] [--runs N] [--lines N] [--cuts N] [--records N]

@@ -1,4 +1,4 @@
-//! SHA-256 (FIPS 180-4), so that a lab can compare it with its own `sha256sum`. It tells files apart; it vouches for nobody.
+//! SHA-256 (FIPS 180-4), so that a lab can compare it with its own `sha256sum`. It shows whether two files differ, and not who wrote them.
 
 /// Fractions of the cube roots of the first 64 primes.
 const K: [u32; 64] = [

@@ -109,7 +109,7 @@ pub fn write_line(line: &Line, to: &mut [u8]) -> Result<usize, WriteError> {
     WriteError::check(reply.number).map(|()| reply.len)
 }
 
-/// A line of a journal that isn't taken.
+/// A line of a journal that is refused.
 #[derive(Clone, Copy, Debug, PartialEq, Eq)]
 pub struct JournalError {
     /// The line, counted from 1.

@@ -24,7 +24,7 @@ pub enum Replayed {
 }
 
 /// Runs a journal again from what its search started from: each line must have the number, round and seed that the search hands
-/// out next, and what it records stands for the host's answer. For a journal that a search wrote, the winner, every seed and every
+/// out next, and what it records takes the place of the host's answer. For a journal that a search wrote, the winner, every seed and every
 /// round are those of that search.
 ///
 /// A changed journal isn't always found: the camera of a line counts only for the list of the next round, if it is the best of
@@ -32,7 +32,7 @@ pub enum Replayed {
 ///
 /// # Errors
 ///
-/// The inputs are refused, or a line isn't taken.
+/// The inputs are refused, or a line is refused.
 ///
 /// # Panics
 ///
@@ -114,7 +114,7 @@ pub fn what_differs(inputs: &Inputs, journal: &[u8]) -> Option<Difference> {
 
 const SEED: [&str; 6] = ["fx", "fy", "cx", "cy", "tilt x", "tilt y"];
 
-/// Bit by bit, but that any NaN is any other.
+/// Bit by bit, except that any NaN equals any other.
 fn same(a: f64, b: f64) -> bool {
     a.to_bits() == b.to_bits() || (a.is_nan() && b.is_nan())
 }

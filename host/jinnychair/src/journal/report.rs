@@ -1,4 +1,4 @@
-//! The morning report: how many candidates were scored, and how many were skipped for each reason.
+//! The report: how many candidates were scored, and how many were skipped for each reason.
 
 use super::line::Line;
 use crate::record::Counts;
@@ -9,7 +9,7 @@ use std::borrow::Borrow;
 pub const REPORT_ROOM: usize = 24;
 
 impl Counts {
-    /// Those of a journal's lines, for a journal without its search. Of a whole journal they are the search's own.
+    /// The counts of a journal's lines, for a journal without its search. For a whole journal they are the search's own.
     ///
     /// ```
     /// use jinnychair::{Counts, journal};
@@ -49,7 +49,7 @@ impl Counts {
         }
     }
 
-    /// All together: the answered candidates. Of counts that no search has, whose sum is too large for a number, the largest one.
+    /// All together: the answered candidates. For counts that no search has, whose sum is too large for a number, the largest number.
     #[must_use]
     pub fn total(&self) -> usize {
         let skipped = SkipReason::ALL.iter().map(|reason| self.skipped(*reason));

@@ -64,10 +64,10 @@ pub struct Resumed {
 
 impl Search {
     /// Goes on after a power loss, from what the search started from and its journal: the longest front of whole lines that
-    /// [`super::replay`] takes is kept. Given the same answers, the search ends as if it had never been switched off. A journal that
+    /// [`super::replay`] accepts is kept. Given the same answers, the search ends as if it had never been switched off. A journal that
     /// was cut anywhere loses only the line that the cut fell in.
     ///
-    /// What is added to the journal then belongs behind the kept bytes: cut it to them first. [`super::JournalWriter::resume`] does so.
+    /// New lines belong directly behind the kept bytes, so cut the journal to them first. [`super::JournalWriter::resume`] does so.
     ///
     /// # Errors
     ///

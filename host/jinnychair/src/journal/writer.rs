@@ -1,4 +1,4 @@
-//! A journal on the disk: each line is there before the next seed is asked for.
+//! A journal on the disk: each line is there before the next seed is handed out.
 
 use super::inputs::{InputsError, StoredInputs, inputs_path, sync_folder};
 use super::line::{LEAST_ROOM, Line, write_line};
@@ -11,7 +11,7 @@ use std::io::{self, Read, Write};
 use std::ops::ControlFlow;
 use std::path::{Path, PathBuf};
 
-/// A journal that lines are added to. While it lives, no other writer opens the file; readers may.
+/// A journal that lines are added to. While this exists, no other writer opens the file; readers may.
 #[derive(Debug)]
 pub struct JournalWriter {
     file: File,
@@ -66,7 +66,7 @@ impl JournalWriter {
     ///
     /// # Errors
     ///
-    /// There is no such journal, another process writes to it, or its inputs aren't there or aren't taken; then nothing is cut.
+    /// There is no such journal, another process writes to it, or its inputs are missing or refused; then nothing is cut.
     /// Where the search was switched off before it had written its inputs ([`JournalFileError::NotBegun`]), [`JournalWriter::create`]
     /// begins it.
     pub fn resume(path: &Path) -> Result<ResumedJournal, JournalFileError> {
@@ -90,7 +90,7 @@ impl JournalWriter {
         Ok(ResumedJournal { writer, search, kept_lines, inputs })
     }
 
-    /// Drops what stands behind a place.
+    /// Drops what follows a place.
     fn cut(&mut self, len: u64) -> io::Result<()> {
         self.file.set_len(len)?;
         self.file.sync_all()?;
@@ -98,7 +98,7 @@ impl JournalWriter {
         Ok(())
     }
 
-    /// The lock goes with the process, however that ends.
+    /// The lock ends with the process, however the process ends.
     fn locked(file: io::Result<File>, path: &Path) -> Result<Self, JournalFileError> {
         let fault = |error| JournalFileError::Io(path.into(), error);
         let file = file.map_err(fault)?;
@@ -118,7 +118,7 @@ impl JournalWriter {
     ///
     /// # Errors
     ///
-    /// It isn't: the journal is cut back to the lines before, as far as the disk allows. A search should stop here.
+    /// The line isn't on the disk: the journal is cut back to the lines before, as far as the disk allows. A search should stop here.
     pub fn write(&mut self, line: &Line) -> Result<(), JournalFileError> {
         let mut buffer = [0; LEAST_ROOM];
         let len = write_line(line, &mut buffer).map_err(JournalFileError::Line)?;
@@ -131,7 +131,7 @@ impl JournalWriter {
         Ok(())
     }
 
-    /// Runs a search as [`Search::run_until`] does, and adds each line before the next seed is asked for.
+    /// Runs a search as [`Search::run_until`] does, and adds each line before the next seed is handed out.
     ///
     /// # Errors
     ///
@@ -168,7 +168,7 @@ impl JournalWriter {
 #[derive(Debug)]
 #[non_exhaustive]
 pub enum JournaledRunError {
-    /// By itself.
+    /// The search itself has none.
     Run(RunError),
     /// A line can't be added to the journal.
     Journal(JournalFileError),

@@ -84,7 +84,7 @@ fn damaged(line: &[u8], place: usize, how: u64, byte: u8) -> Vec<u8> {
 }
 
 /// Whether the line that begins at `start` of a journal is still read: it must be written back as it was read. One that isn't must
-/// be 29 with its number, behind so many others.
+/// be 29 with its number, after this many others.
 fn is_read(journal: &[u8], start: usize, before: usize) -> Result<bool, Fault> {
     match read_at(journal, start) {
         Ok(Some((line, next))) => {

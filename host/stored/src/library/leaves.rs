@@ -106,7 +106,7 @@ pub(super) fn conic_to_camera(r: &mut Reader) -> Answer {
     Ok(camera_words(geometry::conic_to_camera(Conic { b11, b12, b22, b13, b23, b33 })))
 }
 
-/// A zero may come back with either sign: 0 stands for both.
+/// A zero may come back with either sign: 0 means both.
 pub(super) fn known_plate(r: &mut Reader) -> Answer {
     let plus = |k: FxFyCxCy| FxFyCxCy { cx: k.cx + 0.0, cy: k.cy + 0.0, ..k };
     Ok(match geometry::known_plate(intrinsics(r)?) {

@@ -208,7 +208,7 @@ mod tests {
 
     type Spoil = fn(&mut [f64]);
 
-    /// A list of two numbers by a call that keeps to 01, but for what `spoil` does to the destination.
+    /// A list of two numbers by a call that keeps to the rules, except for what `spoil` does to the destination.
     fn lent_to(spoil: Spoil, keeps_room: bool) -> Result<(), Fault> {
         let call = |to: &mut [f64]| -> Reply {
             spoil(to);

@@ -54,7 +54,7 @@ impl Part {
             .flat_map(|[x, y]| [x - centre[0], y - centre[1]])
             .map(f64::abs)
             .fold(0.0, f64::max);
-        // Nearer ones can't be told apart in floats.
+        // Nearer ones can't be distinguished in floats.
         let least = 1e-12 * centre[0].abs().max(centre[1].abs());
         (far > least).then_some(Self { name, corner, centre, half: [1.15 * far; 2] })
     }

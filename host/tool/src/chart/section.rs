@@ -17,7 +17,7 @@ pub const BESIDE: f64 = 0.1;
 /// Beyond the lowest and the highest score, as a part of their range.
 const ROOM: f64 = 0.06;
 
-/// Floats that are equal but for the order in which steps were added up, in degrees.
+/// Floats that are equal except for the order in which steps were added up, in degrees.
 const EQUAL: f64 = 1e-9;
 
 /// The tilts on a line through the winner.

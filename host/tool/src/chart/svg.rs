@@ -68,7 +68,7 @@ impl Svg {
         self.add(format_args!("</svg>"));
     }
 
-    /// What follows, until [`Svg::end_told`], tells this when it is pointed at.
+    /// What follows, until [`Svg::end_told`], shows this text when it is pointed at.
     pub fn told(&mut self, text: &str) {
         let text = escaped(text);
         self.add(format_args!("<g><title>{text}</title>"));
@@ -159,7 +159,7 @@ fn escaped(text: &str) -> String {
     text.replace('&', "&amp;").replace('<', "&lt;").replace('>', "&gt;")
 }
 
-/// What a mark tells.
+/// The text that a mark shows.
 pub fn told(one: &Tried) -> String {
     let [x, y] = super::degrees(one).map(|tilt| signed(tilt, 5));
     let source = source_text(one.source);

@@ -71,7 +71,7 @@ fn run(words: Words, screen: &mut Screen) -> Result<End, Fault> {
     give(object, end, screen)
 }
 
-/// All that can be told of a journal that is the run's.
+/// All that can be said of a journal that is the run's.
 fn told<'a>(
     walked: &'a Walked,
     views: Option<PathBuf>,

@@ -109,7 +109,7 @@ fn check_host(stored: &StoredInputs, is_allowed: bool, screen: &mut Screen) -> R
     Ok(())
 }
 
-/// Another version or another computer is told: the winner may differ from that of an unbroken search in the last bits.
+/// Another version or another computer is reported: the winner may differ from that of an unbroken search in the last bits.
 fn say_if_changed(case: &Case, stored: &StoredInputs, screen: &mut Screen) {
     let (then, now) = (&stored.library, library_version());
     if *then != now {

@@ -22,7 +22,7 @@ impl Value {
         value
     }
 
-    /// The value at names parted by dots; Null where there is none.
+    /// The value at names separated by dots; Null where there is none.
     pub fn at(&self, path: &str) -> &Self {
         path.split('.').fold(self, |value, name| match value {
             Self::Object(fields) => fields.get(name).unwrap_or(&Self::Null),

@@ -1,4 +1,4 @@
-//! Prints where the published text and 01, or 02, differ by running, each with a smallest input:
+//! Prints where the answers of the published text and of the specification differ, each with a smallest input:
 //! numbers as decimals, and the bits on both sides. docs/DIFFERENCES.md lists them.
 
 use oracle::operations::answer;
@@ -19,16 +19,16 @@ fn main() {
     maths_library();
 }
 
-/// The answers by 01's lines and by the published ones.
+/// The answers by the specification's lines and by the published ones.
 fn both(operation: &str, input: &[u64]) -> [Vec<u64>; 2] {
     [operation.to_owned(), format!("{operation}_as_published")]
         .map(|operation| answer(&operation, input).expect("both variants take this input"))
 }
 
 fn print_both(operation: &str, input: &[u64], floats: &[f64]) {
-    let [scope, published] = both(operation, input);
+    let [specified, published] = both(operation, input);
     println!("{operation} {floats:?}\n  input     {}", line(input));
-    println!("  01        {}\n  published {}", line(&scope), line(&published));
+    println!("  specified {}\n  published {}", line(&specified), line(&published));
 }
 
 /// The tangential parts: ((2·p1)·x)·y against (2·p1)·(x·y).
@@ -48,8 +48,8 @@ fn print_smallest(operation: &str, words: impl Fn(&[f64]) -> Vec<u64>) {
         for x in digits() {
             for y in digits() {
                 let floats = [0.0, 0.0, 0.0, p1, 0.0, x, y];
-                let [scope, published] = both(operation, &words(&floats));
-                if scope != published {
+                let [specified, published] = both(operation, &words(&floats));
+                if specified != published {
                     return print_both(operation, &words(&floats), &floats);
                 }
             }
@@ -68,9 +68,9 @@ fn shares() {
         let [p1, p2] = [0; 2].map(|_| random.within(0.05));
         let [x, y] = [0; 2].map(|_| random.within(1.0));
         let input = float_words(&[k1, k2, k3, p1, p2, x, y]);
-        let [scope, published] = both("distort_with_jacobian", &input);
-        points += u32::from(scope[..2] != published[..2]);
-        derivatives += u32::from(scope[2..] != published[2..]);
+        let [specified, published] = both("distort_with_jacobian", &input);
+        points += u32::from(specified[..2] != published[..2]);
+        derivatives += u32::from(specified[2..] != published[2..]);
     }
     println!("of {DRAWS} ordinary inputs {points} points and {derivatives} Jacobians differ");
 }
@@ -97,12 +97,12 @@ fn hypotenuse() {
     .expect("the draws never end");
     let list = [0.0, 0.0, 10_000.0, 0.0, dx, dy];
     let input = [vec![list.len() as u64], float_words(&list)].concat();
-    let scope = answer("points_are_collinear", &input).expect("whole points");
+    let specified = answer("points_are_collinear", &input).expect("whole points");
     println!("points_are_collinear {list:?}\n  input     {}", line(&input));
     println!("  root of squares {:016x}", (dx * dx + dy * dy).sqrt().to_bits());
     println!("  hypot           {:016x}", dx.hypot(dy).to_bits());
     println!("  limit           {:016x}", limit.to_bits());
-    println!("  cross product   {:e}\n  01        {}", 10_000.0 * dy, line(&scope));
+    println!("  cross product   {:e}\n  specified {}", 10_000.0 * dy, line(&specified));
 }
 
 /// The observed centre: the greatest of −0 and 0, in that order.
@@ -110,8 +110,8 @@ fn zeros_of_two_signs() {
     let (first, second) = (black_box(-0.0_f64), black_box(0.0_f64));
     let list = [first, 0.0, second, 0.0];
     let input = [vec![list.len() as u64], float_words(&list)].concat();
-    let scope = answer("observed_pixel_center", &input).expect("whole points");
-    println!("observed_pixel_center {list:?}\n  01        {}", line(&scope));
+    let specified = answer("observed_pixel_center", &input).expect("whole points");
+    println!("observed_pixel_center {list:?}\n  specified {}", line(&specified));
     let (greatest, least) = (first.max(second), second.min(first));
     println!("  f64::max(-0, 0) here {:016x}", greatest.to_bits());
     println!("  f64::min(0, -0) here {:016x}", least.to_bits());
@@ -139,9 +139,9 @@ fn nan_first() {
         })
     };
     let input = [inputs.words(), vec![2], found(1e200), found(50.0)].concat();
-    let [request, published] = both("search", &input);
+    let [specified, published] = both("search", &input);
     println!("search, centres 1e200 and 50\n  input     {}", line(&input));
-    println!("  02        {}\n  published {}", line(&request), line(&published));
+    println!("  specified {}\n  published {}", line(&specified), line(&published));
 }
 
 /// The published search calls the machine's maths library: the first tilt in thousandths at which
@@ -167,7 +167,7 @@ fn print_first_tilt(name: &str, own: fn(f64) -> f64, library: fn(f64) -> f64) {
     };
     println!("{name} {x:?}\n  input     {}", line(&float_words(&[x])));
     println!(
-        "  02        {}\n  library   {}",
+        "  specified {}\n  library   {}",
         line(&float_words(&[own(x)])),
         line(&float_words(&[library(x)]))
     );

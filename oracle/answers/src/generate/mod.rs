@@ -20,7 +20,7 @@ type DrawCase = fn(&mut Random) -> Vec<u64>;
 /// The cases of one operation.
 struct Family {
     operation: &'static str,
-    /// Cases that are there whatever is drawn: 01's own values, limits, exact edges.
+    /// Cases that are there whatever is drawn: values worked out by hand, limits, exact edges.
     fixed: fn() -> Vec<Vec<u64>>,
     random: usize,
     draw: DrawCase,
@@ -46,10 +46,10 @@ fn text(family: &Family) -> String {
     let mut cases: Vec<Case> = fixed.map(|case| case.expect("a fixed case")).collect();
     cases.extend(drawn(family, Random::named(name), patterns).take(family.random));
     let lines: Vec<String> = cases.iter().map(|(input, output)| case(input, output)).collect();
-    let rule = if name == "search" { "; a NaN score loses, as 02 asks" } else { "" };
+    let rule = if name == "search" { "; a NaN score loses" } else { "" };
     let made_by = format!(
         "oracle/answers, program generate: calibration-rs 1c21d7f0aa with the listed patches and \
-         01's distortion lines{rule}; draws named {name}"
+         the specification's distortion lines{rule}; draws named {name}"
     );
     file(name, &made_by, &lines)
 }

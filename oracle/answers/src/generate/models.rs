@@ -54,7 +54,7 @@ fn sensor_to_pixel(random: &mut Random) -> Vec<u64> {
     float_words(&floats)
 }
 
-/// No tilt, and the tilt that 01 refuses.
+/// No tilt, and the tilt that is refused.
 fn fixed_tilts() -> Vec<Vec<u64>> {
     vec![float_words(&[0.0, 1.0, 0.0, 1.0]), float_words(&[1.0, 0.0, 0.0, 1.0])]
 }
@@ -110,7 +110,7 @@ fn matrix(draw: &mut Draw) -> [f64; 9] {
     m
 }
 
-/// 01's diagonal, and points whose z is at, below and above 1e-12, negative, 0 and NaN.
+/// A diagonal, and points whose z is at, below and above 1e-12, negative, 0 and NaN.
 fn fixed_homographies() -> Vec<Vec<u64>> {
     let with_z = |z: f64| float_words(&[1.0, 0.0, 0.0, 0.0, 1.0, 0.0, 0.0, 0.0, z, 2.0, 3.0]);
     let threshold = 1e-12_f64;
@@ -133,7 +133,7 @@ fn apply_homography(random: &mut Random) -> Vec<u64> {
     float_words(&[&m[..], &point].concat())
 }
 
-/// Where 01's lines and the published ones give other bits: rounding, and squares that underflow.
+/// Where the specification's lines and the published ones give different bits: rounding, and squares that underflow.
 fn fixed_distortions() -> Vec<Vec<u64>> {
     let (huge, tiny) = (2.0_f64.powi(1000), 1.5 * 2.0_f64.powi(-538));
     vec![
@@ -167,7 +167,7 @@ fn undistort(random: &mut Random) -> Vec<u64> {
     words
 }
 
-/// 01's values, and the thresholds of each refusal.
+/// Values worked out by hand, and the thresholds of each refusal.
 fn fixed_conics() -> Vec<Vec<u64>> {
     let mut cases = vec![
         [1.0, 0.0, 1.0, -3.0, -1.0, 14.0],

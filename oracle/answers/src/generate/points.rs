@@ -196,7 +196,7 @@ fn two_lists(source: &[f64], destination: &[f64]) -> Vec<u64> {
     [with_list(&[], source), with_list(&[], destination)].concat()
 }
 
-/// Limits of the lengths, and each refusal beside those that come before and after it.
+/// Limits of the lengths, and each refusal together with those that come before and after it.
 fn rows_at_limits() -> Vec<Vec<u64>> {
     let line = [0.0, 0.0, 1.0, 1.0, 2.0, 2.0, 3.0, 3.0];
     let four = grid(4);
@@ -274,7 +274,7 @@ fn hardly_spread(random: &mut Random, count: usize) -> Vec<f64> {
     points.flat_map(|[dx, dy]| [x + dx, y + dy].map(|v| v.clamp(f64::MIN, f64::MAX))).collect()
 }
 
-/// 01's values, no finite point, and zeros of two signs in both orders.
+/// Values worked out by hand, no finite point, and zeros of two signs in both orders.
 fn fixed_centers() -> Vec<Vec<u64>> {
     let (infinity, nan) = (f64::INFINITY, f64::NAN);
     let lists: [&[f64]; 12] = [

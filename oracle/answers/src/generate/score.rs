@@ -5,7 +5,7 @@ use super::{Family, RANDOM_CASES};
 use random::Random;
 use words::float_words;
 
-/// 01's most rows of an answer.
+/// The most rows of an answer.
 const MOST_ROWS: usize = 1024;
 
 pub fn families() -> Vec<Family> {

@@ -13,7 +13,7 @@ use words::start::Inputs;
 
 const RANDOM_SEARCHES: usize = 260;
 
-/// 01's most rows of an answer.
+/// The most rows of an answer.
 const MOST_ROWS: usize = 1024;
 
 pub fn families() -> Vec<Family> {
@@ -166,14 +166,14 @@ fn spoil_rows(finding: &mut Finding, random: &mut Random) {
 fn case(inputs: &Inputs, mut answers: impl FnMut(&SeedNumbers) -> Finding + 'static) -> Vec<u64> {
     let findings = Rc::new(RefCell::new(Vec::new()));
     let kept = Rc::clone(&findings);
-    let refused = inputs.refusal().expect("01 knows each refusal").is_some();
+    let refused = inputs.refusal().expect("each refusal has a number").is_some();
     if !refused {
         let host = move |seed: &SeedNumbers| {
             let finding = answers(seed);
             kept.borrow_mut().push(finding.clone());
             finding
         };
-        run(inputs, host).expect("01 knows each end of a search");
+        run(inputs, host).expect("each end of a search has a reply");
     }
     let findings = findings.borrow();
     let mut words = inputs.words();
@@ -220,7 +220,7 @@ fn drawn_search(random: &mut Random) -> Vec<u64> {
     hosted(&inputs, habits, random)
 }
 
-/// Starts that are refused, with the next refusal's cause beside where both can be.
+/// Starts that are refused, with the next refusal's cause as well where both are possible.
 fn refused_starts() -> Vec<Inputs> {
     let good = || plain_inputs(&[0.0], &[0.0], 0.25);
     let seed = |place: usize, number: f64| {

@@ -50,7 +50,7 @@ pub fn most_seeds() -> Inputs {
     }
 }
 
-/// 01's lists, lists of nothing, nearness in a chain, and the most seeds.
+/// Lists worked out by hand, lists of nothing, nearness in a chain, and the most seeds.
 fn fixed_lists() -> Vec<Vec<u64>> {
     let chain = [0.0, 7e-13, 1.4e-12, 2.1e-12];
     let beyond = plain_inputs(&[0.3, -0.3], &[0.0], 0.25);
@@ -118,7 +118,7 @@ fn camera(random: &mut Random) -> [f64; 4] {
     camera
 }
 
-/// 01's list, steps that only just merge, and centres at the bound, beyond it and NaN.
+/// A list worked out by hand, steps that only just merge, and centres at the bound, beyond it and NaN.
 fn fixed_steps() -> Vec<Vec<u64>> {
     let case = |tilt: [f64; 2], step: f64, bound: f64| {
         float_words(&[&CAMERA[..], &tilt, &[step, bound]].concat())

@@ -2,7 +2,7 @@
 
 use random::Random;
 
-/// Values at the edges of the format and of the thresholds that 01 names.
+/// Values at the edges of the format and of the rules' thresholds.
 const EDGES: &[f64] = &[
     0.0,
     -0.0,

@@ -4,7 +4,7 @@ use vision_calibration_linear::Error;
 use vision_calibration_linear::zhang_intrinsics::PlanarIntrinsicsLinearInit;
 use words::{Reader, float_words};
 
-/// 01's number for each case of `DegenerateViews`.
+/// The refusal's number for each case of `DegenerateViews`.
 const DEGENERATE: u64 = 16;
 
 pub fn conic_to_camera(input: &mut Reader) -> Result<Vec<u64>, String> {
@@ -16,6 +16,6 @@ pub fn conic_to_camera(input: &mut Reader) -> Result<Vec<u64>, String> {
             Ok(output)
         }
         Err(Error::DegenerateViews { .. }) => Ok(vec![DEGENERATE]),
-        Err(other) => Err(format!("an error that 01 doesn't know: {other}")),
+        Err(other) => Err(format!("an error without a number: {other}")),
     }
 }

@@ -1,6 +1,5 @@
 //! The operations: each reads its input words, calls the published function and writes the
-//! answer. Refusals that 01 adds and the published text doesn't have stand in these functions,
-//! marked as 01's.
+//! answer. Refusals that the specification adds stand in these functions, marked as its own.
 
 mod camera;
 mod models;
@@ -14,8 +13,8 @@ use words::Reader;
 /// Reads an operation's inputs and gives its output words, or says what is wrong with the input.
 pub type Operation = fn(&mut Reader) -> Result<Vec<u64>, String>;
 
-/// Every operation by its name. Those that end in `_as_published` use the published lines where 01
-/// gives others for the distortion, or 02 another rule for the search.
+/// Every operation by its name. Those that end in `_as_published` use the published lines where
+/// the specification gives others for the distortion, or another rule for the search.
 pub const OPERATIONS: &[(&str, Operation)] = &[
     ("sqrt", models::sqrt),
     ("sine", models::sine),

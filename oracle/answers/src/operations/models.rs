@@ -7,7 +7,7 @@ use vision_calibration_core::given_tilt::GivenTilt;
 use vision_calibration_core::{FxFyCxCy, HomographySensor, IntrinsicsModel, Pt2, SensorModel};
 use words::{Reader, float_words, word};
 
-/// 01's number for a determinant that equals 0, where the published `compile` panics.
+/// The number for a determinant that equals 0, where the published `compile` panics.
 pub const SINGULAR_TILT: u64 = 15;
 
 /// fx, fy, cx, cy.
@@ -51,7 +51,7 @@ pub fn sqrt(input: &mut Reader) -> Result<Vec<u64>, String> {
     Ok(float_words(&[input.float()?.sqrt()]))
 }
 
-/// 27 is 02's: the series are those that the search is given its numbers by.
+/// 27 is the specification's own. The search gets its sines and cosines from the same series.
 fn series_answer(input: &mut Reader, answer: fn(f64) -> f64) -> Result<Vec<u64>, String> {
     let x = input.float()?;
     Ok(if series::is_beyond(x) { vec![series::BEYOND] } else { vec![0, word(answer(x))] })
@@ -104,7 +104,7 @@ pub fn apply_homography_inverse(input: &mut Reader) -> Result<Vec<u64>, String> 
     Ok(point_words(sensor.sensor_to_normalized(&read_point(input)?)))
 }
 
-/// k1, k2, k3, p1, p2, as 01's variant and as the published one.
+/// k1, k2, k3, p1, p2, as the specified variant and as the published one.
 fn read_distortion(
     input: &mut Reader,
 ) -> Result<(BrownConrady5<f64>, published::BrownConrady5<f64>), String> {

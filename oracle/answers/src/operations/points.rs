@@ -12,10 +12,10 @@ use vision_calibration_linear::scheimpflug_init::access as search;
 use vision_geometry::{GeometryError, homography};
 use words::{Reader, float_words};
 
-/// 01's limit of a list of points; the published functions have none.
+/// The specification's limit of a list of points; the published functions have none.
 const MOST_POINTS: usize = 400;
 
-/// 01's numbers. 17 is 01's own; the published functions refuse the others too.
+/// The refusals' numbers. 17 is the specification's own; the published functions refuse the others too.
 const BAD_LENGTH: u64 = 17;
 const NO_SPREAD: u64 = 19;
 const SOURCE_NOT_FINITE: u64 = 20;
@@ -24,8 +24,8 @@ const TOO_FEW: u64 = 22;
 const COUNTS_DIFFER: u64 = 23;
 const SOURCE_COLLINEAR: u64 = 24;
 const DESTINATION_COLLINEAR: u64 = 25;
-/// 01's number for two checks of the published function that can't fail after its line tests. 02 took
-/// it out of Rows: a case that brought it would be a difference.
+/// For two checks of the published function that can't fail after its line tests. Rows has no such
+/// refusal: a case that gave it would be a difference.
 const NOT_NORMALIZED: u64 = 26;
 
 fn is_bad_length(list: &[f64]) -> bool {
@@ -64,7 +64,7 @@ fn mapped(
     let mut pixels = points(list);
     pixels.extend([Pt2::new(0.0, 0.0); 4]);
     let after = map(&dataset(pixels), ScheimpflugParams::default())
-        .map_err(|error| format!("an error that 01 doesn't know: {error}"))?;
+        .map_err(|error| format!("an error without a number: {error}"))?;
     let mut output = vec![0];
     output.extend(float_words(&coordinates(&after.views[0].obs.points_2d)[..list.len()]));
     Ok(output)
@@ -138,8 +138,8 @@ pub fn design_rows(input: &mut Reader) -> Result<Vec<u64>, String> {
     }
 }
 
-/// 01's number of a refusal, told by the published error and, where that has several causes, by
-/// what its message names.
+/// The number of a refusal, by the published error and, where that has several causes, by what its
+/// message names.
 fn row_refusal(error: &GeometryError) -> Result<u64, String> {
     let causes: [(&str, u64); 5] = [
         ("source point has", SOURCE_NOT_FINITE),
@@ -155,7 +155,7 @@ fn row_refusal(error: &GeometryError) -> Result<u64, String> {
             .iter()
             .find(|(cause, _)| reason.contains(cause))
             .map(|(_, number)| *number)
-            .ok_or_else(|| format!("an error that 01 doesn't know: {reason}")),
-        other => Err(format!("an error that 01 doesn't know: {other}")),
+            .ok_or_else(|| format!("an error without a number: {reason}")),
+        other => Err(format!("an error without a number: {other}")),
     }
 }

@@ -41,7 +41,7 @@ pub fn principal_point_complexity(input: &mut Reader) -> Result<Vec<u64>, String
     Ok(vec![word(search::principal_point_complexity(&intrinsics, Pt2::new(x, y)))])
 }
 
-/// The camera is used as it is given; a singular tilt has no answer, since 01 refuses it before.
+/// The camera is used as it is given; a singular tilt has no answer, since it is refused before.
 pub fn mean_reproj_error(input: &mut Reader) -> Result<Vec<u64>, String> {
     let camera = pinhole_camera(input.floats()?);
     let tilt = read_tilt(input)?;

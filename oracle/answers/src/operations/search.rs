@@ -12,22 +12,22 @@ use vision_calibration_linear::script::{Finding, Given, Outcome, Record, SeedNum
 use words::start::Inputs;
 use words::{Reader, float_words, word};
 
-/// 01's limits of Start, which the published search doesn't have.
+/// Start's limits, which the published search doesn't have.
 const MOST_TILT_SEEDS: usize = 16;
 const MOST_DECOMPOSITION_SEEDS: usize = 256;
 const MOST_ROUNDS: usize = 16;
 
-/// 01's number for a run in which nothing is scored.
+/// The number for a run in which nothing is scored.
 const NOTHING_SCORED: u64 = 11;
 
 /// Start's inputs as the published search takes them.
 pub trait Published {
     /// The number with which Start refuses, 8 apart: no buffer is lent here. 1 to 4 and 7 are
-    /// the published search's; 5 and 6 are 01's, 27 is 02's.
+    /// the published search's; 5, 6 and 27 are the specification's own.
     ///
     /// # Errors
     ///
-    /// The published search refuses for a reason that 01 doesn't know.
+    /// The published search refuses for a reason that has no number here.
     fn refusal(&self) -> Result<Option<u64>, String>;
 
     /// The published options. What the host's estimator would read isn't used.
@@ -113,7 +113,7 @@ pub fn options(max_abs_tilt: f64) -> ScheimpflugIntrinsicsInitOptions {
     ScheimpflugIntrinsicsInitOptions { max_abs_tilt, ..Default::default() }
 }
 
-/// 01's number of what `validate_options` refuses, told by what the message names.
+/// The number of what `validate_options` refuses, by what the message names.
 fn option_refusal(error: &Error) -> Result<u64, String> {
     let causes = [("at least one tilt_x", 2), ("max_abs_tilt must", 3), ("refine_step must", 4)];
     match error {
@@ -122,8 +122,8 @@ fn option_refusal(error: &Error) -> Result<u64, String> {
             .iter()
             .find(|(cause, _)| reason.contains(cause))
             .map(|(_, number)| *number)
-            .ok_or_else(|| format!("an error that 01 doesn't know: {reason}")),
-        other => Err(format!("an error that 01 doesn't know: {other}")),
+            .ok_or_else(|| format!("an error without a number: {reason}")),
+        other => Err(format!("an error without a number: {other}")),
     }
 }
 
@@ -159,7 +159,7 @@ fn read_finding(input: &mut Reader) -> Result<Finding, String> {
 ///
 /// # Errors
 ///
-/// The published search fails for a reason that 01 doesn't know.
+/// The published search fails for a reason that has no number here.
 pub fn run(
     inputs: &Inputs,
     host: impl FnMut(&SeedNumbers) -> Finding + 'static,
@@ -214,7 +214,7 @@ fn result_words(
             Ok(vec![NOTHING_SCORED])
         }
         (Ok(_), None) => Err("a result without a best candidate".to_owned()),
-        (Err(error), _) => Err(format!("an error that 01 doesn't know: {error}")),
+        (Err(error), _) => Err(format!("an error without a number: {error}")),
     }
 }
 

@@ -28,7 +28,7 @@ pub fn seed_lists(input: &mut Reader) -> Result<Vec<u64>, String> {
     });
     seeds
         .map(|seeds| list_words(&seeds))
-        .map_err(|error| format!("an error that 01 doesn't know: {error}"))
+        .map_err(|error| format!("an error without a number: {error}"))
 }
 
 pub fn local_seed_grid(input: &mut Reader) -> Result<Vec<u64>, String> {

@@ -1,7 +1,7 @@
 //! Stand-in for `nalgebra`: the few types that the compared functions use.
 //!
 //! nalgebra's source isn't published with the files, so the order of its sums can't be compared;
-//! here they run as 01 says: from the first product, left to right, from the lowest index.
+//! here they run as docs/SPECIFICATION.md, 3.5, says: from the first product, left to right, from the lowest index.
 
 mod matrix;
 mod pose;

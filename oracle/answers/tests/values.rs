@@ -1,4 +1,4 @@
-//! 01's values on each side, through the oracle.
+//! Values worked out by hand, through the oracle.
 
 use oracle::operations::answer;
 use words::start::Inputs;
