@@ -6,7 +6,7 @@ from wheel.bdist_wheel import bdist_wheel
 
 class Wheel(bdist_wheel):
     def get_tag(self):
-        # The library needs memcpy, memmove and memset of the C library: GLIBC_2.14 at the latest.
+        # The library needs memcpy and memset of the C library: GLIBC_2.14 at the latest.
         return "py3", "none", "manylinux_2_17_x86_64"
 
 

@@ -6,15 +6,14 @@ ghost use Rattle.capi_records.specs.Journal.{flat_written, flat_read, record_rep
 
 use capi_records::journals::{LineRecord, ReadReply, WriteReply, read_reply};
 use common::Refusal;
-use journal::{Counts, Line, report, writing};
+use journal::{Counts, NumberedLine, report, writing};
 
 // Writes the line of a record. A record that is no line is refused before anything is written.
 fn write_record(flat: LineRecord, to: &mut [u8]) -> Result<usize, Refusal>
     ensures reply { result ≡ record_reply flat to.old }
     ensures written { to.new ≡ record_into flat to.old }
 {
-    let line = Line::try_from(flat)?;
-    writing::write_line(line, to)
+    writing::write_numbered(NumberedLine::from(flat), to)
 }
 
 // Writes the line's bytes to the front of `to`: 0 and how many they are, or 28.

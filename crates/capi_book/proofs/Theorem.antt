@@ -1,5 +1,5 @@
 -- The exported calls reply as the entry points do, and so as the reference model. Assumes nothing.
-use Rattle.std.proofs.Common.{ℕ, suc, ◌≤◌, arith, ◌≡◌, refl, ap, ◌∙◌, Bool, List, [], ◌∷◌, ◌++◌, le-leb, ltb-false, ne_eqb, length, take, drop, length-take, Float, sym, Option, Some, None, Result, Ok, Err}
+use Rattle.std.proofs.Common.{ℕ, suc, ◌≤◌, arith, ◌≡◌, refl, ap, ◌∙◌, Bool, false, eqb, List, [], ◌∷◌, ◌++◌, le-leb, ltb-false, ne_eqb, length, take, drop, length-take, Float, sym, Option, Some, None, Result, Ok, Err}
 use Rattle.std.proofs.Math.Seq.{take-append_seam}
 use Rattle.common.specs.declared.Refusal.{Refusal}
 use Rattle.common.specs.declared.Refusal.TheVariants.{TooFewViews, NoTilts, BadBound, BadStep, TooMany, BadSeed, TiltNotFinite, ListTooShort, SeedWaiting, ListShortened, NothingScored, NoSeedWaiting, BadRows, NotOver, SingularTilt, DegenerateViews, BadPoints, DestinationTooShort, Coincident, SourceNotFinite, DestinationNotFinite, TooFewPoints, CountsDiffer, SourceCollinear, DestinationCollinear, TiltTooLarge, NotWritable, NotALine, NotTheRun, TiltsOffAxis, SeedOffAxis, ShareTooLarge, NoSharedPower}
@@ -32,6 +32,14 @@ use Rattle.replay.specs.declared.KeptLines.{KeptLines}
 use Rattle.replay.specs.declared.Resumed.{Resumed}
 use Rattle.replay.specs.Replay.{of_no_line, reply_by, ReplayLeft, replay_from}
 use Rattle.replay.specs.Resume.{ResumeLeft, resume_from}
+use Rattle.score.specs.Reasons.{reason_numbered}
+use Rattle.capi_records.specs.declared.record.LastRecord.{LastRecord}
+use Rattle.capi_records.specs.declared.run.NextFlat.{NextFlat}
+use Rattle.capi_records.specs.declared.run.AnswerFlat.{AnswerFlat}
+use Rattle.capi_records.specs.declared.run.ResultFlat.{ResultFlat}
+use Rattle.capi_records.specs.declared.run.StopFlat.{StopFlat}
+use Rattle.capi_records.specs.declared.replays.ReplayFlat.{ReplayFlat}
+use Rattle.capi_records.specs.declared.replays.ResumeFlat.{ResumeFlat}
 use Rattle.capi_records.specs.Record.{run_from, flat_run}
 use Rattle.capi_records.specs.RoundTrip.{flag_comes_back, run_back, line_back}
 use Rattle.capi_records.specs.Run.{flat_started, flat_handed, flat_answered, flat_result, flat_stopped, flat_last_line, finding_of, copied, copy_count}
@@ -64,7 +72,7 @@ use Rattle.book_journal.proofs.Theorem.{journals_right}
 use Rattle.book_journal.specs.Theorem.{with_record}
 use Rattle.book_journal.proofs.Replayed.{replay_right}
 use Rattle.capi_book.specs.Exported.{Exported, call_next, call_seed, call_answer, call_result, call_progress, call_stop, call_last_line, call_counts, no_room, calls_of, all_calls, read_next, read_answer, read_result, read_progress, read_stop, read_last, refusal_with, read_replay, read_ended, read_kept_lines, read_resume, FlatStep, flat_call, flat_walk, flat_after, bytes_in, flat_line_bytes, flat_file}
-use Rattle.capi_book.specs.Theorem.{start_with, flat_start_list, ExportedStarts, ExportedIsWalk, ExportedIsBook, ExportedReplays, ExportedGivesBack, ExportedResumes}
+use Rattle.capi_book.specs.Theorem.{start_with, flat_start_list, whole_replay, whole_resume, NoReplysNumber, OtherNumbersUnread, ExportedStarts, ExportedIsWalk, ExportedIsBook, ExportedReplays, ExportedGivesBack, ExportedResumes}
 use Rattle.capi_book.specs.Theorem.{FlatReportRight, ExportedJournal, ExportedJournalGrows, ExportedReport, ExportedResumedReport, ExportedRight}
 
 -- ---- the record in a reply
@@ -114,36 +122,79 @@ refusal_read SeedOffAxis = refl
 refusal_read ShareTooLarge = refl
 refusal_read NoSharedPower = refl
 
-next_read : (h : Result Handed Refusal) (r : Run) → read_next (flat_handed h r) ≡ handed_reply h
+refusal_number_not_zero : (r : Refusal) → number_of r ≡ 0 → ⊥
+refusal_number_not_zero r h = let e : ◌≡◌ {A = Option Refusal} None (Some r) = ap refusal_with (sym h) ∙ refusal_read r in cc
+
+no_refusal_has_zero : (r : Refusal) → eqb (number_of r) 0 ≡ false
+no_refusal_has_zero r = ne_eqb (number_of r) 0 (refusal_number_not_zero r)
+
+next_read : (h : Result Handed Refusal) (r : Run) → read_next (flat_handed h r) ≡ handed_reply h ∷ []
 next_read (Ok (handed.Candidate n)) r = refl
 next_read (Ok handed.Over) r = refl
-next_read (Err e) r = rw (refusal_read e)
+next_read (Err e) r = simp (no_refusal_has_zero e, refusal_read e)
 
-result_read : (x : Result Candidate Refusal) → read_result (flat_result x) ≡ resulted_reply x
+result_read : (x : Result Candidate Refusal) → read_result (flat_result x) ≡ resulted_reply x ∷ []
 result_read (Ok w) = refl
-result_read (Err e) = rw (refusal_read e)
+result_read (Err e) = simp (no_refusal_has_zero e, refusal_read e)
 
 progress_read : (p : ProgressReply) → read_progress p ≡ progress_reply p
 progress_read p = refl
 
-outlook_read : (b : Option Candidate) (x : Option Float) (g : Bool) → let o : Outlook = record { best = b; floor = x; no_gain = g } in read_stop (flat_stopped (Ok o)) ≡ stopped_reply (Ok o)
+outlook_read : (b : Option Candidate) (x : Option Float) (g : Bool) → let o : Outlook = record { best = b; floor = x; no_gain = g } in read_stop (flat_stopped (Ok o)) ≡ stopped_reply (Ok o) ∷ []
 outlook_read None None g = refl
 outlook_read (Some w) None g = refl
 outlook_read None (Some x) g = rw (flag_comes_back g) refl
 outlook_read (Some w) (Some x) g = rw (flag_comes_back g) refl
 
-stop_read : (x : Result Outlook Refusal) → read_stop (flat_stopped x) ≡ stopped_reply x
+stop_read : (x : Result Outlook Refusal) → read_stop (flat_stopped x) ≡ stopped_reply x ∷ []
 stop_read (Ok o) = outlook_read o.best o.floor o.no_gain
-stop_read (Err e) = rw (refusal_read e)
+stop_read (Err e) = simp (no_refusal_has_zero e, refusal_read e)
 
-last_read : (x : Option Line) → read_last (flat_last_line x) ≡ last_reply x
+last_read : (x : Option Line) → read_last (flat_last_line x) ≡ last_reply x ∷ []
 last_read (Some l) = rw (line_back l)
 last_read None = refl
 
-answer_read : (x : Result Answered Refusal) (r : Run) → read_answer (flat_answered x r) ≡ answered_reply x
+answer_read : (x : Result Answered Refusal) (r : Run) → read_answer (flat_answered x r) ≡ answered_reply x ∷ []
 answer_read (Ok (answered.Scored s)) r = refl
 answer_read (Ok (answered.Skipped reason)) r = rw (reason_numbered_back reason)
-answer_read (Err e) r = rw (refusal_read e)
+answer_read (Err e) r = simp (no_refusal_has_zero e, refusal_read e)
+
+-- ---- other numbers are no reply's
+next_unread : (f : NextFlat) → NoReplysNumber f.number → read_next f ≡ []
+next_unread f h = simp (h.0, h.1)
+
+answer_unread : (f : AnswerFlat) → NoReplysNumber f.number → read_answer f ≡ []
+answer_unread f h = simp (h.0, h.1)
+
+result_unread : (f : ResultFlat) → NoReplysNumber f.number → read_result f ≡ []
+result_unread f h = simp (h.0, h.1)
+
+stop_unread : (f : StopFlat) → NoReplysNumber f.number → read_stop f ≡ []
+stop_unread f h = simp (h.0, h.1)
+
+replay_unread : (f : ReplayFlat) → NoReplysNumber f.number → read_replay f ≡ None
+replay_unread f h = simp (h.0, h.1)
+
+resume_unread : (f : ResumeFlat) → NoReplysNumber f.number → read_resume f ≡ None
+resume_unread f h = simp (h.0, h.1)
+
+skip_unread : (f : AnswerFlat) (e : Refusal) → f.number ≡ 0 → eqb f.skipped 0 ≡ false → reason_numbered f.skipped ≡ Err e → read_answer f ≡ []
+skip_unread f e n s r = simp (n, r, s)
+
+line_unread : (f : LastRecord) (e : Refusal) → eqb f.found 0 ≡ false → line_from f.line ≡ Err e → read_last f ≡ []
+line_unread f e n h = simp (n, h)
+
+pub other_numbers_unread : OtherNumbersUnread
+other_numbers_unread = record {
+  next_unread = next_unread;
+  answer_unread = answer_unread;
+  result_unread = result_unread;
+  stop_unread = stop_unread;
+  replay_unread = replay_unread;
+  resume_unread = resume_unread;
+  skip_unread = skip_unread;
+  line_unread = line_unread;
+}
 
 -- the waiting seed in a destination with room for it
 seed_part_le_six : (r : Run) (l : List Float) → length (seed_part r l) ≤ 6
@@ -180,30 +231,27 @@ call_reads : (r : Run) (l : List Float) (c : Exported) → Reads r l c (flat_cal
 unfolding flat_call run_call
 call_reads r l (call_next n) =
     let a = next_def r (take n l) in
-    asks (next n) refl (record { reply = rw (run_back r) (ap (λ (z : Reply). z ∷ []) (next_read a.reply a.run)); run = rw (run_back r) (flat_handed_keeps_run a.reply a.run); list = refl })
+    asks (next n) refl (record { reply = rw (run_back r) (next_read a.reply a.run); run = rw (run_back r) (flat_handed_keeps_run a.reply a.run); list = refl })
 call_reads r l (call_seed n to) = seed_call_reads r l n to
 call_reads r l (call_answer n solved camera rows flags) =
     let f = finding_of solved camera in
     let a = (answer_def r f rows flags (take n l)).reply in
     asks (answer n f rows flags) refl
     (record {
-      reply = rw (run_back r) (ap (λ (z : Reply). z ∷ []) (answer_read a.reply a.run));
+      reply = rw (run_back r) (answer_read a.reply a.run);
       run = rw (run_back r) (flat_answered_keeps_run a.reply a.run);
       list = rw (run_back r) refl;
     })
-call_reads r l call_result = asks ask refl (record { reply = rw (run_back r) (ap (λ (z : Reply). z ∷ []) (result_read (result_def r))); run = refl; list = refl })
+call_reads r l call_result = asks ask refl (record { reply = rw (run_back r) (result_read (result_def r)); run = refl; list = refl })
 call_reads r l call_progress = asks progress refl (record { reply = rw (run_back r) (ap (λ (z : Reply). z ∷ []) (progress_read (progress_def r))); run = refl; list = refl })
-call_reads r l (call_stop n) = asks (stop n) refl (record { reply = rw (run_back r) (ap (λ (z : Reply). z ∷ []) (stop_read (stop_def r (take n l)))); run = refl; list = refl })
-call_reads r l call_last_line = asks last refl (record { reply = rw (run_back r) (ap (λ (z : Reply). z ∷ []) (last_read (last_def r))); run = refl; list = refl })
+call_reads r l (call_stop n) = asks (stop n) refl (record { reply = rw (run_back r) (stop_read (stop_def r (take n l))); run = refl; list = refl })
+call_reads r l call_last_line = asks last refl (record { reply = rw (run_back r) (last_read (last_def r)); run = refl; list = refl })
 call_reads r l call_counts = asks counts refl (record { reply = rw (run_back r) refl; run = refl; list = refl })
 
 -- ---- the bytes of a line and of a report
-refusal_number_not_zero : (r : Refusal) → number_of r ≡ 0 → ⊥
-refusal_number_not_zero r h = let e : ◌≡◌ {A = Option Refusal} None (Some r) = ap refusal_with (sym h) ∙ refusal_read r in cc
-
 line_front_read : (m : Line) (w : Result ℕ Refusal) → bytes_in (flat_written w) (write_into m buffer) ≡ front m w
 line_front_read m (Ok n) = refl
-line_front_read m (Err e) = rw (ne_eqb (number_of e) 0 (refusal_number_not_zero e))
+line_front_read m (Err e) = rw (no_refusal_has_zero e)
 
 written_read : (f : LineRecord) (m : Line) → line_from f ≡ Ok m → bytes_in (flat_written (record_reply f buffer)) (record_into f buffer) ≡ front m (write_reply m buffer)
 written_read f m h = rw (record_reply, record_into, h) (line_front_read m (write_reply m buffer))
@@ -214,7 +262,7 @@ line_bytes_read (Some m) = written_read (flat_line m) m (line_back m)
 
 report_bytes_read : (c : Counts) (w : Result ℕ Refusal) → bytes_in (flat_written w) (report_into c small_buffer) ≡ report_of c w
 report_bytes_read c (Ok n) = refl
-report_bytes_read c (Err e) = rw (ne_eqb (number_of e) 0 (refusal_number_not_zero e))
+report_bytes_read c (Err e) = rw (no_refusal_has_zero e)
 
 -- ---- any calls: the replies, the record and the file are those of the walk
 record Along (r : Run) (l : List Float) (cs : List Exported) : Type 0 where
@@ -261,24 +309,24 @@ exported_is_book i o l e h cs =
     rw (e, a.1) (exported_is_walk a.0 (started_list i l) cs ∙ ((search_is_book i l).follows a.0 a.1 (all_calls cs)).same_replies)
 
 -- ---- a journal run again: no refusal has the number 0, and no line has
-standing_read : (s : Result Standing Refusal) → read_replay (flat_replayed (of_no_line s)) ≡ of_no_line s
+standing_read : (s : Result Standing Refusal) → read_replay (flat_replayed (of_no_line s)) ≡ Some (of_no_line s)
 standing_read (Ok (Winner n s)) = refl
 standing_read (Ok (Unfinished s)) = refl
-standing_read (Err r) = rw (refusal_read r)
+standing_read (Err r) = simp (no_refusal_has_zero r, refusal_read r)
 
-reply_read : (s : WalkEnd) (n : ℕ) (a : Result Standing Refusal) → read_replay (flat_replayed (reply_by s n a)) ≡ reply_by s n a
+reply_read : (s : WalkEnd) (n : ℕ) (a : Result Standing Refusal) → read_replay (flat_replayed (reply_by s n a)) ≡ Some (reply_by s n a)
 reply_read walk_end.AllTaken n a = standing_read a
 reply_read walk_end.NotALine n a = simp (ne_eqb (suc n) 0 (λ z. omega arith))
 reply_read walk_end.NotTheRun n a = simp (ne_eqb (suc n) 0 (λ z. omega arith))
 
-replay_read : (i : Inputs) (l : List Float) (bs : List ℕ) → read_replay (flat_replayed (replay_of i l bs).reply) ≡ (replay_of i l bs).reply
+replay_read : (i : Inputs) (l : List Float) (bs : List ℕ) → read_replay (flat_replayed (replay_of i l bs).reply) ≡ Some (replay_of i l bs).reply
 unfolding replay_of
 replay_read i l bs =
     let w = walked i l bs in
     case_result (start_refused i (length l)) (λ u z. rw (z, replay_of) (reply_read w.walk_end w.taken (standing w.book))) (λ r z. rw (z, replay_of) (standing_read (Err r)))
 
-equal_replay_left_read : (a b : ReplayLeft) → a ≡ b → read_replay (flat_replayed b.reply) ≡ b.reply → record { reply = read_replay (flat_replayed a.reply); list = a.list } ≡ b
-equal_replay_left_read a b e h = rw e (ap (λ (x : Result Standing ReplayRefusal). record { reply = x; list = b.list }) h)
+equal_replay_left_read : (a b : ReplayLeft) → a ≡ b → read_replay (flat_replayed b.reply) ≡ Some b.reply → record { reply = read_replay (flat_replayed a.reply); list = a.list } ≡ whole_replay b
+equal_replay_left_read a b e h = rw e (ap (λ (x : Option (Result Standing ReplayRefusal)). record { reply = x; list = b.list }) h)
 
 pub exported_replays : ExportedReplays
 exported_replays i o l bs e =
@@ -294,12 +342,12 @@ ended_read (by.WalkEnded walk_end.NotTheRun) = refl
 report_read : (r : Run) (q : KeptLines) → read_kept_lines (flat_resumed (Ok (record { run = r; kept_lines = q }))) ≡ q
 report_read r q = rw (ended_read q.ended_by) refl
 
-resume_read : (x : BookResumed) → read_resume (flat_resumed (with_record x).reply) ≡ (with_record x).reply
+resume_read : (x : BookResumed) → read_resume (flat_resumed (with_record x).reply) ≡ Some (with_record x).reply
 resume_read (resumed b m q) = rw (run_back (run_of b), report_read (run_of b) q)
-resume_read (not_resumed e m) = rw (refusal_read e)
+resume_read (not_resumed e m) = simp (no_refusal_has_zero e, refusal_read e)
 
-equal_resume_left_read : (a b : ResumeLeft) → a ≡ b → read_resume (flat_resumed b.reply) ≡ b.reply → record { reply = read_resume (flat_resumed a.reply); list = a.list } ≡ b
-equal_resume_left_read a b e h = rw e (ap (λ (x : Result Resumed Refusal). record { reply = x; list = b.list }) h)
+equal_resume_left_read : (a b : ResumeLeft) → a ≡ b → read_resume (flat_resumed b.reply) ≡ Some b.reply → record { reply = read_resume (flat_resumed a.reply); list = a.list } ≡ whole_resume b
+equal_resume_left_read a b e h = rw e (ap (λ (x : Option (Result Resumed Refusal)). record { reply = x; list = b.list }) h)
 
 pub exported_gives_back : ExportedGivesBack
 exported_gives_back i o l bs e =
@@ -372,6 +420,7 @@ exported_journal_grows i o l bs e f h cs =
 
 pub exported_right : ExportedRight
 exported_right = record {
+  other_numbers_unread = other_numbers_unread;
   exported_starts = exported_starts;
   exported_is_walk = exported_is_walk;
   exported_is_book = exported_is_book;

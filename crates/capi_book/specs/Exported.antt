@@ -77,7 +77,8 @@ unfoldable pub all_calls : List Exported → List Call
 all_calls [] = []
 all_calls (c ∷ cs) = calls_of c ++ all_calls cs
 
--- ---- what a host reads off a reply: a refusal by its number, and otherwise the fields that the flags name
+-- ---- what a host reads off a reply: where its number is 0 the fields that the flags name, and otherwise the refusal
+-- that has the number. A number of no refusal is no reply, and neither is a skip number of no reason.
 abbrev pub refusals : List Refusal
 refusals = TooFewViews ∷ NoTilts ∷ BadBound ∷ BadStep ∷ TooMany ∷ BadSeed ∷ TiltNotFinite ∷ ListTooShort ∷ SeedWaiting ∷ ListShortened ∷ NothingScored ∷ NoSeedWaiting ∷ BadRows ∷ NotOver ∷ SingularTilt ∷ DegenerateViews ∷ BadPoints ∷ DestinationTooShort ∷ Coincident ∷ SourceNotFinite ∷ DestinationNotFinite ∷ TooFewPoints ∷ CountsDiffer ∷ SourceCollinear ∷ DestinationCollinear ∷ TiltTooLarge ∷ NotWritable ∷ NotALine ∷ NotTheRun ∷ TiltsOffAxis ∷ SeedOffAxis ∷ ShareTooLarge ∷ NoSharedPower ∷ []
 
@@ -89,50 +90,54 @@ first_with n (r ∷ rs) = cond (eqb n (number_of r)) (Some r) (first_with n rs)
 abbrev pub refusal_with : ℕ → Option Refusal
 refusal_with n = first_with n refusals
 
--- a refusal, or else the answer
-abbrev pub unless_refused : Option Refusal → Reply → Reply
-unless_refused (Some r) a = refused r
-unless_refused None a = a
+-- a refusal, if the number is one's
+abbrev pub refused_with : Option Refusal → List Reply
+refused_with (Some r) = refused r ∷ []
+refused_with None = []
 
-abbrev pub refused_or : ℕ → Reply → Reply
-refused_or n a = unless_refused (refusal_with n) a
+-- the answer where the number is 0, and else the refusal
+abbrev pub refused_or : ℕ → List Reply → List Reply
+refused_or n a = cond (eqb n 0) a (refused_with (refusal_with n))
 
-abbrev pub read_next : NextFlat → Reply
-read_next f = refused_or f.number (cond (eqb f.over 0) (candidate f.candidate) over)
+abbrev pub read_next : NextFlat → List Reply
+read_next f = refused_or f.number (cond (eqb f.over 0) (candidate f.candidate) over ∷ [])
 
--- a skip for the reason that a number names, or else a score
-abbrev pub skipped_or : Result SkipReason Refusal → Float → Reply
-skipped_or (Ok reason) s = skipped reason
-skipped_or (Err none) s = scored s
+-- a skip for the reason that the skip number names, and a score where it is 0
+abbrev pub skipped_or : Result SkipReason Refusal → AnswerFlat → List Reply
+skipped_or (Ok reason) f = skipped reason ∷ []
+skipped_or (Err none) f = cond (eqb f.skipped 0) (scored f.score ∷ []) []
 
-abbrev pub read_answer : AnswerFlat → Reply
-read_answer f = refused_or f.number (skipped_or (reason_numbered f.skipped) f.score)
+abbrev pub read_answer : AnswerFlat → List Reply
+read_answer f = refused_or f.number (skipped_or (reason_numbered f.skipped) f)
 
-abbrev pub read_result : ResultFlat → Reply
-read_result f = refused_or f.number (result f.candidate)
+abbrev pub read_result : ResultFlat → List Reply
+read_result f = refused_or f.number (result f.candidate ∷ [])
 
 abbrev pub read_progress : ProgressReply → Reply
 read_progress p = bar (record { round = p.round; rounds = p.rounds; answered = p.answered; total = p.total; in_run = p.answered_in_run })
 
-abbrev pub read_stop : StopFlat → Reply
+abbrev pub read_stop : StopFlat → List Reply
 read_stop f =
     refused_or f.number
-    (stopped (cond (eqb f.has_best 0) nothing (chosen f.best)) (cond (eqb f.has_floor 0) nothing_left (floor f.floor (is_set f.no_gain))))
+    (stopped (cond (eqb f.has_best 0) nothing (chosen f.best)) (cond (eqb f.has_floor 0) nothing_left (floor f.floor (is_set f.no_gain))) ∷ [])
 
-abbrev pub line_or_none : Result Line Refusal → Reply
-line_or_none (Ok l) = line l
-line_or_none (Err none) = no_line
+abbrev pub read_line_in : Result Line Refusal → List Reply
+read_line_in (Ok l) = line l ∷ []
+read_line_in (Err none) = []
 
-abbrev pub read_last : LastRecord → Reply
-read_last f = cond (eqb f.found 0) no_line (line_or_none (line_from f.line))
+abbrev pub read_last : LastRecord → List Reply
+read_last f = cond (eqb f.found 0) (no_line ∷ []) (read_line_in (line_from f.line))
 
 -- off jc_replay's reply: with a refusal also the line's number, if there is one
-abbrev pub replay_unless : Option Refusal → ReplayFlat → Result Standing ReplayRefusal
-replay_unless (Some r) f = Err (cond (eqb f.line_number 0) (Refused r) (At r f.line_number))
-replay_unless None f = Ok (cond (eqb f.is_over 0) (Unfinished f.next) (Winner f.candidate f.score))
+abbrev pub replay_refused_with : Option Refusal → ReplayFlat → Option (Result Standing ReplayRefusal)
+replay_refused_with (Some r) f = Some (Err (cond (eqb f.line_number 0) (Refused r) (At r f.line_number)))
+replay_refused_with None f = None
 
-abbrev pub read_replay : ReplayFlat → Result Standing ReplayRefusal
-read_replay f = replay_unless (refusal_with f.number) f
+abbrev pub read_replay : ReplayFlat → Option (Result Standing ReplayRefusal)
+read_replay f =
+    cond (eqb f.number 0)
+    (Some (Ok (cond (eqb f.is_over 0) (Unfinished f.next) (Winner f.candidate f.score))))
+    (replay_refused_with (refusal_with f.number) f)
 
 -- off jc_resume's reply: the run and the report
 abbrev pub read_ended : ℕ → EndedBy
@@ -141,12 +146,13 @@ read_ended n = cond (eqb n 1) by.MissingNewline (by.WalkEnded (cond (eqb n 0) wa
 abbrev pub read_kept_lines : ResumeFlat → KeptLines
 read_kept_lines f = record { lines = f.lines; kept = f.kept; dropped = f.dropped; ended_by = read_ended f.ended_by }
 
-abbrev pub resumed_unless : Option Refusal → ResumeFlat → Result Resumed Refusal
-resumed_unless (Some r) f = Err r
-resumed_unless None f = Ok (record { run = run_from f.run; kept_lines = read_kept_lines f })
+abbrev pub resume_refused_with : Option Refusal → Option (Result Resumed Refusal)
+resume_refused_with (Some r) = Some (Err r)
+resume_refused_with None = None
 
-abbrev pub read_resume : ResumeFlat → Result Resumed Refusal
-read_resume f = resumed_unless (refusal_with f.number) f
+abbrev pub read_resume : ResumeFlat → Option (Result Resumed Refusal)
+read_resume f =
+    cond (eqb f.number 0) (Some (Ok (record { run = run_from f.run; kept_lines = read_kept_lines f }))) (resume_refused_with (refusal_with f.number))
 
 -- ---- what is read off a call, one reply or none, and the record and the whole lent list after it
 pub record FlatStep : Type 0 where
@@ -155,18 +161,18 @@ pub record FlatStep : Type 0 where
   pub list : List Float
 
 unfoldable pub flat_call : RunRecord → List Float → Exported → FlatStep
-flat_call r l (call_next n) = let f = flat_next (next_def (run_from r) (take n l)) in record { reply = read_next f ∷ []; run = f.run; list = l }
+flat_call r l (call_next n) = let f = flat_next (next_def (run_from r) (take n l)) in record { reply = read_next f; run = f.run; list = l }
 flat_call r l (call_seed n to) =
     let seed = seed_part (run_from r) (take n l) in
     record { reply = cond (no_room to) [] (part (take (copy_count seed to) (copied seed to)) ∷ []); run = r; list = l }
 flat_call r l (call_answer n solved camera rows flags) =
     let a = answer_def (run_from r) (finding_of solved camera) rows flags (take n l) in
     let f = flat_answer a.reply in
-    record { reply = read_answer f ∷ []; run = f.run; list = a.list ++ drop n l }
-flat_call r l call_result = record { reply = read_result (flat_result (result_def (run_from r))) ∷ []; run = r; list = l }
+    record { reply = read_answer f; run = f.run; list = a.list ++ drop n l }
+flat_call r l call_result = record { reply = read_result (flat_result (result_def (run_from r))); run = r; list = l }
 flat_call r l call_progress = record { reply = read_progress (progress_def (run_from r)) ∷ []; run = r; list = l }
-flat_call r l (call_stop n) = record { reply = read_stop (flat_stopped (stop_def (run_from r) (take n l))) ∷ []; run = r; list = l }
-flat_call r l call_last_line = record { reply = read_last (flat_last_line (last_def (run_from r))) ∷ []; run = r; list = l }
+flat_call r l (call_stop n) = record { reply = read_stop (flat_stopped (stop_def (run_from r) (take n l))); run = r; list = l }
+flat_call r l call_last_line = record { reply = read_last (flat_last_line (last_def (run_from r))); run = r; list = l }
 flat_call r l call_counts = record { reply = counted (counts_def (run_from r)) ∷ []; run = r; list = l }
 
 unfoldable pub flat_walk : RunRecord → List Float → List Exported → List Reply

@@ -1,12 +1,22 @@
 -- What holds of the exported calls, as types. `capi_book/proofs/Theorem.antt` proves them. Definitions only.
-use Rattle.std.specs.Prelude.{ℕ, ◌≡◌, List, ◌++◌, length, take, Float, Result}
+use Rattle.std.specs.Prelude.{ℕ, ◌≡◌, false, eqb, List, [], ◌++◌, length, take, Float, Option, Some, None, Result, Err}
 use Rattle.common.specs.Each.{All}
 use Rattle.common.specs.declared.Refusal.{Refusal}
 use Rattle.common.specs.Number.{number_of}
 use Rattle.search.specs.declared.run.Run.{Run}
 use Rattle.search.specs.Start.{start_reply, start_list}
 use Rattle.capi_records.specs.declared.record.OptionsRecord.{OptionsRecord}
+use Rattle.score.specs.Reasons.{reason_numbered}
+use Rattle.replay.specs.declared.Standing.{Standing}
+use Rattle.replay.specs.declared.ReplayRefusal.{ReplayRefusal}
+use Rattle.replay.specs.declared.Resumed.{Resumed}
+use Rattle.capi_records.specs.declared.record.LastRecord.{LastRecord}
 use Rattle.capi_records.specs.declared.run.StartFlat.{StartFlat}
+use Rattle.capi_records.specs.declared.run.NextFlat.{NextFlat}
+use Rattle.capi_records.specs.declared.run.AnswerFlat.{AnswerFlat}
+use Rattle.capi_records.specs.declared.run.ResultFlat.{ResultFlat}
+use Rattle.capi_records.specs.declared.run.StopFlat.{StopFlat}
+use Rattle.capi_records.specs.Journal.{line_from}
 use Rattle.capi_records.specs.declared.replays.ReplayFlat.{ReplayFlat}
 use Rattle.capi_records.specs.declared.replays.ResumeFlat.{ResumeFlat}
 use Rattle.capi_records.specs.declared.record.RunRecord.{RunRecord}
@@ -28,7 +38,7 @@ use Rattle.book_journal.specs.History.{InputsFit, CallFits}
 use Rattle.book_journal.specs.Replay.{walked, replay_of}
 use Rattle.book_journal.specs.Resume.{resume_of}
 use Rattle.book_journal.specs.Theorem.{with_record}
-use Rattle.capi_book.specs.Exported.{Exported, all_calls, read_replay, read_kept_lines, read_resume, flat_walk, flat_after, flat_file, flat_report}
+use Rattle.capi_book.specs.Exported.{Exported, all_calls, refusal_with, read_next, read_answer, read_result, read_stop, read_last, read_replay, read_kept_lines, read_resume, flat_walk, flat_after, flat_file, flat_report}
 
 -- Start's reply, with the options that the record o is read as
 abbrev pub start_with : Inputs → OptionsRecord → List Float → Result Run Refusal
@@ -70,20 +80,31 @@ flat_resume i o l bs = flat_resumed (resume_from (start_with i o l) (flat_start_
 abbrev pub flat_resume_list : Inputs → OptionsRecord → List Float → List ℕ → List Float
 flat_resume_list i o l bs = (resume_from (start_with i o l) (flat_start_list i o l) bs).list
 
--- what a host reads off them
-abbrev pub replay_left : Inputs → OptionsRecord → List Float → List ℕ → ReplayLeft
+-- What a host has after such a call: what it reads off the reply, or nothing where the number is no refusal's; and the
+-- list.
+pub record HostHas (A : Type 0) : Type 0 where
+  pub reply : Option A
+  pub list : List Float
+
+abbrev pub replay_left : Inputs → OptionsRecord → List Float → List ℕ → HostHas (Result Standing ReplayRefusal)
 replay_left i o l bs = record { reply = read_replay (flat_replay i o l bs); list = flat_replay_list i o l bs }
 
-abbrev pub resume_left : Inputs → OptionsRecord → List Float → List ℕ → ResumeLeft
+abbrev pub resume_left : Inputs → OptionsRecord → List Float → List ℕ → HostHas (Result Resumed Refusal)
 resume_left i o l bs = record { reply = read_resume (flat_resume i o l bs); list = flat_resume_list i o l bs }
+
+abbrev pub whole_replay : ReplayLeft → HostHas (Result Standing ReplayRefusal)
+whole_replay a = record { reply = Some a.reply; list = a.list }
+
+abbrev pub whole_resume : ResumeLeft → HostHas (Result Resumed Refusal)
+whole_resume a = record { reply = Some a.reply; list = a.list }
 
 -- The reply and the list of jc_replay are those of the reference model.
 abbrev pub ExportedReplays : Type 0
-ExportedReplays = (i : Inputs) (o : OptionsRecord) (l : List Float) (bs : List ℕ) → options_from o ≡ options_of i → replay_left i o l bs ≡ replay_of i l bs
+ExportedReplays = (i : Inputs) (o : OptionsRecord) (l : List Float) (bs : List ℕ) → options_from o ≡ options_of i → replay_left i o l bs ≡ whole_replay (replay_of i l bs)
 
 -- The reply of jc_resume is the record of the model's run and its report, and its list is the model's.
 abbrev pub ExportedGivesBack : Type 0
-ExportedGivesBack = (i : Inputs) (o : OptionsRecord) (l : List Float) (bs : List ℕ) → options_from o ≡ options_of i → resume_left i o l bs ≡ with_record (resume_of i l bs)
+ExportedGivesBack = (i : Inputs) (o : OptionsRecord) (l : List Float) (bs : List ℕ) → options_from o ≡ options_of i → resume_left i o l bs ≡ whole_resume (with_record (resume_of i l bs))
 
 -- After a jc_resume that refuses nothing, every list of exported calls gets the replies of the book that the kept lines
 -- lead to.
@@ -116,8 +137,23 @@ abbrev pub ExportedResumedReport : Type 0
 ExportedResumedReport = (i : Inputs) (o : OptionsRecord) (l : List Float) (bs : List ℕ) → options_from o ≡ options_of i → InputsFit i → (flat_resume i o l bs).number ≡ 0
     → (cs : List Exported) → All CallFits (all_calls cs) → FlatReportRight (flat_resume i o l bs).run (resume_left i o l bs).list cs (after (walked i l bs).book (all_calls cs))
 
+-- ---- A number of no refusal is no reply, whatever else the record holds; and neither is a skip number of no reason.
+abbrev pub NoReplysNumber : ℕ → Type 0
+NoReplysNumber n = (eqb n 0 ≡ false) × (refusal_with n ≡ None)
+
+pub record OtherNumbersUnread : Type 0 where
+  pub next_unread : (f : NextFlat) → NoReplysNumber f.number → read_next f ≡ []
+  pub answer_unread : (f : AnswerFlat) → NoReplysNumber f.number → read_answer f ≡ []
+  pub result_unread : (f : ResultFlat) → NoReplysNumber f.number → read_result f ≡ []
+  pub stop_unread : (f : StopFlat) → NoReplysNumber f.number → read_stop f ≡ []
+  pub replay_unread : (f : ReplayFlat) → NoReplysNumber f.number → read_replay f ≡ None
+  pub resume_unread : (f : ResumeFlat) → NoReplysNumber f.number → read_resume f ≡ None
+  pub skip_unread : (f : AnswerFlat) (e : Refusal) → f.number ≡ 0 → eqb f.skipped 0 ≡ false → reason_numbered f.skipped ≡ Err e → read_answer f ≡ []
+  pub line_unread : (f : LastRecord) (e : Refusal) → eqb f.found 0 ≡ false → line_from f.line ≡ Err e → read_last f ≡ []
+
 -- ---- all of it
 pub record ExportedRight : Type 0 where
+  pub other_numbers_unread : OtherNumbersUnread
   pub exported_starts : ExportedStarts
   pub exported_is_walk : ExportedIsWalk
   pub exported_is_book : ExportedIsBook

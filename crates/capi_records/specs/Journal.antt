@@ -1,6 +1,6 @@
 -- A line of the journal as a flat record, the way back, and the replies of its writer and its reader. What a skipped
 -- line or a refusal leaves out is 0. Definitions only.
-use Rattle.std.specs.Prelude.{ℕ, List, Result, Ok, Err}
+use Rattle.std.specs.Prelude.{ℕ, cond, eqb, List, Result, Ok, Err}
 use Rattle.common.specs.declared.Refusal.{Refusal}
 use Rattle.common.specs.declared.Refusal.TheVariants as refusal
 use Rattle.common.specs.Number.{number_of}
@@ -9,6 +9,7 @@ use Rattle.float.specs.Literals.{plus_zero}
 use Rattle.camera.specs.declared.intrinsics.FxFyCxCy.{FxFyCxCy}
 use Rattle.seeds.specs.declared.CandidateSeed.{CandidateSeed}
 use Rattle.journal.specs.declared.Line.{Line}
+use Rattle.journal.specs.declared.NumberedLine.{NumberedLine}
 use Rattle.journal.specs.declared.ScoredFields.{ScoredFields}
 use Rattle.journal.specs.Outcome.{Recorded, recorded_with}
 use Rattle.journal.specs.Writing.{write_reply, write_into}
@@ -22,6 +23,9 @@ use Rattle.capi_records.specs.declared.journals.ReadReply.{ReadReply}
 -- can't be written
 abbrev pub fields_in : LineRecord → ScoredFields
 fields_in l = record { score = l.score; mean = l.mean; k = l.k; p1 = l.p1; p2 = l.p2 }
+
+abbrev pub numbered_from : LineRecord → NumberedLine
+numbered_from l = record { number = l.number; round = l.round; seed = l.seed; outcome = cond (eqb l.skipped 0) (Ok (fields_in l)) (Err l.skipped) }
 
 abbrev pub recorded_from : LineRecord → Result Recorded Refusal
 recorded_from l = recorded_with l.skipped (fields_in l)

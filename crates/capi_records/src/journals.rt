@@ -1,13 +1,13 @@
 // A line of the journal, and the replies of its writer and its reader.
 // Each struct has the fields of the one in include/jinnychair.h, in its order.
 ghost use Rattle.std.specs.Prelude.{◌≡◌};
-ghost use Rattle.capi_records.specs.Journal.{fields_in, flat_scored, line_from, flat_line, flat_written, flat_read};
+ghost use Rattle.capi_records.specs.Journal.{fields_in, flat_scored, numbered_from, line_from, flat_line, flat_written, flat_read};
 
 use crate::lists::refusal_number;
 use camera::intrinsics::FxFyCxCy;
 use common::Refusal;
 use journal::outcome::recorded_with;
-use journal::{Line, Read, ScoredFields};
+use journal::{Line, NumberedLine, Read, ScoredFields};
 use seeds::CandidateSeed;
 
 // A line's fields. The line is scored where `skipped` is 0; else `skipped` is the reason, and `score` and the fields
@@ -73,6 +73,31 @@ impl From<ScoredFields> for LineRecord {
             p1: fields.p1,
             p2: fields.p2,
             ..LineRecord::default()
+        }
+    }
+}
+
+// The line that a record says, whatever its skip number is.
+impl From<LineRecord> for NumberedLine {
+    ghost from_gives = { λ flat line. line ≡ numbered_from flat };
+
+    fn from(flat: LineRecord) -> NumberedLine {
+        let LineRecord {
+            number,
+            round,
+            seed,
+            skipped,
+            ..
+        } = flat;
+        let numbered = match skipped {
+            0 => Ok(flat.into()),
+            reason => Err(reason),
+        };
+        NumberedLine {
+            number,
+            round,
+            seed,
+            outcome: numbered,
         }
     }
 }

@@ -192,6 +192,8 @@ pub fn copy_part(part: &[f64], to: &mut [f64]) -> usize
     if to.len() < count {
         return 0;
     }
-    to[..count].copy_from_slice(part);
+    for (i, number) in part.iter().enumerate() {
+        to[i] = *number;
+    }
     count
 }

@@ -1,5 +1,6 @@
-// Rust's `abs`, `is_finite`, `min`, `max`, `clamp`, `to_bits` and `from_bits` on f64, each equal to a definition over
-// the kit's IEEE 754 values; whether a list's numbers are all finite; and whether a number is within a limit.
+// Rust's `abs`, `is_finite`, `is_nan`, `min`, `max`, `clamp`, `to_bits` and `from_bits` on f64, each equal to a
+// definition over the kit's IEEE 754 values; whether a list's numbers are all finite; and whether a number is within a
+// limit.
 
 #![tactic(auto)]
 
@@ -41,12 +42,18 @@ pub fn all_finite(numbers: &[f64]) -> bool
     numbers.iter().all(|x| is_finite(*x))
 }
 
+pub fn is_nan(x: f64) -> bool
+    ensures { result ≡ is_nan x }
+{
+    x.is_nan()
+}
+
 // The second where it is the better one or the first is NaN, and otherwise the first. It is used in place of std's
 // `min` and `max`, which leave open which of two equal zeros they give.
 fn better_of(x: f64, y: f64, second: bool) -> f64
     ensures { result ≡ cond (is_nan x) y (cond second y x) }
 {
-    if x.is_nan() {
+    if is_nan(x) {
         return y;
     }
     if second { y } else { x }

@@ -1,10 +1,9 @@
 -- What the parser's loops read. Assumes nothing.
-use Rattle.std.proofs.Common.{ℕ, zero, suc, ◌+◌, ◌*◌, ◌^◌, ◌-◌, ◌<◌, ◌≤◌, ◌≡◌, refl, sym, ap, ◌∙◌, Bool, true, false, cond, ◌&&◌, List, [], ◌∷◌, ◌++◌, append-nil, add-one, mul-le-mul_right, arith, eqb, length, get_or, take, drop, set, take-suc-set, take_all, Float}
+use Rattle.std.proofs.Common.{ℕ, zero, suc, ◌+◌, ◌*◌, ◌^◌, ◌-◌, ◌<◌, ◌≤◌, ◌≡◌, refl, sym, ap, ◌∙◌, cond, ◌&&◌, List, [], ◌∷◌, ◌++◌, append-nil, add-one, mul-le-mul_right, arith, eq-eqb, ne_eqb, eqb, length, get_or, take, drop, set, drop_of_length-le, drop-cons, take-suc-set, take_all, Float}
 use native.Mathlib.Nat.{pow-le-pow_right}
 use lib.Seq.{append_snoc}
 use Rattle.std.proofs.lemmas.List.{get_or-take}
-use Rattle.std.specs.List.{count_by, starts_with}
-use Rattle.std.proofs.lemmas.List.Recursion.{is_count_by}
+use Rattle.std.specs.List.{starts_with}
 use Rattle.journal.specs.Reading.{digit_of, number_at, real_at, reals, begins, newlines}
 use Rattle.journal.proofs.DigitLaws.{number_at_lt_pow_16}
 
@@ -40,13 +39,21 @@ starts_with_is_begins (c ∷ w) [] = refl
 starts_with_is_begins (c ∷ w) (d ∷ s) = ap (λ b. eqb c d && b) (starts_with_is_begins w s)
 
 -- ---- newlines
-pub newlines_is_count_by : (s : List ℕ) → newlines s ≡ count_by (λ c. eqb c 10) s
+newlines_from : (s : List ℕ) (i : ℕ) → i < length s → newlines (drop i s) ≡ cond (eqb (get_or s i 0) 10) 1 0 + newlines (drop (i + 1) s)
 unfolding newlines
-newlines_is_count_by s = is_count_by newlines (λ c. eqb c 10) refl (λ c t. one_more (eqb c 10) (newlines t)) s
-  where
-    one_more : (b : Bool) (n : ℕ) → cond b 1 0 + n ≡ cond b (1 + n) n
-    one_more true n = refl
-    one_more false n = omega arith
+newlines_from s i h = rw (add-one, drop-cons s i 0 h)
+
+pub newlines_from_newline : (s : List ℕ) (i : ℕ) → i < length s → get_or s i 0 ≡ 10 → newlines (drop i s) ≡ 1 + newlines (drop (i + 1) s)
+newlines_from_newline s i h e = newlines_from s i h ∙ simp (eq-eqb (get_or s i 0) 10 e)
+
+pub newlines_from_other : (s : List ℕ) (i : ℕ) → i < length s → (get_or s i 0 ≡ 10 → ⊥) → newlines (drop i s) ≡ newlines (drop (i + 1) s)
+newlines_from_other s i h e =
+    let g : newlines (drop i s) ≡ 0 + newlines (drop (i + 1) s) = newlines_from s i h ∙ simp (ne_eqb (get_or s i 0) 10 e) in
+    omega (arith, g)
+
+pub no_newlines_behind_end : (s : List ℕ) (i : ℕ) → length s ≤ i → newlines (drop i s) ≡ 0
+unfolding newlines
+no_newlines_behind_end s i h = rw (drop_of_length-le s h)
 
 -- ---- reals
 -- the first i stand in the list, and the rest is still to be read

@@ -1,5 +1,6 @@
 pub mod Counts
 pub mod Line
+pub mod Numbered
 pub mod Outcome
 pub mod Reading
 pub mod Report

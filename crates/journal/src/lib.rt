@@ -38,6 +38,16 @@ pub struct Line {
     pub outcome: Recorded,
 }
 
+// A line whose reason for a skip is a number, as other languages have it: one that no reason has is no line of the
+// journal.
+#[derive(Clone, Copy)]
+pub struct NumberedLine {
+    pub number: usize,
+    pub round: usize,
+    pub seed: CandidateSeed,
+    pub outcome: Result<ScoredFields, u8>,
+}
+
 // How many candidates were scored, and how many skipped for each reason.
 #[repr(C)]
 #[derive(Clone, Copy, Default)]

@@ -2,10 +2,11 @@
 
 ghost use Rattle.std.specs.Prelude.{◌≡◌};
 ghost use Rattle.journal.specs.Line.{eight};
+ghost use Rattle.journal.specs.Numbered.{line_numbered};
 ghost use Rattle.journal.specs.Outcome.{fields_of, recorded_as, scoring_in, outcome_in, recorded_with};
 ghost use Rattle.journal.specs.Reading.{scored_at};
 
-use crate::{Recorded, ScoredFields};
+use crate::{Line, NumberedLine, Recorded, ScoredFields};
 use camera::distortion::BrownConrady5;
 use camera::intrinsics::FxFyCxCy;
 use common::Refusal;
@@ -81,6 +82,26 @@ impl From<[f64; 8]> for ScoredFields {
             p1: numbers[6],
             p2: numbers[7],
         }
+    }
+}
+
+// A number that no reason has is refused: no line of the journal has it.
+impl TryFrom<NumberedLine> for Line {
+    type Error = Refusal;
+
+    ghost try_from_gives = { λ numbered line. line ≡ line_numbered numbered };
+
+    fn try_from(numbered: NumberedLine) -> Result<Line, Refusal> {
+        let outcome = match numbered.outcome {
+            Ok(fields) => Ok(fields),
+            Err(reason) => Err(SkipReason::try_from(reason)?),
+        };
+        Ok(Line {
+            number: numbered.number,
+            round: numbered.round,
+            seed: numbered.seed,
+            outcome,
+        })
     }
 }
 

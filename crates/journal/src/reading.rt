@@ -151,7 +151,13 @@ fn begins_with(s: &[u8], w: &[u8]) -> bool
 pub fn count_newlines(s: &[u8]) -> usize
     ensures { (result ≡ newlines s.now) × (result ≤ length s.now) }
 {
-    s.iter().filter(|c| **c == b'\n').count()
+    let mut count = 0;
+    for c in s {
+        if *c == b'\n' {
+            count += 1;
+        }
+    }
+    count
 }
 
 // The number of the line that stands at a place. Bytes and place are two parameters, here and in `read_line`: the

@@ -4,10 +4,11 @@
 // is in the buffer.
 ghost use Rattle.std.specs.Prelude.{◌≡◌, [], ◌∷◌, ◌++◌, map, ◌+◌, ◌*◌, ◌<◌, ◌≤◌, length, replicate};
 ghost use Rattle.journal.specs.Line.{digit_byte, digits, decimal_width, decimal, real, reason_letter, rest_of_line, outcome_fields, recordable, writable, LineFits};
+ghost use Rattle.journal.specs.Numbered.{numbered_reply, numbered_into};
 ghost use Rattle.journal.specs.Steps.{comma_fields, Stored};
 ghost use Rattle.journal.specs.Writing.{write_reply, write_into};
 
-use crate::{Line, Recorded};
+use crate::{Line, NumberedLine, Recorded};
 use common::Refusal;
 use score::outcome::SkipReason;
 
@@ -159,4 +160,13 @@ pub fn write_line(line: Line, out: &mut [u8]) -> Result<usize, Refusal>
     let numbers: [f64; 6] = line.seed.into();
     put_reals(out, at, &numbers);
     Ok(put_outcome(out, at + 102, line.outcome))
+}
+
+// Writes such a line too, or refuses it and writes nothing: also where its reason's number is none.
+pub fn write_numbered(line: NumberedLine, out: &mut [u8]) -> Result<usize, Refusal>
+    ensures reply { result ≡ numbered_reply line out.old }
+    ensures written { out.new ≡ numbered_into line out.old }
+{
+    let line = Line::try_from(line)?;
+    write_line(line, out)
 }

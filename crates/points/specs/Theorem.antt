@@ -1,11 +1,12 @@
 -- The theorems of points, as types. The comment on each part names the file that proves it. Definitions only.
-use Rattle.std.specs.Prelude.{◌≡◌, false, List, Float, true, [], ◌∷◌, ◌++◌, ℕ, ◌*◌, ◌≤◌, length, take, drop, Ok, Err}
+use Rattle.std.specs.Prelude.{◌≡◌, false, cond, List, Float, true, [], ◌∷◌, ◌++◌, ℕ, ◌*◌, ◌≤◌, length, take, drop, Result, Ok, Err, ⊤}
 use Rattle.std.specs.Float.Ieee.{lt, binary64, of_bits, le}
 use Rattle.float.specs.Literals.{plus_zero}
 use Rattle.camera.specs.declared.math.Pt2.{Pt2}
 use Rattle.points.specs.Linalg.{mean_distance, epsilon, centroid_of, degenerate, similarity_of, move_points, normalize_refusal, normalize_into}
 use Rattle.common.specs.declared.Refusal.{Refusal}
 use Rattle.common.specs.Checks.{◌when◌, first_refusal}
+use Rattle.common.specs.Number.{number_of}
 use Rattle.points.specs.Line.{collinear_of}
 use Rattle.points.specs.Rows.{design_conditions, rows_refusal, design_rows, rows_into}
 
@@ -30,6 +31,15 @@ pub record FrontsRight : Type 0 where
       → Front (9 * length src) (design_rows (similarity_of src) (similarity_of dst) src dst) a (rows_into src dst a)
   pub rows_refused : (src dst a : List Float) (r : Refusal) → rows_refusal src dst (length a) ≡ Err r → rows_into src dst a ≡ a
 
+-- the number that a caller is told: the refusal's, or n where nothing is refused
+abbrev pub number_or : ℕ → Result ⊤ Refusal → ℕ
+number_or n (Ok none) = n
+number_or n (Err r) = number_of r
+
+-- what the published Rust's two checks after its line tests reply, if n is their number
+abbrev pub degenerate_number : ℕ → List Float → List Float → ℕ
+degenerate_number n src dst = cond (degenerate src) n (cond (degenerate dst) n 0)
+
 -- points that aren't collinear can be normalised
 pub record RowsNormalised : Type 0 where
   -- the mean distance of 3 to 400 points that aren't collinear, from any point, isn't at most 2^-52
@@ -39,6 +49,9 @@ pub record RowsNormalised : Type 0 where
   -- so the published Rust's two checks after its line tests refuse nothing, whatever refusal they reply
   pub checks_refuse_nothing : (r : Refusal) (src dst : List Float) (room : ℕ)
       → first_refusal (design_conditions src dst room ++ (r when degenerate src) ∷ (r when degenerate dst) ∷ []) ≡ rows_refusal src dst room
+  -- nor under a number that no refusal has, such as their own, 26
+  pub checks_give_no_number : (n : ℕ) (src dst : List Float) (room : ℕ)
+      → number_or (degenerate_number n src dst) (rows_refusal src dst room) ≡ number_or 0 (rows_refusal src dst room)
   -- two points in one place aren't collinear, and can't be normalised; these three points aren't collinear, and have a
   -- mean distance of at most 2^-9
   pub two_points : let s = plus_zero ∷ plus_zero ∷ plus_zero ∷ plus_zero ∷ [] in (collinear_of s ≡ false) × (degenerate s ≡ true)
