@@ -1,6 +1,9 @@
 -- A line whose reason is a number: the line that it is, if it is one, what the writer replies to it, and what it leaves of
 -- the lent buffer. Definitions only.
-use Rattle.std.specs.Prelude.{ℕ, List, Result, Ok, Err}
+use Rattle.std.specs.Prelude.{ℕ, List, [], Float, Result, Ok, Err}
+use Rattle.common.specs.Each.{All}
+use Rattle.seeds.specs.Layout.{six}
+use Rattle.journal.specs.Line.{eight, Fits}
 use Rattle.common.specs.declared.Refusal.{Refusal}
 use Rattle.score.specs.Reasons.{reason_numbered}
 use Rattle.journal.specs.declared.Line.{Line}
@@ -26,3 +29,12 @@ numbered_reply l out = elim (line_numbered l) [ Ok line ↦ write_reply line out
 -- where the line is refused, the buffer as it was
 abbrev pub numbered_into : NumberedLine → List ℕ → List ℕ
 numbered_into l out = elim (line_numbered l) [ Ok line ↦ write_into line out | Err e ↦ out ]
+
+-- such a line's numbers are values of the format, also where its reason's number is none
+abbrev pub numbered_reals : Result ScoredFields ℕ → List Float
+numbered_reals (Ok f) = eight f
+numbered_reals (Err n) = []
+
+pub record NumberedFits (l : NumberedLine) : Type 0 where
+  pub seed_fits : All Fits (six l.seed)
+  pub outcome_fits : All Fits (numbered_reals l.outcome)

@@ -4,7 +4,7 @@
 // is in the buffer.
 ghost use Rattle.std.specs.Prelude.{◌≡◌, [], ◌∷◌, ◌++◌, map, ◌+◌, ◌*◌, ◌<◌, ◌≤◌, length, replicate};
 ghost use Rattle.journal.specs.Line.{digit_byte, digits, decimal_width, decimal, real, reason_letter, rest_of_line, outcome_fields, recordable, writable, LineFits};
-ghost use Rattle.journal.specs.Numbered.{numbered_reply, numbered_into};
+ghost use Rattle.journal.specs.Numbered.{numbered_reply, numbered_into, NumberedFits};
 ghost use Rattle.journal.specs.Steps.{comma_fields, Stored};
 ghost use Rattle.journal.specs.Writing.{write_reply, write_into};
 
@@ -166,6 +166,7 @@ pub fn write_line(line: Line, out: &mut [u8]) -> Result<usize, Refusal>
 pub fn write_numbered(line: NumberedLine, out: &mut [u8]) -> Result<usize, Refusal>
     ensures reply { result ≡ numbered_reply line out.old }
     ensures written { out.new ≡ numbered_into line out.old }
+    ensures fits { NumberedFits line }
 {
     let line = Line::try_from(line)?;
     write_line(line, out)
